@@ -1,0 +1,9 @@
+pub mod Relog
+pub mod Counting
+pub mod Mapped
+pub mod WriteCounts
+pub mod WriteValid
+pub mod OpenDirect
+pub mod WriteBytes
+pub mod WriteEvent
+pub mod Recount

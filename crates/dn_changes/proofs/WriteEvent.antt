@@ -1,0 +1,66 @@
+-- The last step of a Write: each image that a stop may leave stands for the disk of before or of after.
+use Rattle.std.proofs.Common.{◌≡◌, ◌≢◌, ◌⊎◌, inl, inr, ⊎_elim, ℕ, ◌+◌, ◌*◌, ◌<◌, ◌≤◌, List, length, refl, sym, ◌∙◌, ap, subst, arith}
+use Rattle.std.specs.Prelude.{slice_index, Option, Some, None, IsSome, IsNone}
+use Rattle.pm_device.specs.Past.{Past, Left, LeftOf, moment}
+use Rattle.pm_device.specs.State.{State, Agree}
+use Rattle.pm_device.specs.Settled.{Extends, LeavesOnly}
+use Rattle.pm_device.specs.Reading.{Reads, Stands, IsReady, DiffersAt}
+use Rattle.pm_device.specs.Commit.{IsCommitted}
+use Rattle.pm_device.specs.Runs.{length-read_after}
+use Rattle.pm_device.proofs.OneWord.{reads_old_or_new}
+use Rattle.pm_layout.specs.Geometry.{InData, inode_word, gate_word}
+use Rattle.dn_model.specs.Log.{count, tail_at, IsPaged}
+use Rattle.dn_model.specs.Table.{Row, row_of}
+use Rattle.dn_model.specs.Disk.{Disk, DiskSays, of_head, at_gate, IsMapped, IsUsed, rows}
+use Rattle.dn_changes.specs.Events.{Fresh, IsReadPage}
+use Rattle.dn_model.specs.Valid.{IsValid}
+use Rattle.dn_model.specs.Image.{StandsFor}
+use Rattle.dn_model.proofs.L1.{rolled_closed, gate_closed}
+use Rattle.dn_changes.proofs.Relog.{relogged_differs, same_rows}
+use Rattle.dn_changes.proofs.WriteCounts.{Writes}
+use Rattle.dn_changes.proofs.WriteValid.{WritesWell, IsUnused, written_valid, mapped_cases, not_mapped}
+
+-- an image has as many words as the device
+pub length-left : (p : Option Past) (now : List ℕ) (m : ℕ) (c : List ℕ) → Agree now p → Left p m c → length c ≡ length now
+length-left None now m c agree left = absurd left
+length-left (Some p) now m c agree left = left.size ∙ sym (ap length agree ∙ length-read_after p.first p.calls)
+
+-- an image that reads as a disk that makes sense stands for it
+pub stands_for_read : (d : Disk) (c : List ℕ) → IsValid d → Reads (DiskSays d) c → length c ≡ 512 * d.geometry.pages → StandsFor c d
+stands_for_read d c valid reads size =
+    let shut : slice_index c gate_word ≡ 0 = reads gate_word 0 (of_head (at_gate refl refl)) in
+    record {
+      size = size;
+      gate = gate_closed c d.geometry.inodes shut;
+      reads = λ a v told. ap (λ xs. slice_index xs a) (rolled_closed c shut) ∙ reads a v told;
+      valid = valid;
+    }
+
+module _ (ino : ℕ) (old new : Disk) (w : Writes ino old new) (ok : WritesWell ino old new w) (in_data : (page : ℕ) → IsReadPage new page → InData old.geometry page)
+    (who : ℕ) (s t : State) (agree : Agree t.now t.past) (size : length t.now ≡ 512 * old.geometry.pages)
+    (stands : Stands (DiskSays old) s) (ready : IsReady who (Fresh ino old new) s)
+    (leaves : LeavesOnly s t (IsCommitted who (inode_word ino 2) (tail_at (new.inode ino).log.pages (count (new.inode ino).log)) s)) where
+  decide : (page : ℕ) → IsMapped new page → IsReadPage old page ⊎ (IsReadPage old page → ⊥)
+  decide page mapped = ⊎_elim
+      (λ (own : (i : ℕ) × (i < w.n) × (page ≡ w.block + i)).
+      let unused : IsUnused old page = subst (IsUnused old) (sym own.2) (ok.blocks own.0 own.1) in
+      inr (λ read. ⊎_elim (not_mapped ino old new w ok page unused) (λ (row : IsSome (row_of (rows old) page)). no_row (row_of (rows old) page) row unused.no_row) read))
+      (λ (was : IsMapped old page). inl (inl was)) (mapped_cases ino old new w ok page mapped)
+    where
+      no_row : (r : Option Row) → IsSome r → IsNone r → ⊥
+      no_row None some none = cc
+      no_row (Some x) some none = cc
+
+  differs : DiffersAt (DiskSays old) (DiskSays new) (Fresh ino old new) (inode_word ino 2) (tail_at (new.inode ino).log.pages (count (new.inode ino).log))
+  differs = relogged_differs ino old new w.relogs w.grown w.in_table
+      (λ i lt u. (ok.valid.logs i lt u).paged) ok.paged' (subst IsUsed (sym w.live) tt) in_data decide
+
+  pub written_images : LeavesOnly s t (λ c. StandsFor c old ⊎ StandsFor c new)
+  written_images = record {
+    extends = leaves.extends;
+    each = λ m c late left.
+        let long : length c ≡ 512 * old.geometry.pages = length-left t.past t.now m c agree left ∙ size in
+        ⊎_elim (λ before. inl (stands_for_read old c ok.valid before long))
+        (λ after. inr (stands_for_read new c (written_valid ino old new w ok) after (long ∙ ap (λ g. 512 * g.pages) (sym w.relogs.geometry))))
+        (reads_old_or_new (DiskSays old) (DiskSays new) (Fresh ino old new) who _ _ s c differs stands ready (leaves.each m c late left));
+  }

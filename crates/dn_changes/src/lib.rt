@@ -1,0 +1,2 @@
+//! Laws of single changes of an image.
+#![tactic(auto)]

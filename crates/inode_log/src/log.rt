@@ -1,0 +1,34 @@
+// The tail of a log moves.
+ghost use Rattle.std.specs.Prelude.{◌≡◌, ◌+◌, ◌*◌, ◌<◌, ◌≤◌, length, OnOk, IsErr};
+ghost use Rattle.pm_device.specs.Settled.{IsSettled, StoresOnly, LeavesOnly};
+ghost use Rattle.pm_device.specs.Commit.{IsCommitted, IsDone};
+ghost use Rattle.pm_device.specs.State.{Rose};
+ghost use Rattle.pm_layout.specs.Geometry.{IsAccepted, inode_word};
+ghost use Rattle.inode_log.specs.Commits.{OldOrNewLog, NewLogStands};
+
+use pm_device::commit::commit;
+use pm_device::{Failed, Pm};
+use pm_layout::Geometry;
+
+/// Moves the tail to where the prepared items end.
+pub fn commit_log<D: Pm>(
+    device: &mut D,
+    g: &Geometry,
+    who: u32,
+    ino: u64,
+    tail: u64,
+) -> Result<(), Failed>
+    requires accepted { IsAccepted g.now }
+    requires size { length (D.state device.old).now ≡ 512 * g.now.pages }
+    requires ino { ino < g.now.inodes }
+    requires room { 4 ≤ (D.state device.old).spare }
+    requires settled { IsSettled (D.state device.old) (inode_word ino 2) }
+    ensures committed { LeavesOnly (D.state device.old) (D.state device.new) (IsCommitted who (inode_word ino 2) tail (D.state device.old)) }
+    ensures done { OnOk result (IsDone who (inode_word ino 2) tail (D.state device.old) (D.state device.new)) }
+    ensures any_moment { OldOrNewLog g.now who ino tail (D.state device.old) (D.state device.new) }
+    ensures stands { OnOk result (NewLogStands g.now who ino tail (D.state device.old) (D.state device.new)) }
+    ensures only { StoresOnly (λ a. a ≡ inode_word ino 2) (D.state device.old) (D.state device.new) }
+    ensures failed { IsErr result → Rose (D.state device.old).faults (D.state device.new).faults }
+{
+    commit(device, who, g.inode_word(ino, 2), tail)
+}
