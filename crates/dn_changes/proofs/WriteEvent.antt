@@ -12,13 +12,13 @@ use Rattle.pm_layout.specs.Geometry.{InData, inode_word, gate_word}
 use Rattle.dn_model.specs.Log.{count, tail_at, IsPaged}
 use Rattle.dn_model.specs.Table.{Row, row_of}
 use Rattle.dn_model.specs.Disk.{Disk, DiskSays, of_head, at_gate, IsMapped, IsUsed, rows}
-use Rattle.dn_changes.specs.Events.{Fresh, IsReadPage}
+use Rattle.dn_changes.specs.Events.{Fresh, IsReadPage, IsUnused}
 use Rattle.dn_model.specs.Valid.{IsValid}
 use Rattle.dn_model.specs.Image.{StandsFor}
 use Rattle.dn_model.proofs.L1.{rolled_closed, gate_closed}
 use Rattle.dn_changes.proofs.Relog.{relogged_differs, same_rows}
 use Rattle.dn_changes.proofs.WriteCounts.{Writes}
-use Rattle.dn_changes.proofs.WriteValid.{WritesWell, IsUnused, written_valid, mapped_cases, not_mapped}
+use Rattle.dn_changes.proofs.WriteValid.{WritesWell, written_valid, mapped_cases, not_mapped}
 
 -- an image has as many words as the device
 pub length-left : (p : Option Past) (now : List ℕ) (m : ℕ) (c : List ℕ) → Agree now p → Left p m c → length c ≡ length now

@@ -17,14 +17,10 @@ use Rattle.dn_model.specs.Valid.{MayStand, IsCut, IsLog, HasOneName, IsLinked, I
 use Rattle.log_entry.specs.declared.item.Flag.{Flag}
 use Rattle.log_entry.specs.declared.item.LogItem.{LogItem}
 use Rattle.log_entry.specs.declared.item.LogItem.TheVariants.{Write, Size, Add, Forget}
+use Rattle.dn_changes.specs.Events.{IsUnused}
 use Rattle.dn_changes.proofs.Counting.{term-le}
 use Rattle.dn_changes.proofs.Relog.{same_use_of, same_rows}
 use Rattle.dn_changes.proofs.WriteCounts.{Writes, last_item, maps-written, maps_others, mappings-written_own, mappings-written_other}
-
--- a page without a row, in no log and mapped nowhere
-pub record IsUnused (d : Disk) (page : ℕ) : Type 0 where
-  pub free : IsFree d page
-  pub no_row : IsNone (row_of (rows d) page)
 
 -- the event takes unused pages
 pub record WritesWell (ino : ℕ) (old new : Disk) (w : Writes ino old new) : Type 0 where
