@@ -2,6 +2,7 @@
 #![tactic(auto)]
 
 pub mod log;
+pub mod prepare;
 pub mod walk;
 
 pub use log::commit_log;
