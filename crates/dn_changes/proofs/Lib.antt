@@ -1,6 +1,7 @@
 pub mod Relog
 pub mod Counting
 pub mod Mapped
+pub mod MappedPlaces
 pub mod WriteCounts
 pub mod WriteValid
 pub mod OpenDirect

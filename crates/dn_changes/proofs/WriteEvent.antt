@@ -17,8 +17,8 @@ use Rattle.dn_model.specs.Valid.{IsValid}
 use Rattle.dn_model.specs.Image.{StandsFor}
 use Rattle.dn_model.proofs.L1.{rolled_closed, gate_closed}
 use Rattle.dn_changes.proofs.Relog.{relogged_differs, same_rows}
-use Rattle.dn_changes.proofs.WriteCounts.{Writes}
-use Rattle.dn_changes.proofs.WriteValid.{WritesWell, written_valid, mapped_cases, not_mapped}
+use Rattle.dn_changes.specs.Writing.{Writes, WritesWell}
+use Rattle.dn_changes.proofs.WriteValid.{written_valid, mapped_cases, not_mapped}
 
 -- an image has as many words as the device
 pub length-left : (p : Option Past) (now : List ℕ) (m : ℕ) (c : List ℕ) → Agree now p → Left p m c → length c ≡ length now
@@ -42,7 +42,7 @@ module _ (ino : ℕ) (old new : Disk) (w : Writes ino old new) (ok : WritesWell 
     (leaves : LeavesOnly s t (IsCommitted who (inode_word ino 2) (tail_at (new.inode ino).log.pages (count (new.inode ino).log)) s)) where
   decide : (page : ℕ) → IsMapped new page → IsReadPage old page ⊎ (IsReadPage old page → ⊥)
   decide page mapped = ⊎_elim
-      (λ (own : (i : ℕ) × (i < w.n) × (page ≡ w.block + i)).
+      (λ (own : (i : ℕ) × (i < w.n) × (page ≡ w.blocks i)).
       let unused : IsUnused old page = subst (IsUnused old) (sym own.2) (ok.blocks own.0 own.1) in
       inr (λ read. ⊎_elim (not_mapped ino old new w ok page unused) (λ (row : IsSome (row_of (rows old) page)). no_row (row_of (rows old) page) row unused.no_row) read))
       (λ (was : IsMapped old page). inl (inl was)) (mapped_cases ino old new w ok page mapped)
