@@ -2,6 +2,7 @@ pub mod Relog
 pub mod Counting
 pub mod Mapped
 pub mod MappedPlaces
+pub mod ReadInData
 pub mod WriteCounts
 pub mod WriteValid
 pub mod OpenDirect

@@ -35,18 +35,22 @@ block_or_not blocks page (suc n) = elim (cases_eq page (blocks n)) [
       (block_or_not blocks page n)
 ]
 
-module _ (ino : ℕ) (old new : Disk) (w : Writes ino old new) (ok : WritesWell ino old new w) where
-  use_same : (i : ℕ) → (new.inode i).use_of ≡ (old.inode i).use_of
-  use_same = same_use_of ino old new w.relogs w.grown w.in_table
+-- an unused page isn't mapped
+pub not_mapped : (d : Disk) (page : ℕ) → IsUnused d page → IsMapped d page → ⊥
+not_mapped d page unused m = omega (arith, mapped_counts d page m, unused.free.unmapped)
 
-  rows_same : rows new ≡ rows old
-  rows_same = same_rows ino old new w.relogs w.grown w.in_table
+module _ (ino : ℕ) (old new : Disk) (w : Writes ino old new) where
+  use_kept : (i : ℕ) → (new.inode i).use_of ≡ (old.inode i).use_of
+  use_kept = same_use_of ino old new w.relogs w.grown w.in_table
 
-  below : (i : ℕ) → i < new.geometry.inodes → i < old.geometry.inodes
-  below i lt = omega (arith, lt, ap (λ (g : Geometry). g.inodes) w.relogs.geometry)
+  rows_kept : rows new ≡ rows old
+  rows_kept = same_rows ino old new w.relogs w.grown w.in_table
 
-  used : IsUsed (old.inode ino).use_of
-  used = subst IsUsed (sym w.live) tt
+  below_old : (i : ℕ) → i < new.geometry.inodes → i < old.geometry.inodes
+  below_old i lt = omega (arith, lt, ap (λ (g : Geometry). g.inodes) w.relogs.geometry)
+
+  was_used : IsUsed (old.inode ino).use_of
+  was_used = subst IsUsed (sym w.live) tt
 
   -- a mapping of this file is new, or was one before
   own_cases : (idx : ℕ) (x : Mapping) → maps new ino idx ≡ Some x → ((i : ℕ) × (i < w.n) × (x.block ≡ w.blocks i)) ⊎ (maps old ino idx ≡ Some x)
@@ -69,7 +73,7 @@ module _ (ino : ℕ) (old new : Disk) (w : Writes ino old new) (ok : WritesWell 
             ⊎_elim (λ own. inl (own.0, own.1, sym to.block ∙ own.2))
             (λ was. inr (record { ino = ino; idx = m.idx; maps_to = record { in_table = w.in_table; in_file = to.in_file; by = to.by; is = was; block = to.block } }))
             (own_cases m.idx to.by (ap (λ (i : ℕ). maps new i m.idx) (sym e) ∙ to.is))
-        | inr ne ↦ inr (record { ino = m.ino; idx = m.idx; maps_to = record { in_table = below m.ino to.in_table; in_file = to.in_file; by = to.by; is = sym (maps_others ino old new w m.ino m.idx ne) ∙ to.is; block = to.block } })
+        | inr ne ↦ inr (record { ino = m.ino; idx = m.idx; maps_to = record { in_table = below_old m.ino to.in_table; in_file = to.in_file; by = to.by; is = sym (maps_others ino old new w m.ino m.idx ne) ∙ to.is; block = to.block } })
       ]
 
   -- a log page was one before, or is fresh
@@ -78,26 +82,36 @@ module _ (ino : ℕ) (old new : Disk) (w : Writes ino old new) (ok : WritesWell 
     | inl e ↦
         let there : Contains ((old.inode ino).log.pages ++ w.grown.fresh) page =
         subst (λ (ps : List ℕ). Contains ps page) w.grown.pages (subst (λ (i : ℕ). Contains (new.inode i).log.pages page) e p.listed) in
-        ⊎_elim (λ was. inl (record { ino = ino; in_table = w.in_table; used = used; listed = was })) (λ fresh. inr fresh) (Contains-append_cases (old.inode ino).log.pages w.grown.fresh page there)
-    | inr ne ↦ inl (record { ino = p.ino; in_table = below p.ino p.in_table; used = subst IsUsed (use_same p.ino) p.used; listed = subst (λ (n : Inode). Contains n.log.pages page) (w.relogs.others p.ino ne) p.listed })
+        ⊎_elim (λ was. inl (record { ino = ino; in_table = w.in_table; used = was_used; listed = was })) (λ fresh. inr fresh) (Contains-append_cases (old.inode ino).log.pages w.grown.fresh page there)
+    | inr ne ↦ inl (record { ino = p.ino; in_table = below_old p.ino p.in_table; used = subst IsUsed (use_kept p.ino) p.used; listed = subst (λ (n : Inode). Contains n.log.pages page) (w.relogs.others p.ino ne) p.listed })
   ]
 
-  pub not_mapped : (page : ℕ) → IsUnused old page → IsMapped old page → ⊥
-  not_mapped page unused m = omega (arith, mapped_counts old page m, unused.free.unmapped)
+module _ (ino : ℕ) (old new : Disk) (w : Writes ino old new) (ok : WritesWell ino old new w) where
+  use_same : (i : ℕ) → (new.inode i).use_of ≡ (old.inode i).use_of
+  use_same = use_kept ino old new w
+
+  rows_same : rows new ≡ rows old
+  rows_same = rows_kept ino old new w
+
+  below : (i : ℕ) → i < new.geometry.inodes → i < old.geometry.inodes
+  below = below_old ino old new w
+
+  used : IsUsed (old.inode ino).use_of
+  used = was_used ino old new w
 
   log_unmapped : (page : ℕ) → IsLogPage new page → IsMapped new page → ⊥
   log_unmapped page p m = ⊎_elim
       (λ (was : IsLogPage old page). ⊎_elim
       (λ (own : (i : ℕ) × (i < w.n) × (page ≡ w.blocks i)). (ok.blocks own.0 own.1).free.in_no_log (subst (IsLogPage old) own.2 was))
-      (λ (mapped : IsMapped old page). ok.valid.single.log_unmapped page was mapped) (mapped_cases page m))
+      (λ (mapped : IsMapped old page). ok.valid.single.log_unmapped page was mapped) (mapped_cases ino old new w page m))
       (λ (fresh : Contains w.grown.fresh page). ⊎_elim
       (λ (own : (i : ℕ) × (i < w.n) × (page ≡ w.blocks i)). ok.apart own.0 own.1 (subst (Contains w.grown.fresh) own.2 fresh))
-      (λ (mapped : IsMapped old page). not_mapped page (ok.fresh page fresh) mapped) (mapped_cases page m))
-      (log_page_cases page p)
+      (λ (mapped : IsMapped old page). not_mapped old page (ok.fresh page fresh) mapped) (mapped_cases ino old new w page m))
+      (log_page_cases ino old new w page p)
 
   no_row : (page : ℕ) → IsLogPage new page → IsNone (row_of (rows new) page)
   no_row page p = subst (λ (rs : List Row). IsNone (row_of rs page)) (sym rows_same)
-      (⊎_elim (λ (was : IsLogPage old page). ok.valid.single.log_no_row page was) (λ (fresh : Contains w.grown.fresh page). (ok.fresh page fresh).no_row) (log_page_cases page p))
+      (⊎_elim (λ (was : IsLogPage old page). ok.valid.single.log_no_row page was) (λ (fresh : Contains w.grown.fresh page). (ok.fresh page fresh).no_row) (log_page_cases ino old new w page p))
 
   unshared : (page : ℕ) → IsNone (row_of (rows new) page) → mappings new page ≤ 1
   unshared page none = elim (block_or_not w.blocks page w.n) [
