@@ -3,6 +3,9 @@ pub mod Counting
 pub mod Mapped
 pub mod MappedPlaces
 pub mod ReadInData
+pub mod RunItems
+pub mod WriteRuns
+pub mod WithLog
 pub mod WriteCounts
 pub mod WriteValid
 pub mod OpenDirect

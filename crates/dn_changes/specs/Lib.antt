@@ -1,2 +1,5 @@
 pub mod Events
 pub mod Writing
+pub mod Runs
+pub mod WithLog
+pub mod MayWrite
