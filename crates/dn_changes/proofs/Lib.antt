@@ -8,6 +8,7 @@ pub mod WriteRuns
 pub mod WithLog
 pub mod WriteCounts
 pub mod WriteValid
+pub mod WriteFree
 pub mod OpenDirect
 pub mod WriteBytes
 pub mod WriteEvent

@@ -40,16 +40,16 @@ pub not_mapped : (d : Disk) (page : ℕ) → IsUnused d page → IsMapped d page
 not_mapped d page unused m = omega (arith, mapped_counts d page m, unused.free.unmapped)
 
 module _ (ino : ℕ) (old new : Disk) (w : Writes ino old new) where
-  use_kept : (i : ℕ) → (new.inode i).use_of ≡ (old.inode i).use_of
+  pub use_kept : (i : ℕ) → (new.inode i).use_of ≡ (old.inode i).use_of
   use_kept = same_use_of ino old new w.relogs w.grown w.in_table
 
-  rows_kept : rows new ≡ rows old
+  pub rows_kept : rows new ≡ rows old
   rows_kept = same_rows ino old new w.relogs w.grown w.in_table
 
-  below_old : (i : ℕ) → i < new.geometry.inodes → i < old.geometry.inodes
+  pub below_old : (i : ℕ) → i < new.geometry.inodes → i < old.geometry.inodes
   below_old i lt = omega (arith, lt, ap (λ (g : Geometry). g.inodes) w.relogs.geometry)
 
-  was_used : IsUsed (old.inode ino).use_of
+  pub was_used : IsUsed (old.inode ino).use_of
   was_used = subst IsUsed (sym w.live) tt
 
   -- a mapping of this file is new, or was one before

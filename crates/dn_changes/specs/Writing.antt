@@ -61,3 +61,11 @@ pub record WritesBytes (ino : ℕ) (old new : Disk) (w : Writes ino old new) (at
       → byte_of new (w.blocks k) i ≡ slice_index (bytes old ino) (4096 * (w.first + k) + i)
   -- what is mapped past the old end holds zeros
   pub zeros : (idx k : ℕ) (m : Mapping) → maps old ino idx ≡ Some m → k < 4096 → size_of (old.inode ino).log ≤ 4096 * idx + k → byte_of old m.block k ≡ 0
+
+-- the page was that of a place which the event maps anew
+pub record IsOverwritten (ino : ℕ) (old new : Disk) (w : Writes ino old new) (page : ℕ) : Type 0 where
+  pub i : ℕ
+  pub below : i < w.n
+  pub by : Mapping
+  pub was : maps old ino (w.first + i) ≡ Some by
+  pub block : by.block ≡ page
