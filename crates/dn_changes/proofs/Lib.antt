@@ -9,6 +9,7 @@ pub mod WithLog
 pub mod WriteCounts
 pub mod WriteValid
 pub mod WriteFree
+pub mod WrittenDisk
 pub mod OpenDirect
 pub mod WriteBytes
 pub mod WriteEvent

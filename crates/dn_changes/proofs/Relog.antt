@@ -46,7 +46,7 @@ other_log_not_tail g i ino log a v ne in_table paged (at_footer k lt place value
 other_log_not_tail g i ino log a v ne in_table paged (at_slot k j lt word place value) =
     λ e. inode_not_data g ino 2 (slice_index log.pages (k / 63)) (8 * (k % 63) + j) in_table (omega arith) (log_word_in_data g log k paged lt) (omega (arith, e, place))
 
-rows-same : (f g : ℕ → List Row) (d n : ℕ) → ((p : ℕ) → g p ≡ f p) → rows_from g d n ≡ rows_from f d n
+pub rows-same : (f g : ℕ → List Row) (d n : ℕ) → ((p : ℕ) → g p ≡ f p) → rows_from g d n ≡ rows_from f d n
 rows-same f g d zero same = refl
 rows-same f g d (suc n) same = (λ i. same d i ++ rows-same f g (d + 1) n same i)
 

@@ -43,7 +43,7 @@ module _ (ino : ℕ) (old new : Disk) (relogs : Relogs ino old new) (grown : IsG
   pub size-last : size_of (new.inode ino).log ≡ size
   size-last = size-grown (old.inode ino).log (new.inode ino).log grown ∙ ap (size_after (size_of (old.inode ino).log)) more ∙ some_size (size_of (old.inode ino).log) size runs some
 
-  pub writes_runs : ino < old.geometry.inodes → first + places_in runs ≤ pages_of size → ((i j : ℕ) → i < places_in runs → j < places_in runs → block_at runs i ≡ block_at runs j → i ≡ j) → Writes ino old new
+  abbrev pub writes_runs : ino < old.geometry.inodes → first + places_in runs ≤ pages_of size → ((i j : ℕ) → i < places_in runs → j < places_in runs → block_at runs i ≡ block_at runs j → i ≡ j) → Writes ino old new
   writes_runs in_table inside apart = record {
     relogs = relogs;
     grown = grown;
@@ -63,10 +63,10 @@ module _ (ino : ℕ) (old new : Disk) (relogs : Relogs ino old new) (grown : IsG
 -- one run alone: its places go to consecutive pages
 module _ (ino : ℕ) (old new : Disk) (relogs : Relogs ino old new) (grown : IsGrown (old.inode ino).log (new.inode ino).log) (paged : IsPaged old.geometry (old.inode ino).log) (live : (old.inode ino).use_of ≡ Live)
     (size : ℕ) (run : Run) (more : grown.more ≡ run_items (run ∷ []) size) (some : 1 ≤ run.count) (few : run.count ≤ 17) where
-  chained : IsChained run.first (run ∷ [])
-  chained = (refl, some, few, tt)
+  pub run_chained : IsChained run.first (run ∷ [])
+  run_chained = (refl, some, few, tt)
 
-  pub writes_run : ino < old.geometry.inodes → run.first + run.count ≤ pages_of size → Writes ino old new
+  abbrev pub writes_run : ino < old.geometry.inodes → run.first + run.count ≤ pages_of size → Writes ino old new
   writes_run in_table inside = record {
     relogs = relogs;
     grown = grown;
@@ -79,9 +79,9 @@ module _ (ino : ℕ) (old new : Disk) (relogs : Relogs ino old new) (grown : IsG
     blocks = λ i. run.block + i;
     apart = λ i j il jl e. omega arith;
     own = λ i lt. subst (IsNewMapping (maps new ino (run.first + i))) (block_at-here run [] i lt)
-        (maps-own ino old new relogs grown paged live run.first size (run ∷ []) more (omega arith) chained (omega arith) i (omega arith));
-    other = λ idx out. maps-other ino old new relogs grown paged live run.first size (run ∷ []) more (omega arith) chained idx (outside idx out);
-    last_size = size-last ino old new relogs grown paged live run.first size (run ∷ []) more (omega arith) chained;
+        (maps-own ino old new relogs grown paged live run.first size (run ∷ []) more (omega arith) run_chained (omega arith) i (omega arith));
+    other = λ idx out. maps-other ino old new relogs grown paged live run.first size (run ∷ []) more (omega arith) run_chained idx (outside idx out);
+    last_size = size-last ino old new relogs grown paged live run.first size (run ∷ []) more (omega arith) run_chained;
   }
     where
       outside : (idx : ℕ) → (idx < run.first) ⊎ (run.first + run.count ≤ idx) → (idx < run.first) ⊎ (run.first + (run.count + 0) ≤ idx)
