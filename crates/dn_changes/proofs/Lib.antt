@@ -12,5 +12,6 @@ pub mod WriteFree
 pub mod WrittenDisk
 pub mod OpenDirect
 pub mod WriteBytes
+pub mod WriteFiles
 pub mod WriteEvent
 pub mod Recount

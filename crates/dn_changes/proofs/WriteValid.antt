@@ -158,7 +158,7 @@ module _ (ino : ℕ) (old new : Disk) (w : Writes ino old new) (ok : WritesWell 
   ]
 
   -- no name changes
-  named_same : (name : List ℕ) → named new name ≡ named old name
+  pub named_same : (name : List ℕ) → named new name ≡ named old name
   unfolding named
   named_same name = ap (λ (n : Inode). named_after name None n.log.items) (w.relogs.others 0 (λ e. omega (arith, e, ok.file)))
 
