@@ -3,3 +3,4 @@ pub mod Writing
 pub mod Runs
 pub mod WithLog
 pub mod MayWrite
+pub mod WriteLaws
