@@ -1,10 +1,10 @@
 -- Where the mapped places of a file lie: below its size, and on pages of the data area.
-use Rattle.std.proofs.Common.{◌≡◌, ◌≢◌, ◌⊎◌, inl, inr, ⊎_elim, ℕ, zero, suc, ◌+◌, ◌-◌, ◌*◌, ◌/◌, ◌%◌, ◌^◌, ◌<◌, ◌≤◌, Bool, true, false, List, [], ◌∷◌, ◌++◌, length, refl, sym, ◌∙◌, ap, subst, arith}
-use Rattle.std.specs.Prelude.{slice_get, if◌then◌else◌, nat_le, nat_lt, ◌&&◌, ◌==◌, Option, Some, None, IsSome, All}
+use Rattle.std.proofs.Common.{◌≡◌, ℕ, zero, suc, ◌+◌, ◌-◌, ◌<◌, ◌≤◌, Bool, true, false, List, [], ◌∷◌, length, refl, ap, subst, arith}
+use Rattle.std.specs.Prelude.{if◌then◌else◌, nat_le, nat_lt, ◌&&◌, Option, Some, None, All}
 use Rattle.std.proofs.lemmas.Bool.Decides.{nat_tests}
 use Rattle.std.proofs.lemmas.List.Elements.{All-head, All-tail}
 use Rattle.pm_layout.specs.declared.Geometry.{Geometry}
-use Rattle.pm_layout.specs.Geometry.{InData, directs}
+use Rattle.pm_layout.specs.Geometry.{InData}
 use Rattle.log_entry.specs.Spelling.{IsSpelled, spelling, pages_of}
 use Rattle.log_entry.specs.declared.item.Flag.{Flag}
 use Rattle.log_entry.specs.declared.item.LogItem.{LogItem}
@@ -12,7 +12,7 @@ use Rattle.log_entry.specs.declared.item.LogItem.TheVariants.{Write, Size, Add, 
 use Rattle.dn_model.specs.Log.{Log, slot_name, placed_from}
 use Rattle.dn_model.specs.Maps.{Mapping, mapping, mapped_after, remapped, cut_to, size_of, size_after}
 use Rattle.dn_model.specs.Disk.{Disk, Use, Free, Live, Dying, IsUsed, maps, maps_by_use}
-use Rattle.dn_model.specs.Valid.{MayStand, IsCut, IsLog, IsValid}
+use Rattle.dn_model.specs.Valid.{MayStand, IsLog, IsValid}
 
 -- what isn't cut lies below the size
 pub cut_below : (size idx : ℕ) (m : Option Mapping) (x : Mapping) → cut_to size idx m ≡ Some x → idx < pages_of size

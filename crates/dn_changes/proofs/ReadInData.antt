@@ -1,6 +1,6 @@
 -- On a disk that makes sense each page that is read lies in the data area.
-use Rattle.std.proofs.Common.{◌≡◌, ◌⊎◌, inl, inr, ⊎_elim, ℕ, zero, suc, ◌+◌, ◌<◌, ◌≤◌, ◌^◌, Bool, true, false, List, [], ◌∷◌, ◌++◌, length, get_or, refl, sym, ◌∙◌, ap, subst, arith}
-use Rattle.std.specs.Prelude.{slice_get, if◌then◌else◌, ◌==◌, Option, Some, None, IsSome, IsNone, All}
+use Rattle.std.proofs.Common.{◌≡◌, ⊎_elim, ℕ, zero, suc, ◌+◌, ◌<◌, Bool, true, false, List, [], ◌∷◌, get_or, refl, subst, arith}
+use Rattle.std.specs.Prelude.{slice_get, if◌then◌else◌, ◌==◌, Some, IsSome, All}
 use Rattle.std.proofs.lemmas.Bool.Decides.{nat_tests}
 use Rattle.std.proofs.lemmas.List.Elements.{All-head, All-tail, All-append, All-nil}
 use Rattle.std.proofs.lemmas.Option.{slice_get-get_or}

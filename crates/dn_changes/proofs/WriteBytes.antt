@@ -1,15 +1,14 @@
 -- The bytes of a file that got Write items more.
-use Rattle.std.proofs.Common.{◌≡◌, ◌≢◌, ◌⊎◌, inl, inr, ⊎_elim, ℕ, zero, suc, ◌+◌, ◌-◌, ◌*◌, ◌/◌, ◌%◌, ◌^◌, ◌<◌, ◌≤◌, max, Bool, true, false, List, [], ◌∷◌, ◌++◌, length, map, get_or, refl, sym, ◌∙◌, ap, subst, arith, zero-add}
-use Rattle.std.specs.Prelude.{slice_index, if◌then◌else◌, nat_le, nat_lt, ◌&&◌, ◌==◌, Option, Some, None}
-use Rattle.std.specs.List.{range_with_len}
-use Rattle.std.proofs.lemmas.Bool.{cases_eq, cases_lt}
+use Rattle.std.proofs.Common.{◌≡◌, ◌⊎◌, inl, inr, ⊎_elim, ℕ, ◌+◌, ◌-◌, ◌*◌, ◌/◌, ◌%◌, ◌^◌, ◌<◌, ◌≤◌, max, Bool, true, false, List, length, refl, sym, ◌∙◌, ap, arith, zero-add}
+use Rattle.std.specs.Prelude.{slice_index, if◌then◌else◌, nat_le, nat_lt, ◌&&◌, Option, Some, None}
+use Rattle.std.proofs.lemmas.Bool.{cases_lt}
 use Rattle.std.proofs.lemmas.Bool.Decides.{nat_tests}
 use Rattle.std.proofs.lemmas.List.{get_or_past}
 use Rattle.std.proofs.lemmas.Grind.{same_number_lists}
 use Rattle.std.proofs.lemmas.List.FromFn.{length-map-range_with_len, get_or-map-range_with_len}
 use Rattle.log_entry.specs.Spelling.{pages_of}
-use Rattle.dn_model.specs.Maps.{Mapping, cut_to, size_of}
-use Rattle.dn_model.specs.Disk.{Disk, MapsTo, IsMapped, maps}
+use Rattle.dn_model.specs.Maps.{Mapping, size_of}
+use Rattle.dn_model.specs.Disk.{Disk, MapsTo, maps}
 use Rattle.dn_model.specs.Files.{bytes, byte_of, mapped_byte}
 use Rattle.dn_model.specs.Apply.{written}
 use Rattle.dn_changes.specs.Writing.{Writes, WritesWell, WritesBytes}

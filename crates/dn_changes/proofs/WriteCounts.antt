@@ -1,12 +1,12 @@
 -- Write items more: no page that was mapped gets more mappings, and each new page gets one at most.
-use Rattle.std.proofs.Common.{◌≡◌, ◌≢◌, ◌⊎◌, inl, inr, ⊎_elim, ℕ, zero, suc, ◌+◌, ◌-◌, ◌*◌, ◌<◌, ◌≤◌, Bool, true, false, refl, sym, ◌∙◌, ap, subst, arith}
+use Rattle.std.proofs.Common.{◌≡◌, ◌≢◌, ◌⊎◌, inl, inr, ℕ, ◌+◌, ◌-◌, ◌<◌, ◌≤◌, true, false, sym, ◌∙◌, ap, subst, arith}
 use Rattle.std.specs.Prelude.{if◌then◌else◌, nat_lt, ◌==◌, Option, Some, None}
-use Rattle.std.proofs.lemmas.Bool.{cases_eq, cases_lt}
+use Rattle.std.proofs.lemmas.Bool.{cases_lt}
 use Rattle.std.proofs.lemmas.Bool.Decides.{nat_tests}
 use Rattle.log_entry.specs.Spelling.{pages_of}
 use Rattle.pm_layout.specs.declared.Geometry.{Geometry}
 use Rattle.dn_model.specs.Maps.{Mapping, mapping, cut_to}
-use Rattle.dn_model.specs.Disk.{Disk, Inode, Use, Live, maps, maps_by_use}
+use Rattle.dn_model.specs.Disk.{Disk, Inode, Use, maps, maps_by_use}
 use Rattle.dn_model.specs.Counts.{total, hit, mappings}
 use Rattle.dn_changes.specs.Writing.{Writes, IsNewMapping}
 use Rattle.dn_changes.proofs.Counting.{total-same, total-le, total-change, total-one, term-le}

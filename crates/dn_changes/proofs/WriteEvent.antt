@@ -1,16 +1,16 @@
 -- The last step of a Write: each image that a stop may leave stands for the disk of before or of after.
-use Rattle.std.proofs.Common.{◌≡◌, ◌≢◌, ◌⊎◌, inl, inr, ⊎_elim, ℕ, ◌+◌, ◌*◌, ◌<◌, ◌≤◌, List, length, refl, sym, ◌∙◌, ap, subst, arith}
+use Rattle.std.proofs.Common.{◌≡◌, ◌⊎◌, inl, inr, ⊎_elim, ℕ, ◌*◌, ◌<◌, List, length, refl, sym, ◌∙◌, ap, subst}
 use Rattle.std.specs.Prelude.{slice_index, Option, Some, None, IsSome, IsNone}
-use Rattle.pm_device.specs.Past.{Past, Left, LeftOf, moment}
+use Rattle.pm_device.specs.Past.{Past, Left}
 use Rattle.pm_device.specs.State.{State, Agree}
-use Rattle.pm_device.specs.Settled.{Extends, LeavesOnly}
+use Rattle.pm_device.specs.Settled.{LeavesOnly}
 use Rattle.pm_device.specs.Reading.{Reads, Stands, IsReady, DiffersAt}
 use Rattle.pm_device.specs.Commit.{IsCommitted}
 use Rattle.pm_device.specs.Runs.{length-read_after}
 use Rattle.pm_device.proofs.OneWord.{reads_old_or_new}
 use Rattle.pm_layout.specs.declared.Geometry.{Geometry}
 use Rattle.pm_layout.specs.Geometry.{InData, inode_word, gate_word}
-use Rattle.dn_model.specs.Log.{count, tail_at, IsPaged}
+use Rattle.dn_model.specs.Log.{count, tail_at}
 use Rattle.dn_model.specs.Table.{Row, row_of}
 use Rattle.dn_model.specs.Disk.{Disk, DiskSays, of_head, at_gate, IsMapped, IsUsed, rows}
 use Rattle.dn_changes.specs.Events.{Fresh, IsReadPage, IsUnused}
@@ -18,7 +18,7 @@ use Rattle.dn_model.specs.Valid.{IsValid}
 use Rattle.dn_model.specs.Image.{StandsFor}
 use Rattle.dn_model.proofs.L1.{rolled_closed, gate_closed}
 use Rattle.dn_changes.proofs.ReadInData.{read_in_data}
-use Rattle.dn_changes.proofs.Relog.{relogged_differs, same_rows}
+use Rattle.dn_changes.proofs.Relog.{relogged_differs}
 use Rattle.dn_changes.specs.Writing.{Writes, WritesWell}
 use Rattle.dn_changes.proofs.WriteValid.{written_valid, mapped_cases, not_mapped}
 

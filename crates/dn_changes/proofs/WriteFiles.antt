@@ -1,6 +1,6 @@
 -- The files after Write items came: the one whose log got them, and no other, is another.
-use Rattle.std.proofs.Common.{◌≡◌, ◌≢◌, ◌⊎◌, inl, inr, ⊎_elim, ℕ, zero, suc, ◌+◌, ◌*◌, ◌/◌, ◌%◌, ◌^◌, ◌<◌, ◌≤◌, Bool, true, false, List, [], ◌∷◌, length, refl, sym, ◌∙◌, ap, subst, arith}
-use Rattle.std.specs.Prelude.{if◌then◌else◌, ◌&&◌, ◌==◌, slice_index, Option, Some, None, All}
+use Rattle.std.proofs.Common.{◌≡◌, ◌≢◌, inl, inr, ℕ, zero, ◌/◌, ◌%◌, ◌^◌, ◌<◌, ◌≤◌, Bool, true, false, List, [], ◌∷◌, refl, sym, ◌∙◌, ap, subst, arith}
+use Rattle.std.specs.Prelude.{if◌then◌else◌, ◌==◌, slice_index, Option, Some, None, All}
 use Rattle.std.specs.Option.{option_map}
 use Rattle.std.proofs.lemmas.Bool.{cases_eq, and_parts, and_from}
 use Rattle.std.proofs.lemmas.Bool.Decides.{nat_tests}
@@ -11,15 +11,15 @@ use Rattle.log_entry.specs.Name.{same_name}
 use Rattle.log_entry.specs.declared.item.LogItem.{LogItem}
 use Rattle.log_entry.specs.declared.item.LogItem.TheVariants.{Write, Size, Add, Forget}
 use Rattle.dn_model.specs.Maps.{Mapping, size_of}
-use Rattle.dn_model.specs.Disk.{Disk, Inode, Use, Live, MapsTo, IsUsed, maps}
-use Rattle.dn_model.specs.Files.{bytes, byte_of, mapped_byte, named, named_after, files, IsSameFiles}
-use Rattle.dn_model.specs.Apply.{written, bytes_or_none, with_file, after_op}
+use Rattle.dn_model.specs.Disk.{Disk, Inode, Live, MapsTo, IsUsed, maps}
+use Rattle.dn_model.specs.Files.{bytes, mapped_byte, named, named_after, files, IsSameFiles}
+use Rattle.dn_model.specs.Apply.{written, bytes_or_none, after_op}
 use Rattle.dn_model.specs.Valid.{MayStand, HasOneName, IsLinked, IsValid}
 use Rattle.dn_model.specs.declared.op.Op.TheVariants.{Write as WriteOp}
 use Rattle.dn_changes.specs.Writing.{Writes, WritesWell, WritesBytes}
 use Rattle.dn_changes.proofs.MappedPlaces.{maps-in_file}
 use Rattle.dn_changes.proofs.WriteCounts.{maps_others}
-use Rattle.dn_changes.proofs.WriteValid.{named_same, was_used}
+use Rattle.dn_changes.proofs.WriteValid.{named_same}
 use Rattle.dn_changes.proofs.WriteBytes.{length-bytes, byte_at, bytes-written}
 
 same_names : (xs ys : List ℕ) → same_name xs ys ≡ true → xs ≡ ys

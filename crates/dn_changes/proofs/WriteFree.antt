@@ -1,22 +1,22 @@
 -- Which pages are free after Write items came.
-use Rattle.std.proofs.Common.{◌≡◌, ◌≢◌, ◌⊎◌, inl, inr, ⊎_elim, ℕ, zero, suc, ◌+◌, ◌-◌, ◌*◌, ◌/◌, ◌<◌, ◌≤◌, List, ◌++◌, length, refl, sym, ◌∙◌, ap, subst, arith}
+use Rattle.std.proofs.Common.{◌≡◌, ◌≢◌, ◌⊎◌, inl, inr, ⊎_elim, ℕ, ◌+◌, ◌<◌, ◌≤◌, List, refl, sym, ◌∙◌, ap, subst, arith}
 use Rattle.std.specs.Prelude.{Option, Some, None, IsNone, Contains}
 use Rattle.std.proofs.lemmas.Bool.{cases_eq}
 use Rattle.std.proofs.lemmas.List.Elements.{Contains-append_left, Contains-append_right}
 use Rattle.pm_layout.specs.declared.Geometry.{Geometry}
 use Rattle.pm_layout.specs.Geometry.{InData}
 use Rattle.log_entry.specs.Spelling.{pages_of}
-use Rattle.dn_model.specs.Maps.{Mapping, mapping, cut_to, size_of}
-use Rattle.dn_model.specs.Table.{Row, row_of}
+use Rattle.dn_model.specs.Maps.{Mapping, size_of}
+use Rattle.dn_model.specs.Table.{row_of}
 use Rattle.dn_model.specs.Disk.{Disk, Inode, IsUsed, IsMapped, MapsTo, maps, rows}
-use Rattle.dn_model.specs.Counts.{total, hit, mappings, IsLogPage, IsFree}
+use Rattle.dn_model.specs.Counts.{hit, mappings, IsLogPage, IsFree}
 use Rattle.dn_model.specs.Valid.{IsValid}
 use Rattle.dn_changes.specs.Events.{IsUnused}
 use Rattle.dn_changes.specs.Writing.{Writes, WritesWell, IsOverwritten}
 use Rattle.dn_changes.proofs.Counting.{total-lt, total-some, terms-le}
 use Rattle.dn_changes.proofs.MappedPlaces.{mapping-below, uncut, maps-in_data, maps-in_file}
-use Rattle.dn_changes.proofs.WriteCounts.{hit_here, hit_other, hit-le-one, places, place-le, places-le, own_or_other, maps_old, mappings-written, mappings-written_other, hit-written}
-use Rattle.dn_changes.proofs.WriteValid.{use_kept, below_old, was_used, log_page_cases, not_mapped, written_valid}
+use Rattle.dn_changes.proofs.WriteCounts.{hit_here, hit_other, places, place-le, places-le, own_or_other, maps_old, mappings-written, mappings-written_other, hit-written}
+use Rattle.dn_changes.proofs.WriteValid.{use_kept, was_used, log_page_cases, not_mapped, written_valid}
 
 -- a mapping that hits the page is there, with this block
 hit_some : (page : ℕ) (m : Option Mapping) → 1 ≤ hit page m → (x : Mapping) × (m ≡ Some x) × (x.block ≡ page)

@@ -1,9 +1,9 @@
 -- A log that grows by the items of runs: the event that it is.
-use Rattle.std.proofs.Common.{◌≡◌, ◌≢◌, ◌⊎◌, inl, inr, ⊎_elim, ℕ, zero, suc, ◌+◌, ◌-◌, ◌*◌, ◌/◌, ◌<◌, ◌≤◌, List, [], ◌∷◌, ◌++◌, length, refl, sym, ◌∙◌, ap, subst, arith}
-use Rattle.std.specs.Prelude.{Option, Some, None}
+use Rattle.std.proofs.Common.{◌≡◌, ◌⊎◌, inl, inr, ℕ, ◌+◌, ◌<◌, ◌≤◌, List, [], ◌∷◌, length, refl, sym, ◌∙◌, ap, subst, arith}
+use Rattle.std.specs.Prelude.{Option}
 use Rattle.log_entry.specs.Spelling.{pages_of}
 use Rattle.log_entry.specs.declared.item.LogItem.{LogItem}
-use Rattle.dn_model.specs.Log.{Log, IsPaged, count, placed_from}
+use Rattle.dn_model.specs.Log.{IsPaged, count, placed_from}
 use Rattle.dn_model.specs.Maps.{Mapping, mapping, mapped_after, cut_to, size_of, size_after}
 use Rattle.dn_model.specs.Disk.{Disk, Use, Live, maps, maps_by_use}
 use Rattle.dn_model.specs.Growth.{IsGrown}

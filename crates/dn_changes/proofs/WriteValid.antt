@@ -1,17 +1,17 @@
 -- A disk whose file got Write items more makes sense, if it did before.
-use Rattle.std.proofs.Common.{◌≡◌, ◌≢◌, ◌⊎◌, inl, inr, ⊎_elim, ℕ, zero, suc, ◌+◌, ◌-◌, ◌*◌, ◌<◌, ◌≤◌, Bool, true, false, List, [], ◌∷◌, ◌++◌, length, refl, sym, ◌∙◌, ap, subst, arith}
-use Rattle.std.specs.Prelude.{slice_get, if◌then◌else◌, nat_lt, Option, Some, None, IsNone, All, Contains}
+use Rattle.std.proofs.Common.{◌≡◌, ◌≢◌, ◌⊎◌, inl, inr, ⊎_elim, ℕ, zero, suc, ◌+◌, ◌<◌, ◌≤◌, List, ◌++◌, sym, ◌∙◌, ap, subst, arith}
+use Rattle.std.specs.Prelude.{slice_get, Some, None, IsNone, All, Contains}
 use Rattle.std.proofs.lemmas.Bool.{cases_eq}
 use Rattle.std.proofs.lemmas.List.Elements.{All-append, Contains-append_cases}
 use Rattle.pm_layout.specs.declared.Geometry.{Geometry}
-use Rattle.pm_layout.specs.Geometry.{InData, IsAccepted, directs, slots}
-use Rattle.log_entry.specs.Spelling.{IsSpelled, pages_of}
-use Rattle.dn_model.specs.Maps.{Mapping, cut_to}
+use Rattle.pm_layout.specs.Geometry.{IsAccepted, directs, slots}
+use Rattle.log_entry.specs.Spelling.{IsSpelled}
+use Rattle.dn_model.specs.Maps.{Mapping}
 use Rattle.dn_model.specs.Table.{Row, row_of}
 use Rattle.dn_model.specs.Disk.{Disk, Inode, Use, Free, Live, Dying, IsUsed, IsMapped, maps, rows}
-use Rattle.dn_model.specs.Counts.{hit, mappings, IsLogPage, IsFree, Near, IsNear}
+use Rattle.dn_model.specs.Counts.{hit, mappings, IsLogPage}
 use Rattle.dn_model.specs.Files.{named, named_after}
-use Rattle.dn_model.specs.Valid.{MayStand, IsCut, IsLog, HasOneName, IsLinked, IsRow, AreApart, IsSingle, IsValid}
+use Rattle.dn_model.specs.Valid.{MayStand, IsCut, IsLog, IsLinked, IsRow, AreApart, IsValid}
 use Rattle.dn_changes.specs.Events.{IsUnused}
 use Rattle.dn_changes.specs.Writing.{Writes, WritesWell}
 use Rattle.dn_changes.proofs.Relog.{same_use_of, same_rows}

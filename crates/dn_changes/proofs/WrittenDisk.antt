@@ -1,23 +1,22 @@
 -- A commit of runs to a file makes a valid disk: the event of its premises.
-use Rattle.std.proofs.Common.{◌≡◌, ◌≢◌, ◌⊎◌, inl, inr, ⊎_elim, ℕ, zero, suc, ◌+◌, ◌-◌, ◌*◌, ◌/◌, ◌<◌, ◌≤◌, List, [], ◌∷◌, ◌++◌, length, refl, sym, ◌∙◌, ap, subst, arith, length-append}
+use Rattle.std.proofs.Common.{◌≡◌, ◌≢◌, inl, inr, ℕ, zero, suc, ◌+◌, ◌-◌, ◌/◌, ◌<◌, ◌≤◌, List, [], ◌++◌, length, refl, sym, ◌∙◌, ap, subst, arith, length-append}
 use Rattle.std.specs.Prelude.{slice_index, Contains, All}
 use Rattle.std.proofs.lemmas.Bool.{cases_lt}
 use Rattle.std.proofs.lemmas.List.{get_or_append_left, get_or-append_right}
 use Rattle.std.proofs.lemmas.List.Elements.{All-nil, Contains-get_or}
 use Rattle.pm_layout.specs.declared.Geometry.{Geometry}
 use Rattle.pm_layout.specs.Geometry.{InData, directs}
-use Rattle.log_entry.specs.Spelling.{spelled}
-use Rattle.dn_model.specs.Log.{Log, IsPaged, count}
-use Rattle.dn_model.specs.Table.{Row, rows_from}
-use Rattle.dn_model.specs.Disk.{Disk, Live, IsUsed, rows}
+use Rattle.dn_model.specs.Log.{IsPaged, count}
+use Rattle.dn_model.specs.Table.{rows_from}
+use Rattle.dn_model.specs.Disk.{Disk, IsUsed, rows}
 use Rattle.dn_model.specs.Counts.{IsFree, Near, IsNear}
 use Rattle.dn_model.specs.Growth.{IsGrown}
 use Rattle.dn_model.specs.Valid.{IsLog, MayStand}
 use Rattle.dn_model.proofs.Append.{count-grown}
 use Rattle.dn_changes.specs.Events.{Relogs, IsUnused}
 use Rattle.dn_changes.specs.Writing.{Writes, WritesWell}
-use Rattle.dn_changes.specs.Runs.{Run, run_items, places_in, block_at, IsChained}
-use Rattle.dn_changes.specs.WithLog.{with_log, grown_log}
+use Rattle.dn_changes.specs.Runs.{Run, run_items}
+use Rattle.dn_changes.specs.WithLog.{grown_log}
 use Rattle.dn_changes.specs.MayWrite.{written_disk, IsLeft, MayWrite}
 use Rattle.dn_changes.proofs.Relog.{rows-same}
 use Rattle.dn_changes.proofs.RunItems.{runs-spelled, runs-standing, length-spelled-runs}

@@ -1,5 +1,5 @@
 -- What a commit of runs to a file stands on, and the disk that it makes.
-use Rattle.std.specs.Prelude.{◌≡◌, ◌≢◌, ◌⊎◌, ℕ, ◌+◌, ◌*◌, ◌/◌, ◌<◌, ◌≤◌, List, [], ◌++◌, length, slice_index, Contains}
+use Rattle.std.specs.Prelude.{◌≡◌, ◌≢◌, ℕ, ◌+◌, ◌/◌, ◌<◌, ◌≤◌, List, ◌++◌, length, slice_index, Contains}
 use Rattle.log_entry.specs.Spelling.{pages_of}
 use Rattle.dn_model.specs.Log.{count}
 use Rattle.dn_model.specs.Disk.{Disk, Live}

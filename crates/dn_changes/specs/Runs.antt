@@ -1,5 +1,5 @@
 -- What a commit writes is cut into runs: consecutive places of the file on consecutive pages. Each run is one Write item.
-use Rattle.std.specs.Prelude.{◌≡◌, ℕ, ◌+◌, ◌-◌, ◌<◌, ◌≤◌, if◌then◌else◌, nat_lt, List, [], ◌∷◌, map}
+use Rattle.std.specs.Prelude.{◌≡◌, ℕ, ◌+◌, ◌-◌, ◌≤◌, if◌then◌else◌, nat_lt, List, [], ◌∷◌, map}
 use Rattle.log_entry.specs.declared.item.Flag.TheVariants.{Needed}
 use Rattle.log_entry.specs.declared.item.LogItem.{LogItem}
 use Rattle.log_entry.specs.declared.item.LogItem.TheVariants.{Write}
