@@ -1,9 +1,17 @@
 pub mod Relog
 pub mod Counting
 pub mod Mapped
+pub mod MappedPlaces
+pub mod ReadInData
+pub mod RunItems
+pub mod WriteRuns
+pub mod WithLog
 pub mod WriteCounts
 pub mod WriteValid
+pub mod WriteFree
+pub mod WrittenDisk
 pub mod OpenDirect
 pub mod WriteBytes
+pub mod WriteFiles
 pub mod WriteEvent
 pub mod Recount

@@ -1,17 +1,13 @@
 -- The mappings of a log that grows.
-use Rattle.std.proofs.Common.{◌≡◌, ◌≢◌, ◌⊎◌, inl, inr, ⊎_elim, ℕ, zero, suc, ◌+◌, ◌-◌, ◌*◌, ◌/◌, ◌%◌, ◌<◌, ◌≤◌, Bool, true, false, List, [], ◌∷◌, ◌++◌, length, refl, sym, ◌∙◌, ap, subst, arith, length-append, add_assoc, add-zero, zero-add}
-use Rattle.std.specs.Prelude.{slice_index, if◌then◌else◌, nat_le, nat_lt, ◌&&◌, Option, Some, None, All}
-use Rattle.std.proofs.lemmas.Bool.{cases_eq, cases_lt}
-use Rattle.std.proofs.lemmas.Bool.Decides.{nat_tests}
-use Rattle.log_entry.specs.Spelling.{spelling, spelled, pages_of}
+use Rattle.std.proofs.Common.{◌≡◌, ℕ, ◌+◌, ◌*◌, ◌/◌, ◌%◌, ◌<◌, ◌≤◌, List, [], ◌∷◌, ◌++◌, length, refl, sym, ◌∙◌, ap, arith, add-zero, zero-add}
+use Rattle.std.specs.Prelude.{slice_index, Option, None}
+use Rattle.log_entry.specs.Spelling.{spelling, spelled}
 use Rattle.log_entry.proofs.Spelled.{length-spelled-cons, spelling_some}
-use Rattle.dn_model.specs.Log.{Log, IsPaged, count, slot_name, Placed, placed_from, placed}
-use Rattle.dn_model.specs.Maps.{Mapping, mapping, mapped_after, remapped, cut_to}
+use Rattle.dn_model.specs.Log.{Log, IsPaged, count, slot_name, Placed, placed_from}
+use Rattle.dn_model.specs.Maps.{Mapping, mapping, mapped_after, remapped}
 use Rattle.dn_model.specs.Growth.{IsGrown}
-use Rattle.log_entry.specs.declared.item.Flag.{Flag}
 use Rattle.log_entry.specs.declared.item.LogItem.{LogItem}
-use Rattle.log_entry.specs.declared.item.LogItem.TheVariants.{Write, Size, Add, Forget}
-use Rattle.dn_model.proofs.Append.{page-grown, count-grown}
+use Rattle.dn_model.proofs.Append.{page-grown}
 use Rattle.pm_layout.specs.declared.Geometry.{Geometry}
 
 pub mapped_after-append : (idx : ℕ) (m : Option Mapping) (ps qs : List Placed) → mapped_after idx m (ps ++ qs) ≡ mapped_after idx (mapped_after idx m ps) qs

@@ -1,10 +1,8 @@
 -- The count word of one row changes: the one word at which the table differs.
-use Rattle.std.proofs.Common.{◌≡◌, ◌≢◌, ◌⊎◌, inl, inr, ⊎_elim, ℕ, zero, suc, ◌+◌, ◌*◌, ◌<◌, ◌≤◌, ◌^◌, List, [], ◌∷◌, length, refl, sym, ◌∙◌, ap, subst, arith}
-use Rattle.std.specs.Prelude.{if◌then◌else◌, ◌==◌, Option, Some, None}
-use Rattle.pm_device.specs.Reading.{DiffersAt}
+use Rattle.std.proofs.Common.{◌≡◌, ◌≢◌, ◌⊎◌, inl, inr, ⊎_elim, ℕ, zero, suc, List, [], ◌∷◌, refl, sym, ◌∙◌, ap, arith}
 use Rattle.pm_layout.specs.declared.Geometry.{Geometry}
 use Rattle.pm_layout.specs.Geometry.{slot_word}
-use Rattle.dn_model.specs.Table.{Row, RowsSay, at_field, at_next, at_later, ChainSays, at_direct_page, at_direct_next, at_row, row_word, count_word, be_number, first_slot, chained, direct_page_word}
+use Rattle.dn_model.specs.Table.{Row, RowsSay, at_field, at_next, at_later, count_word, be_number, first_slot}
 use Rattle.dn_changes.proofs.OpenDirect.{slot_word_one, HaveSlots}
 
 -- the row with this slot has another count word, and nothing else differs

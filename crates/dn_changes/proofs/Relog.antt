@@ -1,18 +1,16 @@
 -- A disk whose one log grows: what it says differs at the tail and at fresh words alone.
-use Rattle.std.proofs.Common.{◌≡◌, ◌≢◌, ◌⊎◌, inl, inr, ⊎_elim, ℕ, zero, suc, ◌+◌, ◌-◌, ◌*◌, ◌/◌, ◌%◌, ◌^◌, ◌<◌, ◌≤◌, Bool, true, false, List, [], ◌∷◌, ◌++◌, length, refl, sym, ◌∙◌, ap, subst, arith}
-use Rattle.std.specs.Prelude.{slice_index, if◌then◌else◌, nat_lt, Option, Some, None, IsSome}
-use Rattle.std.proofs.lemmas.Bool.{cases_eq, cases_lt}
-use Rattle.std.proofs.lemmas.Bool.Decides.{nat_tests}
-use Rattle.pm_device.specs.Reading.{Reads, DiffersAt}
+use Rattle.std.proofs.Common.{◌≡◌, ◌≢◌, ◌⊎◌, inl, inr, ⊎_elim, ℕ, zero, suc, ◌+◌, ◌*◌, ◌/◌, ◌%◌, ◌<◌, ◌≤◌, List, [], ◌∷◌, ◌++◌, refl, sym, ◌∙◌, ap, subst, arith}
+use Rattle.std.specs.Prelude.{slice_index, IsSome}
+use Rattle.std.proofs.lemmas.Bool.{cases_eq}
+use Rattle.pm_device.specs.Reading.{DiffersAt}
 use Rattle.pm_layout.specs.declared.Geometry.{Geometry}
-use Rattle.pm_layout.specs.Geometry.{InData, inode_word, slot_word, pointer_word, first_data, direct_page, indirect_page, pointer_page, directs, gate_word, prefix_bits}
+use Rattle.pm_layout.specs.Geometry.{InData, inode_word, slot_word, pointer_word, direct_page, directs}
 use Rattle.dn_model.specs.Log.{Log, LogSays, IsPaged, count, tail_at, at_tail, at_head, at_footer, at_slot}
-use Rattle.dn_model.specs.Growth.{IsGrown, Prepared, IsTail}
+use Rattle.dn_model.specs.Growth.{IsGrown, Prepared}
 use Rattle.dn_model.specs.Table.{Row, RowsSay, at_field, at_next, at_later, ChainSays, at_direct_page, at_direct_next, at_row, row_of, rows_from}
 use Rattle.dn_model.specs.Disk.{Disk, Inode, DiskSays, of_head, of_inodes, of_logs, of_chains, of_pointers, of_pages, HeadSays, at_magic, at_version, at_pages, at_inodes, at_gate, InodesSay, at_state, at_cut, LogsSay, ChainsSay, PointersSay, PagesSay, IsMapped, IsUsed, rows, state_number}
-use Rattle.dn_model.specs.Valid.{IsLog}
 use Rattle.dn_changes.specs.Events.{Relogs, Fresh, in_log, in_page, IsReadPage}
-use Rattle.dn_model.proofs.Regions.{inode_not_data, inode_word_low}
+use Rattle.dn_model.proofs.Regions.{inode_not_data}
 use Rattle.dn_model.proofs.Append.{log_word_in_data}
 use Rattle.dn_model.proofs.Append.{grown_differs}
 
@@ -46,7 +44,7 @@ other_log_not_tail g i ino log a v ne in_table paged (at_footer k lt place value
 other_log_not_tail g i ino log a v ne in_table paged (at_slot k j lt word place value) =
     λ e. inode_not_data g ino 2 (slice_index log.pages (k / 63)) (8 * (k % 63) + j) in_table (omega arith) (log_word_in_data g log k paged lt) (omega (arith, e, place))
 
-rows-same : (f g : ℕ → List Row) (d n : ℕ) → ((p : ℕ) → g p ≡ f p) → rows_from g d n ≡ rows_from f d n
+pub rows-same : (f g : ℕ → List Row) (d n : ℕ) → ((p : ℕ) → g p ≡ f p) → rows_from g d n ≡ rows_from f d n
 rows-same f g d zero same = refl
 rows-same f g d (suc n) same = (λ i. same d i ++ rows-same f g (d + 1) n same i)
 

@@ -1,29 +1,19 @@
--- The bytes of a file that got one Write item more.
-use Rattle.std.proofs.Common.{◌≡◌, ◌≢◌, ◌⊎◌, inl, inr, ⊎_elim, ℕ, zero, suc, ◌+◌, ◌-◌, ◌*◌, ◌/◌, ◌%◌, ◌^◌, ◌<◌, ◌≤◌, max, Bool, true, false, List, [], ◌∷◌, ◌++◌, length, map, get_or, refl, sym, ◌∙◌, ap, subst, arith, zero-add}
-use Rattle.std.specs.Prelude.{slice_index, if◌then◌else◌, nat_le, nat_lt, ◌&&◌, ◌==◌, Option, Some, None}
-use Rattle.std.specs.List.{range_with_len}
-use Rattle.std.proofs.lemmas.Bool.{cases_eq, cases_lt}
+-- The bytes of a file that got Write items more.
+use Rattle.std.proofs.Common.{◌≡◌, ◌⊎◌, inl, inr, ⊎_elim, ℕ, ◌+◌, ◌-◌, ◌*◌, ◌/◌, ◌%◌, ◌^◌, ◌<◌, ◌≤◌, max, Bool, true, false, List, length, refl, sym, ◌∙◌, ap, arith, zero-add}
+use Rattle.std.specs.Prelude.{slice_index, if◌then◌else◌, nat_le, nat_lt, ◌&&◌, Option, Some, None}
+use Rattle.std.proofs.lemmas.Bool.{cases_lt}
 use Rattle.std.proofs.lemmas.Bool.Decides.{nat_tests}
 use Rattle.std.proofs.lemmas.List.{get_or_past}
 use Rattle.std.proofs.lemmas.Grind.{same_number_lists}
 use Rattle.std.proofs.lemmas.List.FromFn.{length-map-range_with_len, get_or-map-range_with_len}
 use Rattle.log_entry.specs.Spelling.{pages_of}
-use Rattle.dn_model.specs.Log.{Log, Placed, count, slot_name}
-use Rattle.dn_model.specs.Maps.{Mapping, remapped, cut_to, size_of, size_after}
-use Rattle.dn_model.specs.Disk.{Disk, IsMapped, maps}
+use Rattle.dn_model.specs.Maps.{Mapping, size_of}
+use Rattle.dn_model.specs.Disk.{Disk, MapsTo, maps}
 use Rattle.dn_model.specs.Files.{bytes, byte_of, mapped_byte}
 use Rattle.dn_model.specs.Apply.{written}
-use Rattle.log_entry.specs.declared.item.Flag.{Flag}
-use Rattle.log_entry.specs.declared.item.LogItem.{LogItem}
-use Rattle.log_entry.specs.declared.item.LogItem.TheVariants.{Write, Size, Add, Forget}
-use Rattle.dn_changes.proofs.WriteCounts.{Writes, last_item, maps-written}
-
-size_after-append : (n : ℕ) (xs ys : List LogItem) → size_after n (xs ++ ys) ≡ size_after (size_after n xs) ys
-size_after-append n [] ys = refl
-size_after-append n (Write first c block size flag mask ∷ xs) ys = size_after-append size xs ys
-size_after-append n (Size size ∷ xs) ys = size_after-append size xs ys
-size_after-append n (Add ino name ∷ xs) ys = size_after-append n xs ys
-size_after-append n (Forget name ∷ xs) ys = size_after-append n xs ys
+use Rattle.dn_changes.specs.Writing.{Writes, WritesWell, WritesBytes}
+use Rattle.dn_changes.proofs.MappedPlaces.{maps-in_file, uncut}
+use Rattle.dn_changes.proofs.WriteCounts.{own_or_other}
 
 pub length-bytes : (d : Disk) (ino : ℕ) → length (bytes d ino) ≡ size_of (d.inode ino).log
 unfolding bytes
@@ -33,22 +23,12 @@ pub byte_at : (d : Disk) (ino j : ℕ) → j < size_of (d.inode ino).log → sli
 unfolding bytes
 byte_at d ino j lt = get_or-map-range_with_len (λ i. mapped_byte d (i % 4096) (maps d ino (i / 4096))) 0 (size_of (d.inode ino).log) j j 0 lt (zero-add j)
 
--- what the event stores, and what it finds
-pub record WritesBytes (ino : ℕ) (old new : Disk) (w : Writes ino old new) (at : ℕ) (text : List ℕ) : Type 0 where
-  pub size : w.size ≡ max (length (bytes old ino)) (at + length text)
-  -- the item covers the pages that the text touches
-  pub covers : (j : ℕ) → at ≤ j → j < at + length text → (w.first ≤ j / 4096) × (j / 4096 < w.first + w.n)
-  -- each new page has the old bytes of its place, with the text put in
-  pub inside : (k i : ℕ) → k < w.n → i < 4096 → at ≤ 4096 * (w.first + k) + i → 4096 * (w.first + k) + i < at + length text → byte_of new (w.block + k) i ≡ slice_index text (4096 * (w.first + k) + i - at)
-  pub outside : (k i : ℕ) → k < w.n → i < 4096 → (at ≤ 4096 * (w.first + k) + i → 4096 * (w.first + k) + i < at + length text → ⊥) → byte_of new (w.block + k) i ≡ slice_index (bytes old ino) (4096 * (w.first + k) + i)
-  -- other mapped pages hold what they held, and past the size zeros
-  pub same : (idx : ℕ) (m : Mapping) (k : ℕ) → maps old ino idx ≡ Some m → byte_of new m.block k ≡ byte_of old m.block k
-  pub zeros : (idx k : ℕ) (m : Mapping) → maps old ino idx ≡ Some m → k < 4096 → size_of (old.inode ino).log ≤ 4096 * idx + k → byte_of old m.block k ≡ 0
-
-module _ (ino : ℕ) (old new : Disk) (w : Writes ino old new) (at : ℕ) (text : List ℕ) (is : WritesBytes ino old new w at text) where
-  size_new : size_of (new.inode ino).log ≡ w.size
-  unfolding size_of
-  size_new = ap (size_after 0) w.grown.items ∙ size_after-append 0 (old.inode ino).log.items w.grown.more ∙ ap (size_after (size_after 0 (old.inode ino).log.items)) w.more
+module _ (ino : ℕ) (old new : Disk) (w : Writes ino old new) (ok : WritesWell ino old new w) (at : ℕ) (text : List ℕ) (is : WritesBytes ino old new w at text) where
+  -- the words of mapped pages stay
+  same : (idx : ℕ) (m : Mapping) (k : ℕ) → maps old ino idx ≡ Some m → byte_of new m.block k ≡ byte_of old m.block k
+  same idx m k e =
+      let to : MapsTo old ino idx m.block = record { in_table = w.in_table; in_file = maps-in_file old ok.valid ino idx m w.in_table e; by = m; is = e; block = refl } in
+      ap (λ (v : ℕ). v / 256 ^ (k % 8) % 256) (w.relogs.word m.block (k / 8) (inl (record { ino = ino; idx = idx; maps_to = to })))
 
   -- a byte of the old mapping, also past the old end
   old_byte : (j : ℕ) → mapped_byte new (j % 4096) (maps old ino (j / 4096)) ≡ slice_index (bytes old ino) j
@@ -63,8 +43,8 @@ module _ (ino : ℕ) (old new : Disk) (w : Writes ino old new) (at : ℕ) (text 
         | inr high ↦ sym (get_or_past (bytes old ino) j 0 (omega (arith, length-bytes old ino, high)))
       ]
       by_map (Some m) e = elim (cases_lt j (size_of (old.inode ino).log)) [
-        | inl low ↦ is.same (j / 4096) m (j % 4096) e ∙ sym (byte_at old ino j low ∙ ap (mapped_byte old (j % 4096)) e)
-        | inr high ↦ is.same (j / 4096) m (j % 4096) e ∙ is.zeros (j / 4096) (j % 4096) m e (omega arith) (omega (arith, place, high)) ∙ sym (get_or_past (bytes old ino) j 0 (omega (arith, length-bytes old ino, high)))
+        | inl low ↦ same (j / 4096) m (j % 4096) e ∙ sym (byte_at old ino j low ∙ ap (mapped_byte old (j % 4096)) e)
+        | inr high ↦ same (j / 4096) m (j % 4096) e ∙ is.zeros (j / 4096) (j % 4096) m e (omega arith) (omega (arith, place, high)) ∙ sym (get_or_past (bytes old ino) j 0 (omega (arith, length-bytes old ino, high)))
       ]
 
   in_text : ℕ → Bool
@@ -80,54 +60,42 @@ module _ (ino : ℕ) (old new : Disk) (w : Writes ino old new) (at : ℕ) (text 
   wanted_out : (j : ℕ) → (at ≤ j → j < at + length text → ⊥) → wanted j ≡ slice_index (bytes old ino) j
   wanted_out j out = let t : (nat_le at j && nat_lt j (at + length text)) ≡ false = grind (arith, nat_tests) in ap (λ (b : Bool). if b then slice_index text (j - at) else slice_index (bytes old ino) j) t
 
-  abbrev set_here : ℕ → Mapping
-  set_here j = record { block = w.block + (j / 4096 - w.first); slot = slot_name (new.inode ino).log.pages (count (old.inode ino).log); bit = j / 4096 - w.first; flag = w.flag; mask = w.mask }
-
-  abbrev inner : ℕ → Bool → Option Mapping
-  inner j b = if b then Some (set_here j) else maps old ino (j / 4096)
-
   -- a byte of a new page
-  own_byte : (j : ℕ) → w.first ≤ j / 4096 → j / 4096 < w.first + w.n → byte_of new (w.block + (j / 4096 - w.first)) (j % 4096) ≡ wanted j
-  own_byte j low high =
-      let place : 4096 * (w.first + (j / 4096 - w.first)) + j % 4096 ≡ j = omega arith in
-      let k : j / 4096 - w.first < w.n = omega arith in
+  own_byte : (j i : ℕ) → i < w.n → j / 4096 ≡ w.first + i → byte_of new (w.blocks i) (j % 4096) ≡ wanted j
+  own_byte j i below at_place =
+      let place : 4096 * (w.first + i) + j % 4096 ≡ j = omega arith in
       let small : j % 4096 < 4096 = omega arith in
       elim (cases_lt j at) [
-        | inl before ↦ is.outside (j / 4096 - w.first) (j % 4096) k small (λ a b. omega (arith, a, place, before)) ∙ ap (slice_index (bytes old ino)) place ∙ sym (wanted_out j (λ a b. omega (arith, a, before)))
+        | inl before ↦ is.outside i (j % 4096) below small (λ a b. omega (arith, a, place, before)) ∙ ap (slice_index (bytes old ino)) place ∙ sym (wanted_out j (λ a b. omega (arith, a, before)))
         | inr from ↦ elim (cases_lt j (at + length text)) [
-          | inl inside ↦ is.inside (j / 4096 - w.first) (j % 4096) k small (omega (arith, place, from)) (omega (arith, place, inside)) ∙ ap (λ (i : ℕ). slice_index text (i - at)) place ∙ sym (wanted_in j from inside)
-          | inr past ↦ is.outside (j / 4096 - w.first) (j % 4096) k small (λ a b. omega (arith, b, place, past)) ∙ ap (slice_index (bytes old ino)) place ∙ sym (wanted_out j (λ a b. omega (arith, b, past)))
+          | inl inside ↦ is.inside i (j % 4096) below small (omega (arith, place, from)) (omega (arith, place, inside)) ∙ ap (λ (i : ℕ). slice_index text (i - at)) place ∙ sym (wanted_in j from inside)
+          | inr past ↦ is.outside i (j % 4096) below small (λ a b. omega (arith, b, place, past)) ∙ ap (slice_index (bytes old ino)) place ∙ sym (wanted_out j (λ a b. omega (arith, b, past)))
         ]
       ]
 
-  by_range : (j : ℕ) (b : Bool) → (nat_le w.first (j / 4096) && nat_lt (j / 4096) (w.first + w.n)) ≡ b → mapped_byte new (j % 4096) (inner j b) ≡ wanted j
-  by_range j true e = own_byte j (range_low (j / 4096) e) (range_high (j / 4096) e)
+  -- a byte of a place that isn't the event's own
+  other_byte : (j : ℕ) → j < w.size → (j / 4096 < w.first) ⊎ (w.first + w.n ≤ j / 4096) → mapped_byte new (j % 4096) (maps new ino (j / 4096)) ≡ wanted j
+  other_byte j lt out =
+      ap (mapped_byte new (j % 4096)) (w.other (j / 4096) out ∙ uncut w.size (j / 4096) (maps old ino (j / 4096)) (in_pages j w.size lt)) ∙ old_byte j
+      ∙ sym (wanted_out j (λ low high. apart (is.covers j low high)))
     where
-      range_low : (idx : ℕ) → (nat_le w.first idx && nat_lt idx (w.first + w.n)) ≡ true → w.first ≤ idx
-      range_low idx e = grind (arith, nat_tests)
+      in_pages : (i size : ℕ) → i < size → i / 4096 < pages_of size
+      in_pages i size lt = omega arith
 
-      range_high : (idx : ℕ) → (nat_le w.first idx && nat_lt idx (w.first + w.n)) ≡ true → idx < w.first + w.n
-      range_high idx e = grind (arith, nat_tests)
-  by_range j false e = old_byte j ∙ sym (wanted_out j (λ low high. let c = is.covers j low high in not_both (j / 4096) c.0 c.1 e))
-    where
-      not_both : (idx : ℕ) → w.first ≤ idx → idx < w.first + w.n → (nat_le w.first idx && nat_lt idx (w.first + w.n)) ≡ false → ⊥
-      not_both idx low high e = grind (arith, nat_tests)
-
-  uncut : (j : ℕ) → j < w.size → nat_lt (j / 4096) (pages_of w.size) ≡ true
-  uncut j lt = test (j / 4096) (pages_of w.size) (omega arith)
-    where
-      test : (a b : ℕ) → a < b → nat_lt a b ≡ true
-      test a b lt = grind (arith, nat_tests)
-
-  by_cut : (j : ℕ) (b : Bool) → b ≡ true → mapped_byte new (j % 4096) (if b then inner j (nat_le w.first (j / 4096) && nat_lt (j / 4096) (w.first + w.n)) else None) ≡ wanted j
-  by_cut j true e = by_range j (nat_le w.first (j / 4096) && nat_lt (j / 4096) (w.first + w.n)) refl
-  by_cut j false e = cc
+      apart : (w.first ≤ j / 4096) × (j / 4096 < w.first + w.n) → ⊥
+      apart c = ⊎_elim (λ (low : j / 4096 < w.first). omega arith) (λ (high : w.first + w.n ≤ j / 4096). omega arith) out
 
   new_byte : (j : ℕ) → j < w.size → mapped_byte new (j % 4096) (maps new ino (j / 4096)) ≡ wanted j
-  new_byte j lt = ap (mapped_byte new (j % 4096)) (maps-written ino old new w (j / 4096)) ∙ by_cut j (nat_lt (j / 4096) (pages_of w.size)) (uncut j lt)
+  new_byte j lt = elim (own_or_other w.first w.n (j / 4096)) [
+    | inl own ↦
+        let here = w.own own.0 own.1 in
+        ap (λ (i : ℕ). mapped_byte new (j % 4096) (maps new ino i)) own.2 ∙ ap (mapped_byte new (j % 4096)) here.is
+        ∙ ap (λ (page : ℕ). byte_of new page (j % 4096)) here.page ∙ own_byte j own.0 own.1 own.2
+    | inr out ↦ other_byte j lt out
+  ]
 
   pub bytes-written : bytes new ino ≡ written (bytes old ino) at text
   unfolding written
-  bytes-written = same_number_lists (bytes new ino) _ (length-bytes new ino ∙ size_new ∙ is.size ∙ sym (length-map-range_with_len _ 0 (max (length (bytes old ino)) (at + length text))))
-      (λ j lt. byte_at new ino j (omega (arith, lt, length-bytes new ino)) ∙ new_byte j (omega (arith, lt, length-bytes new ino, size_new))
-      ∙ sym (get_or-map-range_with_len wanted 0 (max (length (bytes old ino)) (at + length text)) j j 0 (omega (arith, lt, length-bytes new ino, size_new, is.size)) (zero-add j)))
+  bytes-written = same_number_lists (bytes new ino) _ (length-bytes new ino ∙ w.last_size ∙ is.size ∙ sym (length-map-range_with_len _ 0 (max (length (bytes old ino)) (at + length text))))
+      (λ j lt. byte_at new ino j (omega (arith, lt, length-bytes new ino)) ∙ new_byte j (omega (arith, lt, length-bytes new ino, w.last_size))
+      ∙ sym (get_or-map-range_with_len wanted 0 (max (length (bytes old ino)) (at + length text)) j j 0 (omega (arith, lt, length-bytes new ino, w.last_size, is.size)) (zero-add j)))

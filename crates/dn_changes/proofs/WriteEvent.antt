@@ -1,24 +1,26 @@
 -- The last step of a Write: each image that a stop may leave stands for the disk of before or of after.
-use Rattle.std.proofs.Common.{◌≡◌, ◌≢◌, ◌⊎◌, inl, inr, ⊎_elim, ℕ, ◌+◌, ◌*◌, ◌<◌, ◌≤◌, List, length, refl, sym, ◌∙◌, ap, subst, arith}
+use Rattle.std.proofs.Common.{◌≡◌, ◌⊎◌, inl, inr, ⊎_elim, ℕ, ◌*◌, ◌<◌, List, length, refl, sym, ◌∙◌, ap, subst}
 use Rattle.std.specs.Prelude.{slice_index, Option, Some, None, IsSome, IsNone}
-use Rattle.pm_device.specs.Past.{Past, Left, LeftOf, moment}
+use Rattle.pm_device.specs.Past.{Past, Left}
 use Rattle.pm_device.specs.State.{State, Agree}
-use Rattle.pm_device.specs.Settled.{Extends, LeavesOnly}
+use Rattle.pm_device.specs.Settled.{LeavesOnly}
 use Rattle.pm_device.specs.Reading.{Reads, Stands, IsReady, DiffersAt}
 use Rattle.pm_device.specs.Commit.{IsCommitted}
 use Rattle.pm_device.specs.Runs.{length-read_after}
 use Rattle.pm_device.proofs.OneWord.{reads_old_or_new}
+use Rattle.pm_layout.specs.declared.Geometry.{Geometry}
 use Rattle.pm_layout.specs.Geometry.{InData, inode_word, gate_word}
-use Rattle.dn_model.specs.Log.{count, tail_at, IsPaged}
+use Rattle.dn_model.specs.Log.{count, tail_at}
 use Rattle.dn_model.specs.Table.{Row, row_of}
 use Rattle.dn_model.specs.Disk.{Disk, DiskSays, of_head, at_gate, IsMapped, IsUsed, rows}
 use Rattle.dn_changes.specs.Events.{Fresh, IsReadPage, IsUnused}
 use Rattle.dn_model.specs.Valid.{IsValid}
 use Rattle.dn_model.specs.Image.{StandsFor}
 use Rattle.dn_model.proofs.L1.{rolled_closed, gate_closed}
-use Rattle.dn_changes.proofs.Relog.{relogged_differs, same_rows}
-use Rattle.dn_changes.proofs.WriteCounts.{Writes}
-use Rattle.dn_changes.proofs.WriteValid.{WritesWell, written_valid, mapped_cases, not_mapped}
+use Rattle.dn_changes.proofs.ReadInData.{read_in_data}
+use Rattle.dn_changes.proofs.Relog.{relogged_differs}
+use Rattle.dn_changes.specs.Writing.{Writes, WritesWell}
+use Rattle.dn_changes.proofs.WriteValid.{written_valid, mapped_cases, not_mapped}
 
 -- an image has as many words as the device
 pub length-left : (p : Option Past) (now : List ℕ) (m : ℕ) (c : List ℕ) → Agree now p → Left p m c → length c ≡ length now
@@ -36,20 +38,23 @@ stands_for_read d c valid reads size =
       valid = valid;
     }
 
-module _ (ino : ℕ) (old new : Disk) (w : Writes ino old new) (ok : WritesWell ino old new w) (in_data : (page : ℕ) → IsReadPage new page → InData old.geometry page)
+module _ (ino : ℕ) (old new : Disk) (w : Writes ino old new) (ok : WritesWell ino old new w)
     (who : ℕ) (s t : State) (agree : Agree t.now t.past) (size : length t.now ≡ 512 * old.geometry.pages)
     (stands : Stands (DiskSays old) s) (ready : IsReady who (Fresh ino old new) s)
     (leaves : LeavesOnly s t (IsCommitted who (inode_word ino 2) (tail_at (new.inode ino).log.pages (count (new.inode ino).log)) s)) where
   decide : (page : ℕ) → IsMapped new page → IsReadPage old page ⊎ (IsReadPage old page → ⊥)
   decide page mapped = ⊎_elim
-      (λ (own : (i : ℕ) × (i < w.n) × (page ≡ w.block + i)).
+      (λ (own : (i : ℕ) × (i < w.n) × (page ≡ w.blocks i)).
       let unused : IsUnused old page = subst (IsUnused old) (sym own.2) (ok.blocks own.0 own.1) in
-      inr (λ read. ⊎_elim (not_mapped ino old new w ok page unused) (λ (row : IsSome (row_of (rows old) page)). no_row (row_of (rows old) page) row unused.no_row) read))
-      (λ (was : IsMapped old page). inl (inl was)) (mapped_cases ino old new w ok page mapped)
+      inr (λ read. ⊎_elim (not_mapped old page unused) (λ (row : IsSome (row_of (rows old) page)). no_row (row_of (rows old) page) row unused.no_row) read))
+      (λ (was : IsMapped old page). inl (inl was)) (mapped_cases ino old new w page mapped)
     where
       no_row : (r : Option Row) → IsSome r → IsNone r → ⊥
       no_row None some none = cc
       no_row (Some x) some none = cc
+
+  in_data : (page : ℕ) → IsReadPage new page → InData old.geometry page
+  in_data page read = subst (λ (g : Geometry). InData g page) w.relogs.geometry (read_in_data new (written_valid ino old new w ok) page read)
 
   differs : DiffersAt (DiskSays old) (DiskSays new) (Fresh ino old new) (inode_word ino 2) (tail_at (new.inode ino).log.pages (count (new.inode ino).log))
   differs = relogged_differs ino old new w.relogs w.grown w.in_table

@@ -1,141 +1,123 @@
--- A disk whose file got one Write item more makes sense, if it did before.
-use Rattle.std.proofs.Common.{◌≡◌, ◌≢◌, ◌⊎◌, inl, inr, ⊎_elim, ℕ, zero, suc, ◌+◌, ◌-◌, ◌*◌, ◌<◌, ◌≤◌, Bool, true, false, List, [], ◌∷◌, ◌++◌, length, refl, sym, ◌∙◌, ap, subst, arith}
-use Rattle.std.specs.Prelude.{slice_index, slice_get, if◌then◌else◌, nat_le, nat_lt, ◌&&◌, ◌==◌, Option, Some, None, IsNone, All, Contains}
-use Rattle.std.proofs.lemmas.Bool.{cases_eq, cases_lt}
-use Rattle.std.proofs.lemmas.Bool.Decides.{nat_tests}
-use Rattle.std.proofs.lemmas.List.Elements.{All-append, All-push, Contains-append_cases}
+-- A disk whose file got Write items more makes sense, if it did before.
+use Rattle.std.proofs.Common.{◌≡◌, ◌≢◌, ◌⊎◌, inl, inr, ⊎_elim, ℕ, zero, suc, ◌+◌, ◌<◌, ◌≤◌, List, ◌++◌, sym, ◌∙◌, ap, subst, arith}
+use Rattle.std.specs.Prelude.{slice_get, Some, None, IsNone, All, Contains}
+use Rattle.std.proofs.lemmas.Bool.{cases_eq}
+use Rattle.std.proofs.lemmas.List.Elements.{All-append, Contains-append_cases}
 use Rattle.pm_layout.specs.declared.Geometry.{Geometry}
-use Rattle.pm_layout.specs.Geometry.{InData, IsAccepted, directs, slots}
-use Rattle.log_entry.specs.Spelling.{IsSpelled, pages_of}
-use Rattle.dn_model.specs.Log.{Log, IsPaged, Placed, count, slot_name}
-use Rattle.dn_model.specs.Maps.{Mapping, remapped, cut_to}
+use Rattle.pm_layout.specs.Geometry.{IsAccepted, directs, slots}
+use Rattle.log_entry.specs.Spelling.{IsSpelled}
+use Rattle.dn_model.specs.Maps.{Mapping}
 use Rattle.dn_model.specs.Table.{Row, row_of}
-use Rattle.dn_model.specs.Disk.{Disk, Inode, Use, Free, Live, Dying, IsUsed, IsMapped, MapsTo, maps, rows}
-use Rattle.dn_model.specs.Counts.{hit, mappings, total, IsLogPage, IsFree, Near, IsNear}
+use Rattle.dn_model.specs.Disk.{Disk, Inode, Use, Free, Live, Dying, IsUsed, IsMapped, maps, rows}
+use Rattle.dn_model.specs.Counts.{hit, mappings, IsLogPage}
 use Rattle.dn_model.specs.Files.{named, named_after}
-use Rattle.dn_model.specs.Valid.{MayStand, IsCut, IsLog, HasOneName, IsLinked, IsRow, AreApart, IsSingle, IsValid}
-use Rattle.log_entry.specs.declared.item.Flag.{Flag}
-use Rattle.log_entry.specs.declared.item.LogItem.{LogItem}
-use Rattle.log_entry.specs.declared.item.LogItem.TheVariants.{Write, Size, Add, Forget}
+use Rattle.dn_model.specs.Valid.{MayStand, IsCut, IsLog, IsLinked, IsRow, AreApart, IsValid}
 use Rattle.dn_changes.specs.Events.{IsUnused}
-use Rattle.dn_changes.proofs.Counting.{term-le}
+use Rattle.dn_changes.specs.Writing.{Writes, WritesWell}
 use Rattle.dn_changes.proofs.Relog.{same_use_of, same_rows}
-use Rattle.dn_changes.proofs.WriteCounts.{Writes, last_item, maps-written, maps_others, mappings-written_own, mappings-written_other}
-
--- the event takes unused pages
-pub record WritesWell (ino : ℕ) (old new : Disk) (w : Writes ino old new) : Type 0 where
-  pub valid : IsValid old
-  pub k : ℕ
-  pub file : ino ≡ suc k
-  pub paged' : IsPaged old.geometry (new.inode ino).log
-  pub spelled : IsSpelled (Write w.first w.n w.block w.size w.flag w.mask)
-  pub standing : MayStand old.geometry ino (Write w.first w.n w.block w.size w.flag w.mask)
-  pub fresh : (page : ℕ) → Contains w.grown.fresh page → IsUnused old page
-  pub blocks : (i : ℕ) → i < w.n → IsUnused old (w.block + i)
-  pub apart : (i : ℕ) → i < w.n → Contains w.grown.fresh (w.block + i) → ⊥
-  pub near : Near new
-  pub roomy : (p : ℕ) × (q : ℕ) × (p ≢ q) × IsFree new p × IsFree new q
+use Rattle.dn_changes.proofs.MappedPlaces.{cut_some}
+use Rattle.dn_changes.proofs.WriteCounts.{hit_here, place-le, own_or_other, maps_others, mappings-written_own, mappings-written_other}
 
 -- a mapped place counts
-mapped_counts : (d : Disk) (page : ℕ) → IsMapped d page → 1 ≤ mappings d page
-unfolding mappings
+pub mapped_counts : (d : Disk) (page : ℕ) → IsMapped d page → 1 ≤ mappings d page
 mapped_counts d page m =
     let to = m.maps_to in
-    let one : hit page (maps d m.ino m.idx) ≡ 1 = ap (hit page) to.is ∙ here to.by to.block in
-    chain _ _ _ one (term-le (λ j. hit page (maps d m.ino j)) 4096 m.idx to.in_file) (term-le (λ i. total 4096 (λ idx. hit page (maps d i idx))) d.geometry.inodes m.ino to.in_table)
-  where
-    here : (x : Mapping) → x.block ≡ page → hit page (Some x) ≡ 1
-    here x e = grind (arith, nat_tests)
+    let one : hit page (maps d m.ino m.idx) ≡ 1 = ap (hit page) to.is ∙ hit_here page to.by to.block in
+    omega (arith, one, place-le d page m.ino m.idx to.in_table to.in_file)
 
-    chain : (a b c : ℕ) → a ≡ 1 → a ≤ b → b ≤ c → 1 ≤ c
-    chain a b c e ab bc = omega arith
+-- one of the first n blocks is the page, or none is
+pub block_or_not : (blocks : ℕ → ℕ) (page n : ℕ) → ((i : ℕ) × (i < n) × (page ≡ blocks i)) ⊎ ((i : ℕ) → i < n → blocks i ≢ page)
+block_or_not blocks page zero = inr (λ i lt. absurd (omega arith))
+block_or_not blocks page (suc n) = elim (cases_eq page (blocks n)) [
+  | inl e ↦ inl (n, omega arith, e)
+  | inr ne ↦ ⊎_elim (λ found. inl (found.0, omega (arith, found.1), found.2))
+      (λ none. inr (λ i lt. ⊎_elim (λ (e : i ≡ n). subst (λ (k : ℕ). blocks k ≢ page) (sym e) (λ same. ne (sym same))) (λ (other : i ≢ n). none i (omega arith)) (cases_eq i n)))
+      (block_or_not blocks page n)
+]
 
--- what a place is mapped to after an item: the item's page, or what it was
-remapped_cases : (first n block size mask slot : ℕ) (flag : Flag) (idx : ℕ) (m : Option Mapping) (x : Mapping)
-    → remapped idx m (record { slot = slot; item = Write first n block size flag mask }) ≡ Some x → ((i : ℕ) × (i < n) × (x.block ≡ block + i)) ⊎ (m ≡ Some x)
-remapped_cases first n block size mask slot flag idx m x e = by_cut (nat_lt idx (pages_of size)) e
-  where
-    inside : (nat_le first idx && nat_lt idx (first + n)) ≡ true → idx - first < n
-    inside t = let low : first ≤ idx = grind (arith, nat_tests) in let high : idx < first + n = grind (arith, nat_tests) in omega arith
+-- an unused page isn't mapped
+pub not_mapped : (d : Disk) (page : ℕ) → IsUnused d page → IsMapped d page → ⊥
+not_mapped d page unused m = omega (arith, mapped_counts d page m, unused.free.unmapped)
 
-    by_range : (b : Bool) → (nat_le first idx && nat_lt idx (first + n)) ≡ b
-        → (if b then Some (record { block = block + (idx - first); slot = slot; bit = idx - first; flag = flag; mask = mask }) else m) ≡ Some x → ((i : ℕ) × (i < n) × (x.block ≡ block + i)) ⊎ (m ≡ Some x)
-    by_range true t e = let same : record { block = block + (idx - first); slot = slot; bit = idx - first; flag = flag; mask = mask } ≡ x = cc in inl (idx - first, inside t, ap (λ (y : Mapping). y.block) (sym same))
-    by_range false t e = inr e
+module _ (ino : ℕ) (old new : Disk) (w : Writes ino old new) where
+  pub use_kept : (i : ℕ) → (new.inode i).use_of ≡ (old.inode i).use_of
+  use_kept = same_use_of ino old new w.relogs w.grown w.in_table
 
-    by_cut : (b : Bool) → (if b then (if (nat_le first idx && nat_lt idx (first + n)) then Some (record { block = block + (idx - first); slot = slot; bit = idx - first; flag = flag; mask = mask }) else m) else None) ≡ Some x
-        → ((i : ℕ) × (i < n) × (x.block ≡ block + i)) ⊎ (m ≡ Some x)
-    by_cut true e = by_range (nat_le first idx && nat_lt idx (first + n)) refl e
-    by_cut false e = cc
+  pub rows_kept : rows new ≡ rows old
+  rows_kept = same_rows ino old new w.relogs w.grown w.in_table
 
-module _ (ino : ℕ) (old new : Disk) (w : Writes ino old new) (ok : WritesWell ino old new w) where
-  use_same : (i : ℕ) → (new.inode i).use_of ≡ (old.inode i).use_of
-  use_same = same_use_of ino old new w.relogs w.grown w.in_table
+  pub below_old : (i : ℕ) → i < new.geometry.inodes → i < old.geometry.inodes
+  below_old i lt = omega (arith, lt, ap (λ (g : Geometry). g.inodes) w.relogs.geometry)
 
-  rows_same : rows new ≡ rows old
-  rows_same = same_rows ino old new w.relogs w.grown w.in_table
+  pub was_used : IsUsed (old.inode ino).use_of
+  was_used = subst IsUsed (sym w.live) tt
 
-  below : (i : ℕ) → i < new.geometry.inodes → i < old.geometry.inodes
-  below i lt = omega (arith, lt, ap (λ (g : Geometry). g.inodes) w.relogs.geometry)
+  -- a mapping of this file is new, or was one before
+  own_cases : (idx : ℕ) (x : Mapping) → maps new ino idx ≡ Some x → ((i : ℕ) × (i < w.n) × (x.block ≡ w.blocks i)) ⊎ (maps old ino idx ≡ Some x)
+  own_cases idx x e = elim (own_or_other w.first w.n idx) [
+    | inl own ↦
+        let here = w.own own.0 own.1 in
+        let same : here.by ≡ x = one_mapping here.by x (sym here.is ∙ ap (maps new ino) (sym own.2) ∙ e) in
+        inl (own.0, own.1, ap (λ (m : Mapping). m.block) (sym same) ∙ here.page)
+    | inr out ↦ inr (cut_some w.size idx (maps old ino idx) x (sym (w.other idx out) ∙ e))
+  ]
+    where
+      one_mapping : (x y : Mapping) → Some x ≡ Some y → x ≡ y
+      one_mapping x y e = cc
 
-  abbrev item : LogItem
-  item = Write w.first w.n w.block w.size w.flag w.mask
-
-  used : IsUsed (old.inode ino).use_of
-  used = subst IsUsed (sym w.live) tt
-
-  -- a mapped page was mapped before, or is the item's
-  pub mapped_cases : (page : ℕ) → IsMapped new page → ((i : ℕ) × (i < w.n) × (page ≡ w.block + i)) ⊎ IsMapped old page
+  -- a mapped page was mapped before, or is the event's
+  pub mapped_cases : (page : ℕ) → IsMapped new page → ((i : ℕ) × (i < w.n) × (page ≡ w.blocks i)) ⊎ IsMapped old page
   mapped_cases page m =
       let to = m.maps_to in elim (cases_eq m.ino ino) [
         | inl e ↦
-            let is : remapped m.idx (maps old ino m.idx) (last_item ino old new w) ≡ Some to.by = sym (maps-written ino old new w m.idx) ∙ ap (λ (i : ℕ). maps new i m.idx) (sym e) ∙ to.is in
             ⊎_elim (λ own. inl (own.0, own.1, sym to.block ∙ own.2))
             (λ was. inr (record { ino = ino; idx = m.idx; maps_to = record { in_table = w.in_table; in_file = to.in_file; by = to.by; is = was; block = to.block } }))
-            (remapped_cases w.first w.n w.block w.size w.mask _ w.flag m.idx (maps old ino m.idx) to.by is)
-        | inr ne ↦ inr (record { ino = m.ino; idx = m.idx; maps_to = record { in_table = below m.ino to.in_table; in_file = to.in_file; by = to.by; is = sym (maps_others ino old new w m.ino m.idx ne) ∙ to.is; block = to.block } })
+            (own_cases m.idx to.by (ap (λ (i : ℕ). maps new i m.idx) (sym e) ∙ to.is))
+        | inr ne ↦ inr (record { ino = m.ino; idx = m.idx; maps_to = record { in_table = below_old m.ino to.in_table; in_file = to.in_file; by = to.by; is = sym (maps_others ino old new w m.ino m.idx ne) ∙ to.is; block = to.block } })
       ]
 
   -- a log page was one before, or is fresh
-  log_page_cases : (page : ℕ) → IsLogPage new page → IsLogPage old page ⊎ Contains w.grown.fresh page
+  pub log_page_cases : (page : ℕ) → IsLogPage new page → IsLogPage old page ⊎ Contains w.grown.fresh page
   log_page_cases page p = elim (cases_eq p.ino ino) [
     | inl e ↦
         let there : Contains ((old.inode ino).log.pages ++ w.grown.fresh) page =
         subst (λ (ps : List ℕ). Contains ps page) w.grown.pages (subst (λ (i : ℕ). Contains (new.inode i).log.pages page) e p.listed) in
-        ⊎_elim (λ was. inl (record { ino = ino; in_table = w.in_table; used = used; listed = was })) (λ fresh. inr fresh) (Contains-append_cases (old.inode ino).log.pages w.grown.fresh page there)
-    | inr ne ↦ inl (record { ino = p.ino; in_table = below p.ino p.in_table; used = subst IsUsed (use_same p.ino) p.used; listed = subst (λ (n : Inode). Contains n.log.pages page) (w.relogs.others p.ino ne) p.listed })
+        ⊎_elim (λ was. inl (record { ino = ino; in_table = w.in_table; used = was_used; listed = was })) (λ fresh. inr fresh) (Contains-append_cases (old.inode ino).log.pages w.grown.fresh page there)
+    | inr ne ↦ inl (record { ino = p.ino; in_table = below_old p.ino p.in_table; used = subst IsUsed (use_kept p.ino) p.used; listed = subst (λ (n : Inode). Contains n.log.pages page) (w.relogs.others p.ino ne) p.listed })
   ]
 
-  pub not_mapped : (page : ℕ) → IsUnused old page → IsMapped old page → ⊥
-  not_mapped page unused m = omega (arith, mapped_counts old page m, unused.free.unmapped)
+module _ (ino : ℕ) (old new : Disk) (w : Writes ino old new) (ok : WritesWell ino old new w) where
+  use_same : (i : ℕ) → (new.inode i).use_of ≡ (old.inode i).use_of
+  use_same = use_kept ino old new w
+
+  rows_same : rows new ≡ rows old
+  rows_same = rows_kept ino old new w
+
+  below : (i : ℕ) → i < new.geometry.inodes → i < old.geometry.inodes
+  below = below_old ino old new w
+
+  used : IsUsed (old.inode ino).use_of
+  used = was_used ino old new w
 
   log_unmapped : (page : ℕ) → IsLogPage new page → IsMapped new page → ⊥
   log_unmapped page p m = ⊎_elim
       (λ (was : IsLogPage old page). ⊎_elim
-      (λ (own : (i : ℕ) × (i < w.n) × (page ≡ w.block + i)). (ok.blocks own.0 own.1).free.in_no_log (subst (IsLogPage old) own.2 was))
-      (λ (mapped : IsMapped old page). ok.valid.single.log_unmapped page was mapped) (mapped_cases page m))
+      (λ (own : (i : ℕ) × (i < w.n) × (page ≡ w.blocks i)). (ok.blocks own.0 own.1).free.in_no_log (subst (IsLogPage old) own.2 was))
+      (λ (mapped : IsMapped old page). ok.valid.single.log_unmapped page was mapped) (mapped_cases ino old new w page m))
       (λ (fresh : Contains w.grown.fresh page). ⊎_elim
-      (λ (own : (i : ℕ) × (i < w.n) × (page ≡ w.block + i)). ok.apart own.0 own.1 (subst (Contains w.grown.fresh) own.2 fresh))
-      (λ (mapped : IsMapped old page). not_mapped page (ok.fresh page fresh) mapped) (mapped_cases page m))
-      (log_page_cases page p)
+      (λ (own : (i : ℕ) × (i < w.n) × (page ≡ w.blocks i)). ok.apart own.0 own.1 (subst (Contains w.grown.fresh) own.2 fresh))
+      (λ (mapped : IsMapped old page). not_mapped old page (ok.fresh page fresh) mapped) (mapped_cases ino old new w page m))
+      (log_page_cases ino old new w page p)
 
   no_row : (page : ℕ) → IsLogPage new page → IsNone (row_of (rows new) page)
   no_row page p = subst (λ (rs : List Row). IsNone (row_of rs page)) (sym rows_same)
-      (⊎_elim (λ (was : IsLogPage old page). ok.valid.single.log_no_row page was) (λ (fresh : Contains w.grown.fresh page). (ok.fresh page fresh).no_row) (log_page_cases page p))
+      (⊎_elim (λ (was : IsLogPage old page). ok.valid.single.log_no_row page was) (λ (fresh : Contains w.grown.fresh page). (ok.fresh page fresh).no_row) (log_page_cases ino old new w page p))
 
   unshared : (page : ℕ) → IsNone (row_of (rows new) page) → mappings new page ≤ 1
-  unshared page none = elim (own w.n) [
-    | inl found ↦ mappings-written_own ino old new w page found.0 found.2 (subst (λ (p : ℕ). mappings old p ≡ 0) (sym found.2) (ok.blocks found.0 found.1).free.unmapped)
-    | inr other ↦ omega (arith, mappings-written_other ino old new w page (λ i lt e. other i lt (sym e)), ok.valid.single.unshared page (subst (λ (rs : List Row). IsNone (row_of rs page)) rows_same none))
+  unshared page none = elim (block_or_not w.blocks page w.n) [
+    | inl found ↦ mappings-written_own ino old new w page found.0 found.1 found.2 (subst (λ (p : ℕ). mappings old p ≡ 0) (sym found.2) (ok.blocks found.0 found.1).free.unmapped)
+    | inr other ↦ omega (arith, mappings-written_other ino old new w page other, ok.valid.single.unshared page (subst (λ (rs : List Row). IsNone (row_of rs page)) rows_same none))
   ]
-    where
-      own : (m : ℕ) → ((i : ℕ) × (i < m) × (page ≡ w.block + i)) ⊎ ((i : ℕ) → i < m → page ≢ w.block + i)
-      own zero = inr (λ i lt. absurd (omega arith))
-      own (suc m) = elim (cases_eq page (w.block + m)) [
-        | inl e ↦ inl (m, omega arith, e)
-        | inr ne ↦ ⊎_elim (λ found. inl (found.0, omega (arith, found.1), found.2))
-            (λ none. inr (λ i lt. ⊎_elim (λ (e : i ≡ m). subst (λ (k : ℕ). page ≢ w.block + k) (sym e) ne) (λ (other : i ≢ m). none i (omega arith)) (cases_eq i m))) (own m)
-      ]
 
   -- a page of this inode's log that another log has is no page of two logs before, nor fresh
   one_log_here : (j page : ℕ) → j ≢ ino → j < old.geometry.inodes → IsUsed (old.inode j).use_of → Contains (new.inode ino).log.pages page → Contains (old.inode j).log.pages page → ⊥
@@ -163,11 +145,10 @@ module _ (ino : ℕ) (old new : Disk) (w : Writes ino old new) (ok : WritesWell 
   here_log : IsLog old.geometry ino (new.inode ino).log
   here_log =
       let before = ok.valid.logs ino w.in_table used in
-      let is : (new.inode ino).log.items ≡ (old.inode ino).log.items ++ item ∷ [] = w.grown.items ∙ ap (λ (xs : List LogItem). (old.inode ino).log.items ++ xs) w.more in
       record {
         paged = ok.paged';
-        spelled = subst (All IsSpelled) (sym is) (All-push IsSpelled (old.inode ino).log.items item before.spelled ok.spelled);
-        standing = subst (All (MayStand old.geometry ino)) (sym is) (All-push (MayStand old.geometry ino) (old.inode ino).log.items item before.standing ok.standing);
+        spelled = subst (All IsSpelled) (sym w.grown.items) (All-append IsSpelled (old.inode ino).log.items w.grown.more before.spelled ok.spelled);
+        standing = subst (All (MayStand old.geometry ino)) (sym w.grown.items) (All-append (MayStand old.geometry ino) (old.inode ino).log.items w.grown.more before.standing ok.standing);
       }
 
   logs : (i : ℕ) → i < old.geometry.inodes → IsUsed (old.inode i).use_of → IsLog old.geometry i (new.inode i).log
@@ -177,7 +158,7 @@ module _ (ino : ℕ) (old new : Disk) (w : Writes ino old new) (ok : WritesWell 
   ]
 
   -- no name changes
-  named_same : (name : List ℕ) → named new name ≡ named old name
+  pub named_same : (name : List ℕ) → named new name ≡ named old name
   unfolding named
   named_same name = ap (λ (n : Inode). named_after name None n.log.items) (w.relogs.others 0 (λ e. omega (arith, e, ok.file)))
 
