@@ -13,7 +13,7 @@ use Rattle.log_entry.specs.declared.item.Flag.TheVariants.{Needed, InProcess, Co
 use Rattle.log_entry.specs.declared.item.LogItem.{LogItem}
 use Rattle.log_entry.specs.declared.item.LogItem.TheVariants.{Write, Size, Add, Forget}
 
-flag_one : (f g : Flag) → flag_number f ≡ flag_number g → f ≡ g
+pub flag_one : (f g : Flag) → flag_number f ≡ flag_number g → f ≡ g
 flag_one Needed Needed e = refl
 flag_one InProcess InProcess e = refl
 flag_one Complete Complete e = refl
@@ -24,7 +24,7 @@ flag_one InProcess Complete e = absurd (omega arith)
 flag_one Complete Needed e = absurd (omega arith)
 flag_one Complete InProcess e = absurd (omega arith)
 
-byte_below : (name : List ℕ) (j : ℕ) → All IsNameByte name → slice_index name j < 256
+pub byte_below : (name : List ℕ) (j : ℕ) → All IsNameByte name → slice_index name j < 256
 byte_below name j all = elim (cases_lt j (length name)) [
   | inl lt ↦ (all j 0 lt).byte
   | inr past ↦ let none : slice_index name j ≡ 0 = get_or_past name j 0 past in omega arith

@@ -1,8 +1,18 @@
 // Items of a log.
-ghost use Rattle.std.specs.Prelude.{◌≡◌, IfOk, IfSome, IsNone, ℕ, ◌≢◌};
+ghost use Rattle.std.specs.Prelude.{◌≡◌, ◌≢◌, ◌+◌, ◌*◌, ◌^◌, ◌<◌, ◌≤◌, ◌↔◌, IsTrue, IsNone, IfSome, IfOk};
+ghost use Rattle.log_entry.specs.Spelling.{flag_number, pages_of, IsSpelled};
 
-use crate::name::Name;
+use crate::name::{Name, is_legal};
 use std::alloc::AllocError;
+
+/// The bytes of a page.
+const PAGE_BYTES: u64 = 4096;
+
+/// The most bytes that a file has.
+pub const LARGEST_SIZE: u64 = 16_777_216;
+
+/// The most pages that one Write has.
+pub const MOST_PAGES: u64 = 17;
 
 /// How far the daemon is with the pages of a Write.
 #[derive(Clone, Copy, Debug, PartialEq, Eq)]
@@ -16,8 +26,6 @@ pub enum Flag {
 }
 
 impl Flag {
-    ghost use Rattle.log_entry.specs.Spelling.{flag_number};
-
     /// The flag's word in a log: 1 needed, 2 in process, 3 complete.
     pub fn number(self) -> u64
         ensures { result ≡ flag_number self }
@@ -113,4 +121,41 @@ impl Clone for LogItem {
             }),
         }
     }
+}
+
+/// Whether the fields of the item are in the ranges that a log spells: a Write of 1 to 17 pages that
+/// lie within its size, with mask bits of these pages alone, and a size of at most 16,777,216 bytes.
+pub fn is_spelled(item: &LogItem) -> bool
+    ensures { IsTrue result ↔ IsSpelled item.now }
+{
+    match item {
+        LogItem::Write {
+            first,
+            count,
+            size,
+            mask,
+            ..
+        } => *size <= LARGEST_SIZE && is_run(*first, *count, *size) && is_mask(*mask, *count),
+        LogItem::Size { size } => *size <= LARGEST_SIZE,
+        LogItem::Add { name, .. } => is_legal(name.bytes()),
+        LogItem::Forget { name } => is_legal(name.bytes()),
+    }
+}
+
+// Whether a Write may have these pages of a file of this size.
+fn is_run(first: u64, count: u64, size: u64) -> bool
+    ensures { IsTrue result ↔ (1 ≤ count) × (count ≤ 17) × (first + count ≤ pages_of size) }
+{
+    1 <= count
+        && count <= MOST_PAGES
+        && count <= size.div_ceil(PAGE_BYTES)
+        && first <= size.div_ceil(PAGE_BYTES) - count
+}
+
+// Whether the mask has bits of so many pages alone.
+fn is_mask(mask: u64, count: u64) -> bool
+    requires { count ≤ 17 }
+    ensures { IsTrue result ↔ (mask < 2 ^ count) }
+{
+    mask < 1 << count
 }
