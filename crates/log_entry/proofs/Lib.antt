@@ -1,2 +1,7 @@
+pub mod Bytes
+pub mod Fronts
+pub mod Heads
+pub mod Named
 pub mod Spelled
 pub mod Unique
+pub mod Words
