@@ -7,3 +7,4 @@ pub mod OpenDirect
 pub mod WriteBytes
 pub mod WriteEvent
 pub mod Recount
+pub mod Unread

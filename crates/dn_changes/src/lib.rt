@@ -1,2 +1,4 @@
 //! Laws of single changes of an image.
 #![tactic(auto)]
+
+pub mod data_pages;
