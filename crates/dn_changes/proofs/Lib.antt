@@ -15,3 +15,4 @@ pub mod WriteBytes
 pub mod WriteFiles
 pub mod WriteEvent
 pub mod Recount
+pub mod Unread
