@@ -1,0 +1,8 @@
+//! Job texts, and the sources and sinks that they come from and replies go to.
+#![tactic(auto)]
+
+pub mod memory;
+pub mod stream;
+
+pub use memory::{MemSink, MemSource};
+pub use stream::{ReadFault, Sink, Source, read_to_end, write_all};
