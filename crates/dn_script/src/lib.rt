@@ -3,6 +3,7 @@
 
 pub mod memory;
 pub mod stream;
+pub mod text;
 
 pub use memory::{MemSink, MemSource};
 pub use stream::{ReadFault, Sink, Source, read_to_end, write_all};
