@@ -47,6 +47,10 @@ unfoldable pub value_after : ℕ → List ℕ → ℕ
 value_after n [] = n
 value_after n (d ∷ ds) = value_after (10 * n + (d - 48)) ds
 
+-- the number n and one digit more, as a number of 64 bits
+abbrev pub next_of : ℕ → ℕ → Option ℕ
+next_of n d = if is_ascii_digit d && nat_lt (10 * n + (d - 48)) 18446744073709551616 then Some (10 * n + (d - 48)) else None
+
 -- digits that go on from n, as a number of 64 bits
 abbrev pub digits_after : ℕ → List ℕ → Option ℕ
 digits_after n ds = if list_all is_ascii_digit ds && nat_lt (value_after n ds) 18446744073709551616 then Some (value_after n ds) else None

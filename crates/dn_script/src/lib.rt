@@ -2,6 +2,7 @@
 #![tactic(auto)]
 
 pub mod memory;
+pub mod spelling;
 pub mod stream;
 pub mod text;
 
