@@ -18,11 +18,11 @@ one_digit : (f : ℕ → Option ℕ) (digit rest : Bool) (m v limit : ℕ) → m
     cond ((digit && rest) && ltb v limit) (Some v) None ≡ option_and_then f (cond (digit && ltb m limit) (Some m) None)
 one_digit f false rest m v limit less next = refl
 one_digit f true rest m v limit less next = elim (cases_lt m limit) [
-    | inl below ↦ rw (lt-ltb m limit below) (sym next)
-    | inr above ↦
-        let v_above : limit ≤ v = omega arith in
-        rw (le-ltb m limit above, le-ltb v limit v_above) (elim rest as (λ t. cond (t && false) (Some v) None ≡ None) [ true ↦ refl | false ↦ refl ])
-  ]
+  | inl below ↦ rw (lt-ltb m limit below) (sym next)
+  | inr above ↦
+      let v_above : limit ≤ v = omega arith in
+      rw (le-ltb m limit above, le-ltb v limit v_above) (elim rest as (λ t. cond (t && false) (Some v) None ≡ None) [ true ↦ refl | false ↦ refl ])
+]
 
 digits_after-cons : (n d : ℕ) (ds : List ℕ) → digits_after n (d ∷ ds) ≡ option_and_then (λ m. digits_after m ds) (next_of n d)
 unfolding value_after

@@ -1,6 +1,7 @@
 //! Job texts, and the sources and sinks that they come from and replies go to.
 #![tactic(auto)]
 
+pub mod line;
 pub mod memory;
 pub mod spelling;
 pub mod stream;

@@ -5,5 +5,5 @@ use Rattle.dn_script.proofs.spelling.digits_value.Given as goal
 abbrev pub invariant-loop-digit : goal.invariant-loop-digit
 invariant-loop-digit l = record {
   same : digits_after l.value (drop l.digit-index l.digits) ≡ digits_after 0 l.digits;
-  fits : l.value < 18446744073709551616
+  fits : l.value < 18446744073709551616;
 }
