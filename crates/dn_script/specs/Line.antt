@@ -2,7 +2,6 @@
 use Rattle.std.specs.Prelude.{◌≡◌, ℕ, Bool, true, false, ◌&&◌, ◌==◌, nat_le, if◌then◌else◌, List, [], ◌∷◌, codes, Option, Some, None, Result, Ok, Err, replicate}
 use Rattle.std.specs.Option.{option_and_then}
 use Rattle.std.specs.Str.{bytes_eq}
-use Rattle.dn_model.specs.declared.op.Op.{Op}
 use Rattle.dn_model.specs.declared.op.Op.TheVariants as op
 use Rattle.dn_script.specs.declared.line.JobForm.{JobForm}
 use Rattle.dn_script.specs.declared.line.JobForm.TheVariants.{Apply, Replay, Run}
@@ -180,6 +179,9 @@ abbrev pub Fails : {A : Type 0} → LineFault → Option A → Type 0
 Fails fault.NoMemory said = Unit {0}
 Fails fault.Bad said = said ≡ None
 
+abbrev pub GivesBy : {X A : Type 0} → (X → A) → Result X LineFault → Option A → Type 0
+GivesBy view (Ok x) said = said ≡ Some (view x)
+GivesBy view (Err e) said = Fails e said
+
 abbrev pub Gives : {A : Type 0} → Result A LineFault → Option A → Type 0
-Gives (Ok x) said = said ≡ Some x
-Gives (Err e) said = Fails e said
+Gives result said = GivesBy (λ x. x) result said

@@ -1,5 +1,5 @@
 -- What a source has left, and what a sink has taken.
-use Rattle.std.specs.Prelude.{◌≡◌, ℕ, ◌+◌, ◌≤◌, min, List, [], ◌++◌, Option, Some, None}
+use Rattle.std.specs.Prelude.{◌≡◌, ℕ, ◌+◌, ◌≤◌, min, List, ◌++◌, Option, Some, None}
 
 -- these bytes before a rest, where the rest is told
 abbrev pub with_front : List ℕ → Option (List ℕ) → Option (List ℕ)

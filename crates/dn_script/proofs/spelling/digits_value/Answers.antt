@@ -1,4 +1,4 @@
-use Rattle.std.proofs.Common.{◌≡◌, ◌∙◌, sym, rules}
+use Rattle.std.proofs.Common.{◌∙◌, sym, rules}
 use Rattle.dn_script.proofs.Digits.{digits_stop, digits_go, digits_end}
 use Rattle.dn_script.proofs.spelling.digits_value.Goals as goal
 
