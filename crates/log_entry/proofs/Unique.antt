@@ -1,9 +1,8 @@
 -- No spelling begins with another, and one spelling stands for one item.
-use Rattle.std.proofs.Common.{◌≡◌, ◌≢◌, ◌⊎◌, inl, inr, ℕ, zero, suc, ◌+◌, ◌-◌, ◌*◌, ◌/◌, ◌%◌, ◌^◌, ◌<◌, ◌≤◌, List, [], ◌∷◌, ◌++◌, length, get_or, map, refl, sym, ◌∙◌, ap, subst, arith, length-append, zero-add}
+use Rattle.std.proofs.Common.{◌≡◌, inl, inr, ℕ, zero, suc, ◌+◌, ◌-◌, ◌*◌, ◌/◌, ◌%◌, ◌<◌, List, [], ◌∷◌, ◌++◌, length, get_or, refl, sym, ◌∙◌, ap, subst, arith, zero-add}
 use Rattle.std.specs.Prelude.{slice_index, All}
-use Rattle.std.specs.List.{range_with_len}
-use Rattle.std.proofs.lemmas.Bool.{cases_lt, cases_eq}
-use Rattle.std.proofs.lemmas.List.{get_or_past, same_lists, append_cancel_left}
+use Rattle.std.proofs.lemmas.Bool.{cases_lt}
+use Rattle.std.proofs.lemmas.List.{get_or_past}
 use Rattle.std.proofs.lemmas.Grind.{same_number_lists}
 use Rattle.std.proofs.lemmas.List.FromFn.{get_or-map-range_with_len}
 use Rattle.log_entry.specs.Name.{IsLegal, IsNameByte}
@@ -14,7 +13,7 @@ use Rattle.log_entry.specs.declared.item.Flag.TheVariants.{Needed, InProcess, Co
 use Rattle.log_entry.specs.declared.item.LogItem.{LogItem}
 use Rattle.log_entry.specs.declared.item.LogItem.TheVariants.{Write, Size, Add, Forget}
 
-flag_one : (f g : Flag) → flag_number f ≡ flag_number g → f ≡ g
+pub flag_one : (f g : Flag) → flag_number f ≡ flag_number g → f ≡ g
 flag_one Needed Needed e = refl
 flag_one InProcess InProcess e = refl
 flag_one Complete Complete e = refl
@@ -25,7 +24,7 @@ flag_one InProcess Complete e = absurd (omega arith)
 flag_one Complete Needed e = absurd (omega arith)
 flag_one Complete InProcess e = absurd (omega arith)
 
-byte_below : (name : List ℕ) (j : ℕ) → All IsNameByte name → slice_index name j < 256
+pub byte_below : (name : List ℕ) (j : ℕ) → All IsNameByte name → slice_index name j < 256
 byte_below name j all = elim (cases_lt j (length name)) [
   | inl lt ↦ (all j 0 lt).byte
   | inr past ↦ let none : slice_index name j ≡ 0 = get_or_past name j 0 past in omega arith

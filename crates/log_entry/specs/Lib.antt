@@ -1,2 +1,5 @@
+pub mod Fronts
+pub mod Laws
 pub mod Name
+pub mod Reading
 pub mod Spelling

@@ -2,7 +2,12 @@
 #![tactic(auto)]
 
 pub mod item;
+pub mod laws;
 pub mod name;
+pub mod read;
+pub mod write;
 
-pub use item::{Flag, LogItem};
-pub use name::Name;
+pub use item::{Flag, LogItem, is_spelled};
+pub use name::{Name, NameFault, is_legal};
+pub use read::{Front, read_front, read_item};
+pub use write::{slots_of, write_item};

@@ -1,0 +1,2 @@
+//! The opening of an image that holds one empty file.
+#![tactic(auto)]
