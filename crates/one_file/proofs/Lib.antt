@@ -1,1 +1,4 @@
 pub mod FirstDisk
+pub mod FirstWords
+pub mod Inside
+pub mod FirstSlot

@@ -46,6 +46,15 @@ HasNoRows w g = (slot : ℕ) → slot < directs g → IsEmptySlot w g slot
 abbrev pub HasNoPointers : List ℕ → Geometry → Type 0
 HasNoPointers w g = (page : ℕ) → page < g.pages → slice_index w (pointer_word g page) ≡ 0
 
+-- all but the name stands as in a first image
+pub record HasFirstTable (w : List ℕ) (g : Geometry) : Type 0 where
+  pub gate : IsGateClosed w
+  pub root : HasFirstRoot w g
+  pub file : HasEmptyFile w
+  pub inodes : HasFreeInodes w g
+  pub slots : HasNoRows w g
+  pub pointers : HasNoPointers w g
+
 -- the root's slot says that this is the name of inode 1
 pub record HasFirstName (w : List ℕ) (g : Geometry) (name : List ℕ) : Type 0 where
   pub legal : IsLegal name
