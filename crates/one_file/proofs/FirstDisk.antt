@@ -1,6 +1,6 @@
 -- The first disk makes sense, has one empty file, and all its data pages but the first are free.
 use Rattle.std.proofs.Common.{◌≡◌, ◌≢◌, ◌⊎◌, inl, inr, ⊎_elim, ℕ, zero, suc, ◌+◌, ◌-◌, ◌*◌, ◌/◌, ◌%◌, ◌<◌, ◌≤◌, Bool, true, false, List, [], ◌∷◌, ◌++◌, length, map, refl, sym, ◌∙◌, ap, subst, arith, append-nil}
-use Rattle.std.specs.Prelude.{slice_index, slice_get, if◌then◌else◌, Option, Some, None, is_some, ◌↔◌, IsNone, IsSome, All, Contains}
+use Rattle.std.specs.Prelude.{slice_index, slice_get, if◌then◌else◌, Option, Some, None, is_some, IsNone, IsSome, All, Contains}
 use Rattle.std.specs.Option.{option_map}
 use Rattle.std.proofs.lemmas.Bool.{cases_eq}
 use Rattle.std.proofs.lemmas.List.Elements.{All-nil, All-cons}
@@ -121,7 +121,7 @@ module _ (g : Geometry) (name : List ℕ) where
     unmapped = mappings-first page;
   }
 
-  past_free : (page : ℕ) → 2 ≤ g.inodes → IsFree d page → (first_data g + 1 ≤ page) × (page < g.pages)
+  pub past_free : (page : ℕ) → 2 ≤ g.inodes → IsFree d page → (first_data g + 1 ≤ page) × (page < g.pages)
   past_free page some free = elim (cases_eq page (first_data g)) [
     | inl e ↦ absurd (free.in_no_log (subst (IsLogPage d) (sym e) (log_page some)))
     | inr ne ↦ (omega (arith, free.data_page.low), free.data_page.high)
@@ -199,7 +199,3 @@ module _ (g : Geometry) (name : List ℕ) (accepted : IsAccepted g) (legal : IsL
     near = no_rows (All (IsNear (first_disk g name))) (All-nil (IsNear (first_disk g name)));
     roomy = (first_data g + 1, first_data g + 2, (λ e. omega arith), free_past g name (first_data g + 1) (omega arith) (omega (arith, accepted.room)), free_past g name (first_data g + 2) (omega arith) (omega (arith, accepted.room)));
   }
-
-  -- the free pages
-  pub first_free : (page : ℕ) → IsFree (first_disk g name) page ↔ ((first_data g + 1 ≤ page) × (page < g.pages))
-  first_free page = (past_free g name page (omega (arith, accepted.inodes)), λ range. free_past g name page range.0 range.1)

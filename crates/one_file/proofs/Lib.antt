@@ -2,3 +2,4 @@ pub mod FirstDisk
 pub mod FirstWords
 pub mod Inside
 pub mod FirstSlot
+pub mod FirstImage
