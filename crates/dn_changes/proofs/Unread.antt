@@ -182,11 +182,11 @@ module _ (g : Geometry) where
       let split : prefix_bits g ≡ 6 + (prefix_bits g - 6) = omega arith in
       ap (λ (n : ℕ). 2 ^ n) split ∙ pow-add 2 6 (prefix_bits g - 6)
 
-  slot_word_low : (slot field : ℕ) → slot < slots g → field < 8 → slot_word g slot field < 512 * first_data g
+  pub slot_word_low : (slot field : ℕ) → slot < slots g → field < 8 → slot_word g slot field < 512 * first_data g
   unfolding first_data
   slot_word_low slot field lt small = omega (arith, directs_fill)
 
-  pointer_word_low : (page : ℕ) → page < g.pages → pointer_word g page < 512 * first_data g
+  pub pointer_word_low : (page : ℕ) → page < g.pages → pointer_word g page < 512 * first_data g
   unfolding first_data pointer_word
   pointer_word_low page lt = omega arith
 

@@ -1,0 +1,5 @@
+pub mod FirstDisk
+pub mod FirstWords
+pub mod Inside
+pub mod FirstSlot
+pub mod FirstImage
