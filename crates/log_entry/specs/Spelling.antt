@@ -1,5 +1,5 @@
 -- How items of a log are spelled: each takes one or more slots of eight words.
-use Rattle.std.specs.Prelude.{◌≡◌, ℕ, zero, suc, ◌+◌, ◌-◌, ◌*◌, ◌/◌, ◌^◌, ◌<◌, ◌≤◌, List, [], ◌∷◌, ◌++◌, length, map, slice_index}
+use Rattle.std.specs.Prelude.{ℕ, zero, suc, ◌+◌, ◌-◌, ◌*◌, ◌/◌, ◌^◌, ◌<◌, ◌≤◌, List, [], ◌∷◌, length, map, slice_index}
 use Rattle.std.specs.List.{range_with_len, flat_map}
 use Rattle.log_entry.specs.Name.{IsLegal}
 use Rattle.log_entry.specs.declared.item.Flag.{Flag}
@@ -29,6 +29,10 @@ more_slots name k (suc n) = (5 ∷ name_words name k 7) ∷ more_slots name (k +
 -- how many of them a name needs
 abbrev pub more_count : List ℕ → ℕ
 more_count name = (length name - 40 + 55) / 56
+
+-- the slots of an item of this kind that has a name
+abbrev pub name_slots : ℕ → ℕ → List ℕ → List (List ℕ)
+name_slots kind ino name = (kind ∷ ino ∷ length name ∷ name_words name 0 5) ∷ more_slots name 5 (more_count name)
 
 -- the slots of an item
 unfoldable pub spelling : LogItem → List (List ℕ)

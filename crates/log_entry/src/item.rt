@@ -1,32 +1,116 @@
 // Items of a log.
-use crate::name::Name;
+ghost use Rattle.std.specs.Prelude.{◌≡◌, IfOk, IfSome, IsNone, ℕ, ◌≢◌};
 
-/// How far the daemon is with a Write.
+use crate::name::Name;
+use std::alloc::AllocError;
+
+/// How far the daemon is with the pages of a Write.
 #[derive(Clone, Copy, Debug, PartialEq, Eq)]
 pub enum Flag {
+    /// The pages are still to be compared with those that are shared.
     Needed,
+    /// The daemon has begun with them.
     InProcess,
+    /// The daemon is done with them.
     Complete,
 }
 
+impl Flag {
+    ghost use Rattle.log_entry.specs.Spelling.{flag_number};
+
+    /// The flag's word in a log: 1 needed, 2 in process, 3 complete.
+    pub fn number(self) -> u64
+        ensures { result ≡ flag_number self }
+    {
+        match self {
+            Flag::Needed => 1,
+            Flag::InProcess => 2,
+            Flag::Complete => 3,
+        }
+    }
+
+    /// The flag of this word, or None where the word stands for no flag.
+    pub fn of_number(number: u64) -> Option<Flag>
+        ensures some { IfSome result (λ flag. flag_number flag ≡ number) }
+        ensures none { IsNone result → (flag : Flag) → flag_number flag ≢ number }
+    {
+        match number {
+            1 => Some(Flag::Needed),
+            2 => Some(Flag::InProcess),
+            3 => Some(Flag::Complete),
+            _ => None,
+        }
+    }
+}
+
+/// One entry of an inode's log. What a file or the root holds is what the items of its log say, in
+/// order, as in the log-structured file system NOVA (FAST 2016).
 #[derive(Debug, Drop)]
 pub enum LogItem {
+    /// Pages of a file have new bytes.
     Write {
+        /// The first page of the file that is written.
         first: u64,
+        /// How many pages, 1 to 17.
         count: u64,
+        /// The page of the image that holds the first; the others follow it.
         block: u64,
+        /// The size of the file from now on, in bytes, at most 16,777,216.
         size: u64,
+        /// How far the daemon is with these pages.
         flag: Flag,
+        /// Bit i says that the daemon left page `first + i` alone.
         mask: u64,
     },
+    /// A file has a new size.
     Size {
+        /// The size of the file from now on, in bytes, at most 16,777,216.
         size: u64,
     },
+    /// A name stands for an inode from now on.
     Add {
+        /// The number of the inode.
         ino: u64,
+        /// The name.
         name: Name,
     },
+    /// A name stands for nothing from now on.
     Forget {
+        /// The name.
         name: Name,
     },
+}
+
+impl Clone for LogItem {
+    ghost is_clone = { λ item copy. copy ≡ item };
+
+    fn clone(&self) -> Result<LogItem, AllocError>
+        ensures { IfOk result (λ copy. copy ≡ self.now) }
+    {
+        match self {
+            LogItem::Write {
+                first,
+                count,
+                block,
+                size,
+                flag,
+                mask,
+            } => Ok(LogItem::Write {
+                first: *first,
+                count: *count,
+                block: *block,
+                size: *size,
+                flag: *flag,
+                mask: *mask,
+            }),
+            LogItem::Size { size } => Ok(LogItem::Size { size: *size }),
+            LogItem::Add { ino, name } => Ok(LogItem::Add {
+                ino: *ino,
+                name: name.clone()?,
+            }),
+            LogItem::Forget { name } => Ok(LogItem::Forget {
+                name: name.clone()?,
+            }),
+        }
+    }
 }

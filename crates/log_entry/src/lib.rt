@@ -3,6 +3,8 @@
 
 pub mod item;
 pub mod name;
+pub mod write;
 
 pub use item::{Flag, LogItem};
-pub use name::Name;
+pub use name::{Name, NameFault, is_legal};
+pub use write::{slots_of, write_item};
