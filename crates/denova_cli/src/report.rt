@@ -1,0 +1,214 @@
+// The texts that the program writes.
+ghost use Rattle.std.specs.Prelude.{◌≡◌, ◌++◌, List, length, OnOk};
+ghost use Rattle.std.specs.List.{flat_map};
+ghost use Rattle.denova_cli.specs.Report.{spaced, spaced_number, spaced_digits, bytes_text, names_text, refusal_text, reply_text, history_line, line_end, last_line, bad_line_text};
+
+use dn_model::{Refusal, Reply};
+use itoa::Buffer;
+use log_entry::Name;
+use std::alloc::AllocError;
+
+/// What is written where the words give no command.
+pub const USAGE: &[u8] = b"usage\n";
+
+/// What is written where the image is one that isn't served yet.
+pub const UNBUILT: &[u8] = b"refused unbuilt\n";
+
+/// What is written behind the history lines where the device stopped.
+pub const STOPPED: &[u8] = b"stopped\n";
+
+/// What is written where the job couldn't be read.
+pub const READ_FAULT: &[u8] = b"read-fault\n";
+
+/// What is written where memory ran out.
+pub const NO_MEMORY: &[u8] = b"no-memory\n";
+
+/// What is written where the job is too long.
+pub const TOO_LONG: &[u8] = b"too-long\n";
+
+// Each function below appends to the text. Where memory runs out it has appended an unknown part, and the text is
+// of no use any more.
+
+fn write_word(text: &mut Vec<u8>, word: &[u8]) -> Result<(), AllocError>
+    ensures { OnOk result (text.new.items ≡ text.old.items ++ spaced word.now) }
+{
+    text.push(b' ')?;
+    text.extend_from_slice(word)
+}
+
+fn write_number(text: &mut Vec<u8>, number: u64) -> Result<(), AllocError>
+    ensures { OnOk result (text.new.items ≡ text.old.items ++ spaced_number number) }
+{
+    let mut buffer = Buffer::new();
+    write_word(text, buffer.format(number).as_bytes())
+}
+
+fn end_line(text: &mut Vec<u8>) -> Result<(), AllocError>
+    ensures { OnOk result (text.new.items ≡ text.old.items ++ line_end) }
+{
+    text.push(b'\n')?;
+    Ok(())
+}
+
+fn write_digits(text: &mut Vec<u8>, bytes: &[u8]) -> Result<(), AllocError>
+    ensures { OnOk result (text.new.items ≡ text.old.items ++ spaced_digits bytes.now) }
+{
+    if bytes.is_empty() {
+        return Ok(());
+    }
+    let digits = hex::encode(*text.allocator(), bytes)?;
+    write_word(text, digits.as_bytes())
+}
+
+fn write_bytes(text: &mut Vec<u8>, bytes: &[u8]) -> Result<(), AllocError>
+    ensures { OnOk result (text.new.items ≡ text.old.items ++ bytes_text bytes.now) }
+{
+    text.extend_from_slice(b"bytes")?;
+    write_number(text, bytes.len() as u64)?;
+    write_digits(text, bytes)
+}
+
+fn write_names(text: &mut Vec<u8>, names: &[Name]) -> Result<(), AllocError>
+    ensures { OnOk result (text.new.items ≡ text.old.items ++ names_text names.now) }
+{
+    text.extend_from_slice(b"names")?;
+    write_number(text, names.len() as u64)?;
+    for name in names {
+        write_word(text, name.bytes())?;
+    }
+    Ok(())
+}
+
+fn write_refusal(text: &mut Vec<u8>, refusal: Refusal) -> Result<(), AllocError>
+    ensures { OnOk result (text.new.items ≡ text.old.items ++ refusal_text refusal) }
+{
+    match refusal {
+        Refusal::BadName => text.extend_from_slice(b"bad-name"),
+        Refusal::NotFound => text.extend_from_slice(b"not-found"),
+        Refusal::Exists => text.extend_from_slice(b"exists"),
+        Refusal::TooLong => text.extend_from_slice(b"too-long"),
+        Refusal::TooBig => text.extend_from_slice(b"too-big"),
+        Refusal::NoInode => text.extend_from_slice(b"no-inode"),
+        Refusal::NoSpace { needed, free } => {
+            text.extend_from_slice(b"no-space")?;
+            write_number(text, needed)?;
+            write_number(text, free)
+        }
+    }
+}
+
+fn write_reply(text: &mut Vec<u8>, reply: &Reply) -> Result<(), AllocError>
+    ensures { OnOk result (text.new.items ≡ text.old.items ++ reply_text reply.now) }
+{
+    match reply {
+        Reply::Done => text.extend_from_slice(b"done"),
+        Reply::Bytes(bytes) => write_bytes(text, bytes.bytes()),
+        Reply::Number(number) => {
+            text.extend_from_slice(b"number")?;
+            write_number(text, *number)
+        }
+        Reply::Names(names) => write_names(text, names.names()),
+        Reply::Refused(refusal) => write_refusal(text, *refusal),
+    }
+}
+
+/// Appends the line of one operation that was answered: the client, its line of the job, counted from 1, and the
+/// reply.
+#[tactic(auto, unfolding(crate::specs::Report::history_line))]
+pub fn write_line(text: &mut Vec<u8>, who: u32, line: u64, reply: &Reply) -> Result<(), AllocError>
+    ensures { OnOk result (text.new.items ≡ text.old.items ++ history_line who line reply.now) }
+{
+    let mut buffer = Buffer::new();
+    text.extend_from_slice(buffer.format(who).as_bytes())?;
+    write_number(text, line)?;
+    text.push(b' ')?;
+    write_reply(text, reply)?;
+    end_line(text)
+}
+
+/// Appends the last line of a report: the number of history lines, and that of the free pages.
+pub fn write_end(text: &mut Vec<u8>, entries: u64, free: u64) -> Result<(), AllocError>
+    ensures { OnOk result (text.new.items ≡ text.old.items ++ last_line entries free) }
+{
+    text.extend_from_slice(b"end")?;
+    write_number(text, entries)?;
+    write_number(text, free)?;
+    end_line(text)
+}
+
+/// Appends what is written where this line of the job, counted from 1, is no command.
+pub fn write_bad_line(text: &mut Vec<u8>, line: u64) -> Result<(), AllocError>
+    ensures { OnOk result (text.new.items ≡ text.old.items ++ bad_line_text line) }
+{
+    text.extend_from_slice(b"bad-line")?;
+    write_number(text, line)?;
+    end_line(text)
+}
+
+#[cfg(test)]
+mod tests {
+    use super::*;
+    use dn_model::{ByteText, NameList};
+    use std::alloc::Global;
+    use std::test::Fail;
+
+    const WANTED: &str = "\
+1 1 done
+1 2 bytes 3 616263
+1 3 bytes 4 00099aff
+1 4 bytes 0
+1 5 number 18446744073709551615
+1 6 names 2 a b.c
+1 7 names 0
+1 8 bad-name
+1 9 not-found
+1 10 exists
+1 11 too-long
+1 12 too-big
+1 13 no-inode
+1 14 no-space 17 2
+end 14 55
+bad-line 100000
+end 0 57
+";
+
+    fn bytes(alloc: Global, bytes: &[u8]) -> Result<Reply, AllocError> {
+        Ok(Reply::Bytes(ByteText::of(Vec::from_slice(alloc, bytes)?)))
+    }
+
+    #[test]
+    fn each_reply_has_its_text(rt: HostRuntime) -> Result<(), Fail> {
+        let alloc = rt.alloc();
+        let names = vec![in alloc; Name::of(alloc, b"a")?, Name::of(alloc, b"b.c")?]?;
+        let replies = [
+            Reply::Done,
+            bytes(alloc, b"abc")?,
+            bytes(alloc, &[0, 9, 0x9a, 255])?,
+            bytes(alloc, &[])?,
+            Reply::Number(u64::MAX),
+            Reply::Names(NameList::of(names)),
+            Reply::Names(NameList::of(Vec::new(alloc))),
+            Reply::Refused(Refusal::BadName),
+            Reply::Refused(Refusal::NotFound),
+            Reply::Refused(Refusal::Exists),
+            Reply::Refused(Refusal::TooLong),
+            Reply::Refused(Refusal::TooBig),
+            Reply::Refused(Refusal::NoInode),
+            Reply::Refused(Refusal::NoSpace {
+                needed: 17,
+                free: 2,
+            }),
+        ];
+        let mut text = Vec::new(alloc);
+        let mut line = 0u64;
+        for reply in replies.iter() {
+            line = line.saturating_add(1);
+            write_line(&mut text, 1, line, reply)?;
+        }
+        write_end(&mut text, line, 55)?;
+        write_bad_line(&mut text, 100_000)?;
+        write_end(&mut text, 0, 57)?;
+        assert_eq!(rt; text.as_slice(), WANTED.as_bytes());
+        Ok(())
+    }
+}
