@@ -179,7 +179,7 @@ module _ (kept : List ℕ) (a : ℕ) where
   value_after-none : (v : ℕ) (es : List Entry) → value_after kept a v 0 es ≡ v
   value_after-none v [] = refl
   value_after-none v (Ran at from len ∷ es) =
-      elim (covers at len a) as (λ b. (if b && nat_lt 0 0 then value_after kept a (slice_index kept (from + (a - at))) (0 - 1) es else value_after kept a v 0 es) ≡ v)
+      elim (covers at len a) as (λ b. value_after kept a (if b && nat_lt 0 0 then slice_index kept (from + (a - at)) else v) (if b && nat_lt 0 0 then 0 - 1 else 0) es ≡ v)
       [ true ↦ value_after-none v es | false ↦ value_after-none v es ]
   value_after-none v (FlushedEntry who first lines ∷ es) = value_after-none v es
   value_after-none v (FencedEntry who ok ∷ es) = value_after-none v es
@@ -214,7 +214,7 @@ module _ (kept : List ℕ) (a : ℕ) where
     valued_by w v n false out some last lt =
         let same = stepped w at from len whole false out in
         let far : length w.values - 1 + suc n < length (steps a w (calls_of kept es)).values = subst (λ (u : Word). length w.values - 1 + suc n < length (steps a u (calls_of kept es)).values) same lt in
-        ap (λ b. if b && nat_lt 0 (suc n) then value_after kept a (slice_index kept (from + (a - at))) (suc n - 1) es else value_after kept a v (suc n) es) out
+        ap (λ b. value_after kept a (if b && nat_lt 0 (suc n) then slice_index kept (from + (a - at)) else v) (if b && nat_lt 0 (suc n) then suc n - 1 else suc n) es) out
         ∙ rest w v (suc n) some last far ∙ ap (λ (u : Word). slice_index (steps a u (calls_of kept es)).values (length w.values - 1 + suc n)) (sym same)
     valued_by w v n true in_run some last lt =
         let x = slice_index (take len (drop from kept)) (a - at) in
@@ -227,8 +227,8 @@ module _ (kept : List ℕ) (a : ℕ) where
         let newest : x ≡ slice_index (w.values ++ x ∷ []) (length (w.values ++ x ∷ []) - 1) = sym (get_or_at w.values x [] 0 (length (w.values ++ x ∷ []) - 1) (omega (arith, long))) in
         let more : nat_lt 0 (suc n) ≡ true = grind (arith, nat_tests) in
         let fewer : suc n - 1 ≡ n = omega arith in
-        ap (λ b. if b && nat_lt 0 (suc n) then value_after kept a (slice_index kept (from + (a - at))) (suc n - 1) es else value_after kept a v (suc n) es) in_run
-        ∙ ap (λ b. if b then value_after kept a (slice_index kept (from + (a - at))) (suc n - 1) es else value_after kept a v (suc n) es) more
+        ap (λ b. value_after kept a (if b && nat_lt 0 (suc n) then slice_index kept (from + (a - at)) else v) (if b && nat_lt 0 (suc n) then suc n - 1 else suc n) es) in_run
+        ∙ ap (λ b. value_after kept a (if b then slice_index kept (from + (a - at)) else v) (if b then suc n - 1 else suc n) es) more
         ∙ ap (λ y. value_after kept a y (suc n - 1) es) value
         ∙ ap (λ m. value_after kept a x m es) fewer
         ∙ rest (with_value w at from len whole x) x n (omega (arith, long)) newest far

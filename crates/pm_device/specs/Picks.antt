@@ -14,13 +14,14 @@ mixed pick a = let z = bit_xor pick (a * 11400714819323198485 % 2 ^ 64) in bit_x
 abbrev pub picked_place : (pick a n : ℕ) → ℕ
 picked_place pick a n = if pick == 0 then 0 else (if pick == 1 then n - 1 else mixed pick a % n)
 
-abbrev pub picked_value : (pick a : ℕ) → List ℕ → ℕ
-picked_value pick a values = slice_index values (picked_place pick a (length values))
+-- v is that which the pick takes among the values of word a that a stop may leave
+abbrev pub IsPickedWord : (pick a : ℕ) → Word → ℕ → Type 0
+IsPickedWord pick a w v = v ≡ slice_index (left_values w) (picked_place pick a (length (left_values w)))
 
--- each word of the image is that which the pick takes among those that a stop at moment m may leave there
+-- so it is in each word of an image
 pub record IsPicked (p : Past) (m pick : ℕ) (c : List ℕ) : Type 0 where
   pub size : length c ≡ length p.first
-  pub each : (a : ℕ) → a < length p.first → slice_index c a ≡ picked_value pick a (left_values (word_at p m a))
+  pub each : (a : ℕ) → a < length p.first → IsPickedWord pick a (word_at p m a) (slice_index c a)
 
 -- of a device that doesn't tell its past there is no such image
 abbrev pub Picked : Option Past → (m pick : ℕ) → List ℕ → Type 0

@@ -1,0 +1,60 @@
+// The image that a pick takes among those that a stop may leave. The record is read three times, and each word
+// has two numbers meanwhile: the place of its last value, and of the first that the stop may leave.
+ghost use Rattle.std.specs.Prelude.{◌≡◌, ℕ, ◌+◌, ◌-◌, ◌*◌, ◌^◌, ◌<◌, ◌≤◌, ◌&&◌, if◌then◌else◌, nat_lt, true, false, length, slice_index, vec_len, unwrap_or, IfOk, OnOk};
+ghost use Rattle.std.specs.List.{list_all};
+ghost use Rattle.std.specs.Ordering.{nat_cmp};
+ghost use Rattle.std.specs.BTreeMap.{get};
+ghost use Rattle.pm_device.specs.Past.{covers};
+ghost use Rattle.pm_device.specs.MemLog.{is_whole, is_inside};
+ghost use Rattle.pm_device.specs.Picks.{picked_place, IsPickedWord};
+ghost use Rattle.pm_device.specs.Replay.{fenced_by, is_flush_by, fenced_flushes, last_after, durable_after, is_applied, value_in, value_after, last_place, durable_place, IsReplay};
+
+use crate::entry::Entry;
+use crate::memory::put_values;
+use std::alloc::{AllocError, Global};
+use std::collections::BTreeMap;
+
+// Notes a fence as its actor's next. Answers whether the entry is a flush whose actor's next fence succeeds.
+fn note_fence(next: &mut BTreeMap<u32, bool>, entry: Entry) -> Result<bool, AllocError>
+    ensures flush { IfOk result (λ b. b ≡ is_flush_by (λ who. unwrap_or (get nat_cmp next.old who) false) entry) }
+    ensures next { OnOk result ((who : ℕ) → unwrap_or (get nat_cmp next.new who) false ≡ fenced_by who entry (unwrap_or (get nat_cmp next.old who) false)) }
+{
+    match entry {
+        Entry::Ran { .. } => Ok(false),
+        Entry::Flushed { who, .. } => Ok(next.get(&who).copied().unwrap_or(false)),
+        Entry::Fenced { who, ok } => {
+            next.insert(who, ok)?;
+            Ok(false)
+        }
+    }
+}
+
+// Which entries are flushes that a later one of them makes durable.
+fn fenced_flushes(alloc: Global, entries: &[Entry]) -> Result<Vec<bool>, AllocError>
+    ensures { IfOk result (λ v. v.items ≡ fenced_flushes entries.now) }
+{
+    let mut next = BTreeMap::new(alloc);
+    let mut flushes = vec![in alloc; false; entries.len()]?;
+    for k in (0..entries.len()).rev() {
+        flushes[k] = note_fence(&mut next, entries[k])?;
+    }
+    Ok(flushes)
+}
+
+#[derive(Drop)]
+struct Places {
+    last: Vec<u64>,
+    durable: Vec<u64>,
+    ghost lengths: { vec_len durable ≡ vec_len last },
+}
+
+fn add_one(counts: &mut Vec<u64>, at: usize, len: usize)
+    requires inside { at + len ≤ vec_len counts.old }
+    requires small { (a : ℕ) → slice_index counts.old.items a < 2 ^ 63 }
+    ensures each { (a : ℕ) → a < vec_len counts.old → slice_index counts.new.items a ≡ (if covers at len a then slice_index counts.old.items a + 1 else slice_index counts.old.items a) }
+    ensures len { vec_len counts.new ≡ vec_len counts.old }
+{
+    for a in at..at + len {
+        counts[a] += 1;
+    }
+}
