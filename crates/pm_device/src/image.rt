@@ -58,3 +58,48 @@ fn add_one(counts: &mut Vec<u64>, at: usize, len: usize)
         counts[a] += 1;
     }
 }
+
+impl Places {
+    // Nothing older than the last value of these words may be left in the end.
+    fn settle(&mut self, at: usize, len: usize)
+        requires inside { at + len ≤ vec_len self.old.last }
+        ensures each { (a : ℕ) → a < vec_len self.old.last → slice_index self.new.durable.items a ≡ (if covers at len a then slice_index self.old.last.items a else slice_index self.old.durable.items a) }
+        ensures last { self.new.last ≡ self.old.last }
+    {
+        let last = &self.last[at..at + len];
+        put_values(&mut self.durable, at, last);
+    }
+
+    fn note(&mut self, entry: Entry, fenced: bool)
+        requires inside { is_inside (vec_len self.old.last) entry ≡ true }
+        requires small { (a : ℕ) → slice_index self.old.last.items a < 2 ^ 63 }
+        ensures last { (a : ℕ) → a < vec_len self.old.last → slice_index self.new.last.items a ≡ last_after a (slice_index self.old.last.items a) entry }
+        ensures durable { (a : ℕ) → a < vec_len self.old.last → slice_index self.new.durable.items a ≡ durable_after a (slice_index self.old.last.items a) (slice_index self.old.durable.items a) entry fenced }
+        ensures len { vec_len self.new.last ≡ vec_len self.old.last }
+    {
+        match entry {
+            Entry::Ran { at, len, .. } => add_one(&mut self.last, at as usize, len),
+            Entry::Flushed { first, lines, .. } => {
+                if fenced {
+                    self.settle(8 * first as usize, 8 * lines as usize);
+                }
+            }
+            Entry::Fenced { .. } => {}
+        }
+    }
+}
+
+// The places of all words after these entries.
+fn find_places(alloc: Global, words: usize, entries: &[Entry], flushes: &[bool]) -> Result<Places, AllocError>
+    requires inside { list_all (is_inside words) entries.now ≡ true }
+    requires flushes { flushes.now ≡ fenced_flushes entries.now }
+    ensures { IfOk result (λ p. IsReplay words entries.now p.last.items p.durable.items) }
+{
+    let last = vec![in alloc; 0; words]?;
+    let durable = vec![in alloc; 0; words]?;
+    let mut places = Places { last, durable };
+    for k in 0..entries.len() {
+        places.note(entries[k], flushes[k]);
+    }
+    Ok(places)
+}
