@@ -103,3 +103,79 @@ fn find_places(alloc: Global, words: usize, entries: &[Entry], flushes: &[bool])
     }
     Ok(places)
 }
+
+// Which of `count` values word `a` has: the first for pick 0, the last for pick 1, else one by a number made of both.
+fn picked_place(pick: u64, a: u64, count: u64) -> u64
+    requires { 0 < count }
+    ensures value { result ≡ picked_place pick a count }
+    ensures within { result < count }
+{
+    match pick {
+        0 => 0,
+        1 => count - 1,
+        _ => {
+            let z = pick ^ a.wrapping_mul(11400714819323198485);
+            (z ^ (z >> 32)) % count
+        }
+    }
+}
+
+// The place that the pick takes in each word.
+fn choose(places: Places, pick: u64) -> Vec<u64>
+    requires small { (a : ℕ) → slice_index places.last.items a < 2 ^ 63 }
+    requires durable { (a : ℕ) → slice_index places.durable.items a ≤ slice_index places.last.items a }
+    ensures each { (a : ℕ) → a < vec_len places.last → slice_index result.items a ≡ slice_index places.durable.items a + picked_place pick a (slice_index places.last.items a - slice_index places.durable.items a + 1) }
+    ensures len { vec_len result ≡ vec_len places.last }
+{
+    let Places { last, durable } = places;
+    let mut chosen = durable;
+    for a in 0..last.len() {
+        let possible = last[a] - chosen[a] + 1;
+        chosen[a] += picked_place(pick, a as u64, possible);
+    }
+    chosen
+}
+
+// Stores a run to those of its words that have stores left to come.
+fn apply_run(image: &mut Vec<u64>, left: &mut Vec<u64>, at: usize, values: &[u64])
+    requires inside { at + length values.now ≤ vec_len image.old }
+    requires lengths { vec_len left.old ≡ vec_len image.old }
+    ensures values { (a : ℕ) → a < vec_len image.old → slice_index image.new.items a ≡ (if covers at (length values.now) a && nat_lt 0 (slice_index left.old.items a) then slice_index values.now (a - at) else slice_index image.old.items a) }
+    ensures left { (a : ℕ) → a < vec_len image.old → slice_index left.new.items a ≡ (if covers at (length values.now) a && nat_lt 0 (slice_index left.old.items a) then slice_index left.old.items a - 1 else slice_index left.old.items a) }
+    ensures image_len { vec_len image.new ≡ vec_len image.old }
+    ensures left_len { vec_len left.new ≡ vec_len left.old }
+{
+    for (k, value) in values.iter().enumerate() {
+        if left[at + k] > 0 {
+            left[at + k] -= 1;
+            image[at + k] = *value;
+        }
+    }
+}
+
+fn apply_entry(image: &mut Vec<u64>, left: &mut Vec<u64>, kept: &[u64], entry: Entry)
+    requires whole { is_whole (length kept.now) entry ≡ true }
+    requires inside { is_inside (vec_len image.old) entry ≡ true }
+    requires lengths { vec_len left.old ≡ vec_len image.old }
+    ensures values { (a : ℕ) → a < vec_len image.old → slice_index image.new.items a ≡ (if is_applied a (slice_index left.old.items a) entry then value_in kept.now a entry else slice_index image.old.items a) }
+    ensures left { (a : ℕ) → a < vec_len image.old → slice_index left.new.items a ≡ (if is_applied a (slice_index left.old.items a) entry then slice_index left.old.items a - 1 else slice_index left.old.items a) }
+    ensures image_len { vec_len image.new ≡ vec_len image.old }
+    ensures left_len { vec_len left.new ≡ vec_len left.old }
+{
+    if let Entry::Ran { at, from, len } = entry {
+        apply_run(image, left, at as usize, &kept[from..from + len]);
+    }
+}
+
+// Gives each word the value that it has after so many stores to it.
+fn apply(image: &mut Vec<u64>, left: &mut Vec<u64>, kept: &[u64], entries: &[Entry])
+    requires whole { list_all (is_whole (length kept.now)) entries.now ≡ true }
+    requires inside { list_all (is_inside (vec_len image.old)) entries.now ≡ true }
+    requires lengths { vec_len left.old ≡ vec_len image.old }
+    ensures each { (a : ℕ) → a < vec_len image.old → slice_index image.new.items a ≡ value_after kept.now a (slice_index image.old.items a) (slice_index left.old.items a) entries.now }
+    ensures len { vec_len image.new ≡ vec_len image.old }
+{
+    for k in 0..entries.len() {
+        apply_entry(image, left, kept, entries[k]);
+    }
+}
