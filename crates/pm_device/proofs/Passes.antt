@@ -41,7 +41,7 @@ flush_at [] k d b lt = absurd (omega arith)
 flush_at (e ∷ es) zero d b lt = refl
 flush_at (e ∷ es) (suc k) d b lt = let next : suc k + 1 ≡ suc (k + 1) = omega arith in rw next (flush_at es k d b (omega arith))
 
-last_after-le : (a n : ℕ) (e : Entry) → last_after a n e ≤ n + 1
+pub last_after-le : (a n : ℕ) (e : Entry) → last_after a n e ≤ n + 1
 last_after-le a n (Ran at from len) = elim (covers at len a) as (λ b. (if b then n + 1 else n) ≤ n + 1) [ true ↦ omega arith | false ↦ omega arith ]
 last_after-le a n (FlushedEntry who first lines) = omega arith
 last_after-le a n (FencedEntry who ok) = omega arith

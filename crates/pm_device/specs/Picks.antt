@@ -1,6 +1,6 @@
 -- The image that a pick takes among those that a stop may leave.
 use Rattle.std.specs.Prelude.{◌≡◌, ℕ, ◌-◌, ◌*◌, ◌/◌, ◌%◌, ◌^◌, ◌<◌, ◌==◌, if◌then◌else◌, bit_xor, List, length, drop, slice_index, Option, Some, None}
-use Rattle.pm_device.specs.Past.{Past, Word, word_at}
+use Rattle.pm_device.specs.Past.{Call, Past, Word, fresh, steps, word_at}
 
 -- the values of a word that a stop may leave, in the order of their stores
 abbrev pub left_values : Word → List ℕ
@@ -27,3 +27,8 @@ pub record IsPicked (p : Past) (m pick : ℕ) (c : List ℕ) : Type 0 where
 abbrev pub Picked : Option Past → (m pick : ℕ) → List ℕ → Type 0
 Picked None m pick c = ⊥
 Picked (Some p) m pick c = IsPicked p m pick c
+
+-- so it is after these calls, in each word of an image
+pub record PicksOf (first : List ℕ) (calls : List Call) (pick : ℕ) (c : List ℕ) : Type 0 where
+  pub size : length c ≡ length first
+  pub each : (a : ℕ) → a < length first → IsPickedWord pick a (steps a (fresh (slice_index first a)) calls) (slice_index c a)

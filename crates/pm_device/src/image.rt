@@ -5,8 +5,8 @@ ghost use Rattle.std.specs.List.{list_all};
 ghost use Rattle.std.specs.Ordering.{nat_cmp};
 ghost use Rattle.std.specs.BTreeMap.{get};
 ghost use Rattle.pm_device.specs.Past.{covers};
-ghost use Rattle.pm_device.specs.MemLog.{is_whole, is_inside};
-ghost use Rattle.pm_device.specs.Picks.{picked_place, IsPickedWord};
+ghost use Rattle.pm_device.specs.MemLog.{calls_of, is_whole, is_inside};
+ghost use Rattle.pm_device.specs.Picks.{picked_place, PicksOf};
 ghost use Rattle.pm_device.specs.Replay.{fenced_by, is_flush_by, fenced_flushes, last_after, durable_after, is_applied, value_in, value_after, last_place, durable_place, IsReplay};
 
 use crate::entry::Entry;
@@ -178,4 +178,18 @@ fn apply(image: &mut Vec<u64>, left: &mut Vec<u64>, kept: &[u64], entries: &[Ent
     for k in 0..entries.len() {
         apply_entry(image, left, kept, entries[k]);
     }
+}
+
+/// The image that a pick takes after these entries.
+pub(crate) fn picked_image(alloc: Global, first: &[u64], kept: &[u64], entries: &[Entry], pick: u64) -> Result<Vec<u64>, AllocError>
+    requires whole { list_all (is_whole (length kept.now)) entries.now ≡ true }
+    requires inside { list_all (is_inside (length first.now)) entries.now ≡ true }
+    ensures { IfOk result (λ v. PicksOf first.now (calls_of kept.now entries.now) pick v.items) }
+{
+    let flushes = fenced_flushes(alloc, entries)?;
+    let places = find_places(alloc, first.len(), entries, &flushes)?;
+    let mut left = choose(places, pick);
+    let mut image = Vec::from_slice(alloc, first)?;
+    apply(&mut image, &mut left, kept, entries);
+    Ok(image)
 }
