@@ -1,11 +1,11 @@
 -- What each call leaves flushed.
-use Rattle.std.proofs.Common.{◌≡◌, ◌≢◌, inl, inr, ℕ, ◌+◌, ◌-◌, ◌*◌, ◌<◌, ◌≤◌, max, Bool, true, false, List, [], ◌∷◌, ◌++◌, length, refl, sym, ◌∙◌, ap, subst, arith}
+use Rattle.std.proofs.Common.{◌≡◌, ◌≢◌, inl, inr, ℕ, ◌-◌, ◌*◌, ◌≤◌, max, Bool, true, false, List, length, sym, ◌∙◌, ap, subst, arith}
 use Rattle.std.specs.Prelude.{slice_index, Option, Some, None, if◌then◌else◌, ◌==◌}
 use Rattle.std.proofs.lemmas.Bool.{cases_eq}
 use Rattle.std.proofs.lemmas.Bool.Decides.{nat_tests}
 use Rattle.pm_device.specs.Past.{Call, Stored, Flushed, Fenced, Word, Past, covers, step}
-use Rattle.pm_device.specs.State.{State, Stores, Flushes, Fences, after}
-use Rattle.pm_device.specs.Settled.{Each, EachOnceFenced, OfWord, IsRead, IsSettled, IsFlushed, KeepsFlushed, Anyone, Others, word_now}
+use Rattle.pm_device.specs.State.{State, IsSame, Stores, Flushes, Fences, after}
+use Rattle.pm_device.specs.Settled.{EachOnceFenced, OfWord, IsRead, IsFlushed, KeepsFlushed, Anyone, Others, word_now}
 use Rattle.pm_device.specs.MemLaws.{IsPlaced, placed_now}
 use Rattle.pm_device.specs.Words.{IsIn, each_fenced-store_out}
 use Rattle.pm_device.proofs.Calls.{word_now-after, read-store_out, flushed-fence, settled_is_flushed}
@@ -76,6 +76,13 @@ keeps-fence_ok Q W s t who ok went fences = record {
 
 pub keeps-none : (Q W : ℕ → Type 0) (s : State) → KeepsFlushed Q W s s
 keeps-none Q W s = record { flushed = λ q a any out flushed. flushed }
+
+pub keeps-same : (Q W : ℕ → Type 0) (s t : State) → IsSame s t → KeepsFlushed Q W s t
+keeps-same Q W s t same = record {
+  flushed = λ q a any out flushed.
+      subst (λ (o : Option Past). OfWord o a (EachOnceFenced q (IsRead t a))) (sym same.past)
+      (subst (λ (xs : List ℕ). OfWord s.past a (EachOnceFenced q (λ v. v ≡ slice_index xs a))) (sym same.now) flushed);
+}
 
 pub keeps-then : (Q W : ℕ → Type 0) (s t u : State) → KeepsFlushed Q W s t → KeepsFlushed Q W t u → KeepsFlushed Q W s u
 keeps-then Q W s t u first next = record { flushed = λ q a any out flushed. next.flushed q a any out (first.flushed q a any out flushed) }

@@ -1,17 +1,27 @@
 -- What layers above a device say of runs of its calls.
-use Rattle.std.proofs.Common.{◌≡◌, ◌≢◌, ◌⊎◌, inl, inr, ⊎_elim, ℕ, ◌+◌, ◌-◌, ◌<◌, ◌≤◌, Bool, true, List, length, refl, sym, ◌∙◌, ap, subst, arith}
-use Rattle.std.specs.Prelude.{slice_index, Option, Some, None}
+use Rattle.std.proofs.Common.{◌≡◌, ◌⊎◌, inl, inr, ⊎_elim, ℕ, zero, suc, ◌+◌, ◌-◌, ◌<◌, ◌≤◌, Bool, true, List, [], ◌∷◌, length, refl, sym, ◌∙◌, ap, subst, arith}
+use Rattle.std.specs.Prelude.{slice_index, Option}
 use Rattle.std.proofs.lemmas.Bool.{cases_lt}
-use Rattle.pm_device.specs.Past.{Past, Left, moment}
+use Rattle.pm_device.specs.Past.{Past, moment, word_at}
 use Rattle.pm_device.specs.State.{State, Fences, Agree}
-use Rattle.pm_device.specs.Settled.{IsSettled, IsFlushed, IsRead, Extends, IsOldBut, LeavesOnly, LeavesNow, StoresOnly, KeepsFlushed, Nowhere}
+use Rattle.pm_device.specs.Settled.{Each, OfWord, IsSettled, IsFlushed, IsRead, IsOldBut, LeavesOnly, LeavesNow, StoresOnly, KeepsFlushed}
 use Rattle.pm_device.specs.Reading.{Reads, Stands, IsReady}
 use Rattle.pm_device.specs.Commit.{Settles}
+use Rattle.pm_device.specs.New.{IsNew}
 use Rattle.pm_device.specs.Pages.{HoldsRun, SaysRun}
 use Rattle.pm_device.proofs.Calls.{settled_is_flushed, settled-fence, flushed-fence, image_has}
-use Rattle.pm_device.proofs.Moments.{leaves_only-weaken}
 use Rattle.pm_device.proofs.Only.{left-extends, extends_then}
 use Rattle.pm_device.proofs.OneWord.{settled_if_left, reads-stores}
+
+-- each word of a new device is settled
+pub settled_new : (words : List ℕ) (s : State) (a : ℕ) → IsNew words s → IsSettled s a
+unfolding word_at
+settled_new words s a new =
+    subst (λ (o : Option Past). OfWord o a (Each (IsRead s a))) (sym new.past) (λ i late lt. only_first i lt ∙ ap (λ xs. slice_index xs a) (sym new.now))
+  where
+    only_first : (i : ℕ) → i < 1 → slice_index (slice_index words a ∷ []) i ≡ slice_index words a
+    only_first zero lt = refl
+    only_first (suc i) lt = absurd (omega (arith, lt))
 
 -- one run of calls after another
 pub leaves_only-then : (s t u : State) (P : List ℕ → Type 0) → LeavesOnly s t P → LeavesOnly t u P → LeavesOnly s u P

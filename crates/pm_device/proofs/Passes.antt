@@ -1,12 +1,9 @@
 -- One entry more, in each of the walks over a record.
-use Rattle.std.proofs.Common.{◌≡◌, ◌≢◌, ◌⊎◌, inl, inr, ℕ, zero, suc, ◌+◌, ◌-◌, ◌*◌, ◌<◌, ◌≤◌, Bool, true, false, List, [], ◌∷◌, length, get_or, set, take, drop, refl, sym, ◌∙◌, ap, subst, arith, length-drop, length-take-le, get_or-take, get_or-drop}
+use Rattle.std.proofs.Common.{◌≡◌, inl, inr, ℕ, zero, suc, ◌+◌, ◌<◌, ◌≤◌, Bool, true, false, List, [], ◌∷◌, length, get_or, set, drop, refl, sym, ◌∙◌, ap, arith}
 use Rattle.std.specs.Prelude.{slice_index, if◌then◌else◌}
 use Rattle.std.proofs.lemmas.Bool.{cases_lt}
 use Rattle.std.proofs.lemmas.List.{drop_more, drop-set, get_or_past}
 use Rattle.pm_device.specs.Past.{covers}
-use Rattle.pm_device.specs.State.{put_run}
-use Rattle.pm_device.specs.Words.{IsIn, covers_in, covers_out, cases_in}
-use Rattle.pm_device.specs.Runs.{put_run_in, put_run_out, length-put_run}
 use Rattle.pm_device.specs.Replay.{fenced_by, is_fenced, is_flush_by, fenced_flushes, last_after, durable_after, last_place, durable_place}
 use Rattle.pm_device.specs.declared.entry.Entry.{Entry}
 use Rattle.pm_device.specs.declared.entry.Entry.TheVariants.{Ran, Flushed as FlushedEntry, Fenced as FencedEntry}
@@ -64,22 +61,3 @@ module _ (es : List Entry) (k : ℕ) (d : Entry) (lt : k < length es) where
       ap (λ m. durable_place a m s' (drop (k + 1) es)) is
       ∙ ap (λ m. durable_place a (last_after a n (get_or es k d)) m (drop (k + 1) es)) (moved ∙ ap (durable_after a n s (get_or es k d)) (ap (λ bs. get_or bs k b) all ∙ flush_at es k d b lt))
       ∙ sym (ap (durable_place a n s) (drop_more es k d lt))
-
--- a run of values copied from one list to the same places of another
-module _ (xs ys zs new : List ℕ) (at len : ℕ) (fits : at + len ≤ length ys) (same : length xs ≡ length ys) (read : zs ≡ ys) (is : new ≡ put_run xs at (take (at + len - at) (drop at zs))) where
-  pub length-copied : length new ≡ length ys
-  length-copied = ap length is ∙ length-put_run xs at (take (at + len - at) (drop at zs)) ∙ same
-
-  long : length (take (at + len - at) (drop at ys)) ≡ len
-  long = length-take-le (at + len - at) (drop at ys) (omega (arith, fits, length-drop at ys)) ∙ omega arith
-
-  pub copied : (a : ℕ) → a < length ys → slice_index new a ≡ (if covers at len a then slice_index ys a else slice_index xs a)
-  copied a lt = ap (λ vs. slice_index vs a) (is ∙ ap (λ vs. put_run xs at (take (at + len - at) (drop at vs))) read) ∙ elim (cases_in at len a) [
-    | inl in_run ↦
-        rw (covers_in at len a in_run.0 in_run.1)
-        (put_run_in xs at (take (at + len - at) (drop at ys)) a in_run.0 (omega (arith, in_run.1, long)) (omega (arith, lt, same))
-        ∙ get_or-take (at + len - at) (drop at ys) (a - at) 0 (omega (arith, in_run.0, in_run.1)) ∙ get_or-drop at ys (a - at) 0 ∙ ap (slice_index ys) (omega (arith, in_run.0)))
-    | inr out ↦
-        rw (covers_out at len a out)
-        (put_run_out xs at (take (at + len - at) (drop at ys)) a (λ h. out (h.0, omega (arith, h.1, long))))
-  ]

@@ -1,11 +1,10 @@
 -- The image of a pick is one of those that a stop may leave.
-use Rattle.std.proofs.Common.{◌≡◌, ◌≢◌, ◌⊎◌, inl, inr, ℕ, ◌+◌, ◌-◌, ◌%◌, ◌<◌, ◌≤◌, Bool, true, false, List, [], ◌∷◌, length, take, drop, refl, sym, ◌∙◌, ap, subst, arith, length-drop, get_or-drop}
-use Rattle.std.specs.Prelude.{slice_index, if◌then◌else◌, ◌==◌, ◌&&◌}
+use Rattle.std.proofs.Common.{◌≡◌, inl, ℕ, ◌+◌, ◌-◌, ◌%◌, ◌<◌, ◌≤◌, Bool, true, false, List, [], ◌∷◌, length, take, drop, refl, sym, ◌∙◌, ap, subst, arith, length-drop, get_or-drop}
+use Rattle.std.specs.Prelude.{slice_index, if◌then◌else◌, ◌==◌}
 use Rattle.std.specs.List.{list_all}
 use Rattle.std.proofs.lemmas.List.{take-append-drop}
 use Rattle.std.proofs.lemmas.List.Folds.{list_all-append}
-use Rattle.std.proofs.lemmas.Bool.Decides.{nat_tests}
-use Rattle.pm_device.specs.Past.{Call, Word, Past, MayHold, LeftOf, steps, fresh, word_at}
+use Rattle.pm_device.specs.Past.{Call, Word, Past, LeftOf, steps, fresh, word_at}
 use Rattle.pm_device.specs.MemLaws.{IsPlaced, placed-steps}
 use Rattle.pm_device.specs.MemLog.{calls_of, is_whole}
 use Rattle.pm_device.specs.Picks.{left_values, mixed, picked_place, IsPickedWord, IsPicked, PicksOf}
@@ -13,7 +12,7 @@ use Rattle.pm_device.specs.Replay.{last_after, last_place, durable_place, value_
 use Rattle.pm_device.specs.declared.entry.Entry.{Entry}
 use Rattle.pm_device.proofs.Remembered.{and_both}
 use Rattle.pm_device.proofs.Passes.{last_after-le}
-use Rattle.pm_device.proofs.Replayed.{Reaches, reaches, valued}
+use Rattle.pm_device.proofs.Replayed.{reaches, valued}
 
 pub picked_place-lt : (pick a n : ℕ) → 0 < n → picked_place pick a n < n
 picked_place-lt pick a n some = by_first (pick == 0) (pick == 1)

@@ -1,13 +1,13 @@
 -- What a record leaves of one word, found with no look at the flushes of each actor.
 use Rattle.std.proofs.Common.{◌≡◌, ◌≢◌, ◌⊎◌, inl, inr, ⊎_elim, ℕ, zero, suc, ◌+◌, ◌-◌, ◌*◌, ◌<◌, ◌≤◌, max, Bool, true, false, List, [], ◌∷◌, ◌++◌, length, take, drop, refl, sym, ◌∙◌, ap, subst, arith, length-append, length-drop, length-take-le, get_or-take, get_or-drop}
-use Rattle.std.specs.Prelude.{slice_index, if◌then◌else◌, ◌==◌, ◌&&◌, nat_lt, nat_le}
+use Rattle.std.specs.Prelude.{slice_index, if◌then◌else◌, ◌==◌, ◌&&◌, nat_lt}
 use Rattle.std.specs.List.{list_all}
-use Rattle.std.proofs.lemmas.Bool.{cases_eq, cases_lt}
+use Rattle.std.proofs.lemmas.Bool.{cases_eq}
 use Rattle.std.proofs.lemmas.List.{get_or_append_left, get_or_at}
 use Rattle.std.proofs.lemmas.Bool.Decides.{nat_tests}
 use Rattle.pm_device.specs.Past.{Call, Stored, Flushed, Fenced, Word, covers, step, steps}
 use Rattle.pm_device.specs.MemLaws.{IsPlaced, placed-step}
-use Rattle.pm_device.specs.MemLog.{call_of, calls_of, is_whole}
+use Rattle.pm_device.specs.MemLog.{calls_of, is_whole}
 use Rattle.pm_device.specs.Replay.{is_fenced, last_place, durable_place, value_after}
 use Rattle.pm_device.specs.declared.entry.Entry.{Entry}
 use Rattle.pm_device.specs.declared.entry.Entry.TheVariants.{Ran, Flushed as FlushedEntry, Fenced as FencedEntry}
@@ -100,7 +100,6 @@ module _ (a who first lines : ℕ) (w : Word) (es : List Entry) (d : ℕ) (place
       kept : (q : ℕ) → q ≢ who → (if q == who then length w.values - 1 else w.marks q) ≡ w.marks q
       kept q ne = other_test (length w.values - 1) (w.marks q) q who ne
 
-
 -- a fence makes durable what its actor had flushed
 module _ (a who : ℕ) (ok : Bool) (w : Word) (es : List Entry) (d : ℕ) (is : Reaches w (FencedEntry who ok ∷ es) d) where
   own_mark : ok ≡ true → w.marks who ≤ d
@@ -144,7 +143,7 @@ module _ (kept : List ℕ) (a : ℕ) where
       let vs = take len (drop from kept) in
       let long = run_length kept at from len both.0 in
       let n : length (step a w (Stored at vs)).values - 1 ≡ (if covers at len a then length w.values - 1 + 1 else length w.values - 1) =
-          length-store a w at vs (omega (arith, placed.durable)) ∙ ap (λ m. if covers at m a then length w.values - 1 + 1 else length w.values - 1) long in
+      length-store a w at vs (omega (arith, placed.durable)) ∙ ap (λ m. if covers at m a then length w.values - 1 + 1 else length w.values - 1) long in
       let rest = reaches (step a w (Stored at vs)) es d both.1 (placed-step a w (Stored at vs) placed) (reaches-store a at vs w es d from len is) in
       (rest.0 ∙ ap (λ m. durable_place a m d es) n, rest.1 ∙ ap (λ m. last_place a m es) n)
   reaches w (FlushedEntry who first lines ∷ es) d whole placed is =
@@ -152,7 +151,7 @@ module _ (kept : List ℕ) (a : ℕ) where
       let covered = covers (8 * first) (8 * lines) a in
       let n : length (step a w (Flushed who first lines)).values - 1 ≡ length w.values - 1 = ap (λ vs. length {A = ℕ} vs - 1) (values-flush a who first lines w covered) in
       let rest = reaches (step a w (Flushed who first lines)) es (if fenced && covered then length w.values - 1 else d) whole (placed-step a w (Flushed who first lines) placed)
-          (reaches-flush a who first lines w es d placed is fenced covered refl) in
+      (reaches-flush a who first lines w es d placed is fenced covered refl) in
       (rest.0 ∙ ap (λ m. durable_place a m (if fenced && covered then length w.values - 1 else d) es) n, rest.1 ∙ ap (λ m. last_place a m es) n)
   reaches w (FencedEntry who ok ∷ es) d whole placed is = reaches (step a w (Fenced who ok)) es d whole (placed-step a w (Fenced who ok) placed) (reaches-fence a who ok w es d is)
 
@@ -222,7 +221,7 @@ module _ (kept : List ℕ) (a : ℕ) where
         let long : length (w.values ++ x ∷ []) ≡ length w.values + 1 = length-append w.values (x ∷ []) in
         let place : length (w.values ++ x ∷ []) - 1 + n ≡ length w.values - 1 + suc n = omega (arith, long, some) in
         let far : length (w.values ++ x ∷ []) - 1 + n < length (steps a (with_value w at from len whole x) (calls_of kept es)).values =
-            subst (λ (u : Word). length (w.values ++ x ∷ []) - 1 + n < length (steps a u (calls_of kept es)).values) same (omega (arith, lt, place)) in
+        subst (λ (u : Word). length (w.values ++ x ∷ []) - 1 + n < length (steps a u (calls_of kept es)).values) same (omega (arith, lt, place)) in
         let value : slice_index kept (from + (a - at)) ≡ x = sym (run_value kept at from len whole (a - at) (below at len a in_run)) in
         let newest : x ≡ slice_index (w.values ++ x ∷ []) (length (w.values ++ x ∷ []) - 1) = sym (get_or_at w.values x [] 0 (length (w.values ++ x ∷ []) - 1) (omega (arith, long))) in
         let more : nat_lt 0 (suc n) ≡ true = grind (arith, nat_tests) in

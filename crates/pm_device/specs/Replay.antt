@@ -1,5 +1,5 @@
 -- What the calls of a record make of one word, counted in places: place n of a word is its value after n stores.
-use Rattle.std.specs.Prelude.{◌≡◌, ℕ, ◌+◌, ◌-◌, ◌*◌, ◌<◌, ◌≤◌, ◌==◌, if◌then◌else◌, Bool, false, ◌&&◌, nat_lt, List, [], ◌∷◌, length, slice_index}
+use Rattle.std.specs.Prelude.{◌≡◌, ℕ, ◌+◌, ◌-◌, ◌*◌, ◌<◌, ◌==◌, if◌then◌else◌, Bool, false, ◌&&◌, nat_lt, List, [], ◌∷◌, length, slice_index}
 use Rattle.pm_device.specs.Past.{covers}
 use Rattle.pm_device.specs.declared.entry.Entry.{Entry}
 use Rattle.pm_device.specs.declared.entry.Entry.TheVariants.{Ran, Flushed as FlushedEntry, Fenced as FencedEntry}

@@ -10,7 +10,6 @@ ghost use Rattle.pm_device.specs.Picks.{picked_place, PicksOf};
 ghost use Rattle.pm_device.specs.Replay.{fenced_by, is_flush_by, fenced_flushes, last_after, durable_after, is_applied, value_in, value_after, last_place, durable_place, IsReplay};
 
 use crate::entry::Entry;
-use crate::memory::put_values;
 use std::alloc::{AllocError, Global};
 use std::collections::BTreeMap;
 
@@ -66,8 +65,9 @@ impl Places {
         ensures each { (a : ℕ) → a < vec_len self.old.last → slice_index self.new.durable.items a ≡ (if covers at len a then slice_index self.old.last.items a else slice_index self.old.durable.items a) }
         ensures last { self.new.last ≡ self.old.last }
     {
-        let last = &self.last[at..at + len];
-        put_values(&mut self.durable, at, last);
+        for a in at..at + len {
+            self.durable[a] = self.last[a];
+        }
     }
 
     fn note(&mut self, entry: Entry, fenced: bool)
@@ -90,7 +90,12 @@ impl Places {
 }
 
 // The places of all words after these entries.
-fn find_places(alloc: Global, words: usize, entries: &[Entry], flushes: &[bool]) -> Result<Places, AllocError>
+fn find_places(
+    alloc: Global,
+    words: usize,
+    entries: &[Entry],
+    flushes: &[bool],
+) -> Result<Places, AllocError>
     requires inside { list_all (is_inside words) entries.now ≡ true }
     requires flushes { flushes.now ≡ fenced_flushes entries.now }
     ensures { IfOk result (λ p. IsReplay words entries.now p.last.items p.durable.items) }
@@ -181,7 +186,13 @@ fn apply(image: &mut Vec<u64>, left: &mut Vec<u64>, kept: &[u64], entries: &[Ent
 }
 
 /// The image that a pick takes after these entries.
-pub(crate) fn picked_image(alloc: Global, first: &[u64], kept: &[u64], entries: &[Entry], pick: u64) -> Result<Vec<u64>, AllocError>
+pub(crate) fn picked_image(
+    alloc: Global,
+    first: &[u64],
+    kept: &[u64],
+    entries: &[Entry],
+    pick: u64,
+) -> Result<Vec<u64>, AllocError>
     requires whole { list_all (is_whole (length kept.now)) entries.now ≡ true }
     requires inside { list_all (is_inside (length first.now)) entries.now ≡ true }
     ensures { IfOk result (λ v. PicksOf first.now (calls_of kept.now entries.now) pick v.items) }

@@ -1,7 +1,4 @@
-use Rattle.std.proofs.Common.{ℕ, ◌-◌, ◌+◌, ◌≡◌, Bool, false, drop, length, [], arith, ap, ◌∙◌, refl, sym, subst}
-use Rattle.std.specs.Prelude.{unwrap_or}
-use Rattle.std.specs.Ordering.{nat_cmp}
-use Rattle.std.specs.BTreeMap.{get, get_by}
+use Rattle.std.proofs.Common.{◌-◌, ◌+◌, ◌≡◌, drop, length, arith, ap, ◌∙◌, sym, subst}
 use Rattle.std.proofs.lemmas.List.{drop_all}
 use Rattle.std.proofs.lemmas.Grind.{common_steps}
 use Rattle.pm_device.specs.Replay.{is_fenced, fenced_flushes}

@@ -10,5 +10,5 @@ abbrev pub invariant-loop-k : goal.invariant-loop-k
 invariant-loop-k l = record {
   next : (q : ℕ) → unwrap_or (get nat_cmp l.next q) false ≡ is_fenced q (drop l.k l.entries);
   flushes : drop l.k l.flushes.items ≡ fenced_flushes (drop l.k l.entries);
-  len : vec_len l.flushes ≡ length l.entries
+  len : vec_len l.flushes ≡ length l.entries;
 }

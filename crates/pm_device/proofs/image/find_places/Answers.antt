@@ -1,4 +1,4 @@
-use Rattle.std.proofs.Common.{arith, ◌≡◌, ◌∙◌, ap, length}
+use Rattle.std.proofs.Common.{arith, ◌∙◌, ap, length}
 use Rattle.pm_device.proofs.Passes.{length-fenced_flushes, small-more, last_place-more, durable_place-more}
 use Rattle.pm_device.proofs.image.find_places.Goals as goal
 

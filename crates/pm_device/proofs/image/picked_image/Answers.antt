@@ -1,8 +1,8 @@
-use Rattle.std.proofs.Common.{◌≡◌, ℕ, ◌<◌, ◌≤◌, ◌+◌, ◌-◌, inl, inr, arith, ap, sym, ◌∙◌, length, vec_len}
+use Rattle.std.proofs.Common.{◌≡◌, ◌+◌, ◌-◌, inl, inr, arith, ap, ◌∙◌, length, vec_len}
 use Rattle.std.specs.Prelude.{slice_index}
 use Rattle.std.proofs.lemmas.Bool.{cases_lt}
 use Rattle.std.proofs.lemmas.List.{get_or_past}
-use Rattle.pm_device.specs.Replay.{IsReplay, last_place, durable_place, value_after}
+use Rattle.pm_device.specs.Replay.{last_place, durable_place, value_after}
 use Rattle.pm_device.specs.Picks.{picked_place}
 use Rattle.pm_device.proofs.Picked.{last_place-le, durable_place-le, picks}
 use Rattle.pm_device.proofs.image.picked_image.Goals as goal
@@ -33,8 +33,8 @@ returns c =
       each = λ a lt.
           let chosen = c.choose-left.ensures.each a (omega (arith, lt, words)) in
           let chosen_of : slice_index c.choose-left.result.items a ≡ durable_place a 0 0 c.args.entries.now + picked_place c.args.pick a (last_place a 0 c.args.entries.now - durable_place a 0 0 c.args.entries.now + 1) =
-              chosen ∙ ap (λ n. slice_index c.in_ok-places.places.durable.items a + picked_place c.args.pick a (n - slice_index c.in_ok-places.places.durable.items a + 1)) (found.last_each a lt)
-              ∙ ap (λ n. n + picked_place c.args.pick a (last_place a 0 c.args.entries.now - n + 1)) (found.durable_each a lt) in
+          chosen ∙ ap (λ n. slice_index c.in_ok-places.places.durable.items a + picked_place c.args.pick a (n - slice_index c.in_ok-places.places.durable.items a + 1)) (found.last_each a lt)
+          ∙ ap (λ n. n + picked_place c.args.pick a (last_place a 0 c.args.entries.now - n + 1)) (found.durable_each a lt) in
           picks c.args.kept.now c.args.entries.now c.requires.whole a (slice_index first a) c.args.pick (slice_index c.choose-left.result.items a) (slice_index c.apply.new.image.items a) chosen_of
           (c.apply.ensures.each a (omega (arith, lt, c.in_ok-image.ensures.len)) ∙ ap (λ xs. value_after c.args.kept.now a (slice_index xs a) (slice_index c.choose-left.result.items a) c.args.entries.now) c.in_ok-image.ensures.items);
     }

@@ -24,8 +24,8 @@ picked : (c : goal.After-picked_image) → let m = c.args.self.now in IfOk c.pic
 picked c =
     let m = c.args.self.now in
     let calls : calls_of c.deref-3.result.now (take c.args.moment c.deref.result.now) ≡ take c.args.moment (calls_of m.kept.items m.entries.items) =
-        ap (λ (xs : List ℕ). calls_of xs (take c.args.moment c.deref.result.now)) c.deref-3.ensures.value
-        ∙ ap (λ (es : List Entry). calls_of m.kept.items (take c.args.moment es)) c.deref.ensures.value ∙ sym (take-map (call_of m.kept.items) c.args.moment m.entries.items) in
+    ap (λ (xs : List ℕ). calls_of xs (take c.args.moment c.deref.result.now)) c.deref-3.ensures.value
+    ∙ ap (λ (es : List Entry). calls_of m.kept.items (take c.args.moment es)) c.deref.ensures.value ∙ sym (take-map (call_of m.kept.items) c.args.moment m.entries.items) in
     IfOk-weaker c.picked_image.result _ _ (λ v. picks_at (record { first = m.first.items; calls = calls_of m.kept.items m.entries.items }) c.args.moment c.args.pick _ v.items _ c.deref-2.ensures.value calls) c.picked_image.ensures
 
 pub returns-clause-picked : goal.returns-clause-picked
