@@ -13,5 +13,6 @@ pub mod WrittenDisk
 pub mod OpenDirect
 pub mod WriteBytes
 pub mod WriteFiles
+pub mod WriteOwn
 pub mod WriteEvent
 pub mod Recount
