@@ -16,3 +16,4 @@ pub mod WriteFiles
 pub mod WriteOwn
 pub mod WriteEvent
 pub mod Recount
+pub mod Unread

@@ -4,3 +4,4 @@ pub mod Runs
 pub mod WithLog
 pub mod MayWrite
 pub mod WriteLaws
+pub mod Laws

@@ -2,3 +2,4 @@
 #![tactic(auto)]
 
 pub mod writes;
+pub mod data_pages;
