@@ -2,7 +2,6 @@ pub mod Relog
 pub mod Counting
 pub mod Mapped
 pub mod MappedPlaces
-pub mod ReadInData
 pub mod RunItems
 pub mod WriteRuns
 pub mod WithLog

@@ -18,7 +18,7 @@ use Rattle.dn_model.specs.Valid.{IsValid}
 use Rattle.dn_model.specs.Image.{StandsFor}
 use Rattle.dn_model.proofs.Regions.{inode_word_low}
 use Rattle.dn_model.proofs.L1.{rolled_closed, gate_closed}
-use Rattle.dn_changes.proofs.ReadInData.{read_in_data}
+use Rattle.dn_changes.proofs.Unread.{read_in_data}
 use Rattle.dn_changes.proofs.Relog.{relogged_differs}
 use Rattle.dn_changes.specs.Writing.{Writes, WritesWell, IsStored}
 use Rattle.dn_changes.proofs.WriteValid.{written_valid, mapped_cases, not_mapped}
