@@ -2,7 +2,6 @@ pub mod Relog
 pub mod Counting
 pub mod Mapped
 pub mod MappedPlaces
-pub mod ReadInData
 pub mod RunItems
 pub mod WriteRuns
 pub mod WithLog
@@ -13,6 +12,7 @@ pub mod WrittenDisk
 pub mod OpenDirect
 pub mod WriteBytes
 pub mod WriteFiles
+pub mod WriteOwn
 pub mod WriteEvent
 pub mod Recount
 pub mod Unread

@@ -1,18 +1,15 @@
--- Where the mapped places of a file lie: below its size, and on pages of the data area.
-use Rattle.std.proofs.Common.{◌≡◌, ℕ, zero, suc, ◌+◌, ◌-◌, ◌<◌, ◌≤◌, Bool, true, false, List, [], ◌∷◌, length, refl, ap, subst, arith}
-use Rattle.std.specs.Prelude.{if◌then◌else◌, nat_le, nat_lt, ◌&&◌, Option, Some, None, All}
+-- The mapped places of a file lie below its size.
+use Rattle.std.proofs.Common.{◌≡◌, ℕ, ◌+◌, ◌<◌, ◌≤◌, Bool, true, false, List, [], ◌∷◌, length, refl, ap, arith}
+use Rattle.std.specs.Prelude.{if◌then◌else◌, nat_lt, Option, Some, None, All}
 use Rattle.std.proofs.lemmas.Bool.Decides.{nat_tests}
 use Rattle.std.proofs.lemmas.List.Elements.{All-head, All-tail}
-use Rattle.pm_layout.specs.declared.Geometry.{Geometry}
-use Rattle.pm_layout.specs.Geometry.{InData}
 use Rattle.log_entry.specs.Spelling.{IsSpelled, spelling, pages_of}
-use Rattle.log_entry.specs.declared.item.Flag.{Flag}
 use Rattle.log_entry.specs.declared.item.LogItem.{LogItem}
 use Rattle.log_entry.specs.declared.item.LogItem.TheVariants.{Write, Size, Add, Forget}
 use Rattle.dn_model.specs.Log.{Log, slot_name, placed_from}
 use Rattle.dn_model.specs.Maps.{Mapping, mapping, mapped_after, remapped, cut_to, size_of, size_after}
 use Rattle.dn_model.specs.Disk.{Disk, Use, Free, Live, Dying, IsUsed, maps, maps_by_use}
-use Rattle.dn_model.specs.Valid.{MayStand, IsLog, IsValid}
+use Rattle.dn_model.specs.Valid.{IsLog, IsValid}
 
 -- what isn't cut lies below the size
 pub cut_below : (size idx : ℕ) (m : Option Mapping) (x : Mapping) → cut_to size idx m ≡ Some x → idx < pages_of size
@@ -68,45 +65,6 @@ pub size-small : (log : Log) → All IsSpelled log.items → size_of log ≤ 167
 unfolding size_of
 size-small log spelled = size_after-small 0 log.items (omega arith) spelled
 
-between : (g : Geometry) (low high page : ℕ) → InData g low → InData g high → low ≤ page → page ≤ high → InData g page
-between g low high page below above from to = record { low = omega (arith, below.low); high = omega (arith, above.high) }
-
--- a page of a Write item that may stand in a log
-module _ (g : Geometry) (first n block size mask slot idx : ℕ) (flag : Flag) (m : Option Mapping) (ends : InData g block × InData g (block + n - 1)) (before : (x : Mapping) → m ≡ Some x → InData g x.block) where
-  abbrev set_here : Mapping
-  set_here = record { block = block + (idx - first); slot = slot; bit = idx - first; flag = flag; mask = mask }
-
-  in_item : (nat_le first idx && nat_lt idx (first + n)) ≡ true → InData g (block + (idx - first))
-  in_item t =
-      let low : first ≤ idx = grind (arith, nat_tests) in let high : idx < first + n = grind (arith, nat_tests) in
-      between g block (block + n - 1) (block + (idx - first)) ends.0 ends.1 (omega arith) (omega arith)
-
-  written_in_data : (x : Mapping) → remapped idx m (record { slot = slot; item = Write first n block size flag mask }) ≡ Some x → InData g x.block
-  written_in_data x e = by_range (nat_le first idx && nat_lt idx (first + n)) refl (cut_some size idx (if nat_le first idx && nat_lt idx (first + n) then Some set_here else m) x e)
-    where
-      by_range : (b : Bool) → (nat_le first idx && nat_lt idx (first + n)) ≡ b → (if b then Some set_here else m) ≡ Some x → InData g x.block
-      by_range true t e = let same : set_here ≡ x = cc in subst (λ (y : Mapping). InData g y.block) same (in_item t)
-      by_range false t e = before x e
-
-after-in_data : (g : Geometry) (ino : ℕ) (pages : List ℕ) (k idx : ℕ) (m : Option Mapping) (items : List LogItem) → All (MayStand g ino) items → ((x : Mapping) → m ≡ Some x → InData g x.block)
-    → (x : Mapping) → mapped_after idx m (placed_from pages k items) ≡ Some x → InData g x.block
-after-in_data g ino pages k idx m [] standing before = before
-after-in_data g zero pages k idx m (Write first n block size flag mask ∷ items) standing before = absurd (All-head (MayStand g zero) (Write first n block size flag mask) items standing)
-after-in_data g (suc i) pages k idx m (Write first n block size flag mask ∷ items) standing before =
-    after-in_data g (suc i) pages (k + length (spelling (Write first n block size flag mask))) idx (remapped idx m (record { slot = slot_name pages k; item = Write first n block size flag mask })) items
-    (All-tail (MayStand g (suc i)) (Write first n block size flag mask) items standing)
-    (written_in_data g first n block size mask (slot_name pages k) idx flag m (All-head (MayStand g (suc i)) (Write first n block size flag mask) items standing) before)
-after-in_data g ino pages k idx m (Size size ∷ items) standing before =
-    after-in_data g ino pages (k + length (spelling (Size size))) idx (remapped idx m (record { slot = slot_name pages k; item = Size size })) items (All-tail (MayStand g ino) (Size size) items standing)
-    (λ x e. before x (cut_some size idx m x e))
-after-in_data g ino pages k idx m (Add i name ∷ items) standing before = after-in_data g ino pages (k + length (spelling (Add i name))) idx m items (All-tail (MayStand g ino) (Add i name) items standing) before
-after-in_data g ino pages k idx m (Forget name ∷ items) standing before = after-in_data g ino pages (k + length (spelling (Forget name))) idx m items (All-tail (MayStand g ino) (Forget name) items standing) before
-
--- a mapped page lies in the data area
-pub mapping-in_data : (g : Geometry) (ino : ℕ) (log : Log) → All (MayStand g ino) log.items → (idx : ℕ) (x : Mapping) → mapping log idx ≡ Some x → InData g x.block
-unfolding mapping
-mapping-in_data g ino log standing idx x e = after-in_data g ino log.pages 0 idx None log.items standing (λ y none. cc) x e
-
 -- a place that is mapped by its inode's use is mapped in the log; of a dying one it lies below the cut
 maps_by_use-mapped : (u : Use) (log : Log) (idx : ℕ) (x : Mapping) → maps_by_use u log idx ≡ Some x → IsUsed u × (mapping log idx ≡ Some x)
 maps_by_use-mapped Free log idx x e = cc
@@ -124,9 +82,6 @@ module _ (d : Disk) (valid : IsValid d) (ino idx : ℕ) (x : Mapping) (in_table 
 
   log_here : IsLog d.geometry ino (d.inode ino).log
   log_here = valid.logs ino in_table mapped_by_use.0
-
-  pub maps-in_data : InData d.geometry x.block
-  maps-in_data = mapping-in_data d.geometry ino (d.inode ino).log log_here.standing idx x mapped_by_use.1
 
   pub maps-in_file : idx < 4096
   maps-in_file = small idx (size_of (d.inode ino).log) (mapping-below (d.inode ino).log idx x mapped_by_use.1) (size-small (d.inode ino).log log_here.spelled)

@@ -14,7 +14,8 @@ use Rattle.dn_model.specs.Valid.{IsValid}
 use Rattle.dn_changes.specs.Events.{IsUnused}
 use Rattle.dn_changes.specs.Writing.{Writes, WritesWell, IsOverwritten}
 use Rattle.dn_changes.proofs.Counting.{total-lt, total-some, terms-le}
-use Rattle.dn_changes.proofs.MappedPlaces.{mapping-below, uncut, maps-in_data, maps-in_file}
+use Rattle.dn_changes.proofs.MappedPlaces.{mapping-below, uncut, maps-in_file}
+use Rattle.dn_changes.proofs.Unread.{read_in_data}
 use Rattle.dn_changes.proofs.WriteCounts.{hit_here, hit_other, places, place-le, places-le, own_or_other, maps_old, mappings-written, mappings-written_other, hit-written}
 use Rattle.dn_changes.proofs.WriteValid.{use_kept, was_used, log_page_cases, not_mapped, written_valid}
 
@@ -134,7 +135,7 @@ module _ (ino : ℕ) (old new : Disk) (w : Writes ino old new) (ok : WritesWell 
   -- an overwritten page without a row is free
   pub overwritten-free : (page : ℕ) → IsOverwritten ino old new w page → IsNone (row_of (rows old) page) → IsFree new page
   overwritten-free page over none = record {
-    data_page = subst (λ (g : Geometry). InData g page) (sym w.relogs.geometry) (subst (InData old.geometry) over.block (maps-in_data old ok.valid ino (w.first + over.i) over.by w.in_table over.was));
+    data_page = subst (λ (g : Geometry). InData g page) (sym w.relogs.geometry) (read_in_data old ok.valid page (inl mapped));
     in_no_log = λ p. ⊎_elim (λ (was : IsLogPage old page). ok.valid.single.log_unmapped page was mapped)
         (λ (fresh : Contains w.grown.fresh page). not_mapped old page (ok.fresh page fresh) mapped) (log_page_cases ino old new w page p);
     unmapped = gone _ _ _ _ (mappings-written ino old new w page) fewer (ok.valid.single.unshared page none);

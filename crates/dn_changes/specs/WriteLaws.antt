@@ -1,9 +1,9 @@
 -- The laws of a write: what Write items more in the log of a live file do to a disk.
 use Rattle.std.specs.Prelude.{◌≡◌, ◌≢◌, ◌⊎◌, ℕ, ◌*◌, ◌<◌, ◌≤◌, List, [], ◌∷◌, length, Contains, Some, IsNone}
 use Rattle.pm_device.specs.State.{State, Agree}
-use Rattle.pm_device.specs.Settled.{LeavesOnly}
+use Rattle.pm_device.specs.Settled.{LeavesOnly, StoresOnly}
 use Rattle.pm_device.specs.Reading.{Stands, IsReady}
-use Rattle.pm_device.specs.Commit.{IsCommitted}
+use Rattle.pm_device.specs.Commit.{IsCommitted, IsDone}
 use Rattle.pm_layout.specs.Geometry.{inode_word}
 use Rattle.dn_model.specs.Log.{count, tail_at}
 use Rattle.dn_model.specs.Maps.{Mapping, size_of}
@@ -13,10 +13,11 @@ use Rattle.dn_model.specs.Counts.{IsFree, Near}
 use Rattle.dn_model.specs.Files.{bytes, named, files, IsSameFiles}
 use Rattle.dn_model.specs.Apply.{written, after_op}
 use Rattle.dn_model.specs.Valid.{IsValid}
+use Rattle.dn_model.specs.Own.{Print, IsOwn}
 use Rattle.dn_model.specs.Image.{StandsFor}
 use Rattle.dn_model.specs.declared.op.Op.TheVariants.{Write}
 use Rattle.dn_changes.specs.Events.{Fresh}
-use Rattle.dn_changes.specs.Writing.{Writes, WritesWell, WritesBytes, IsOverwritten}
+use Rattle.dn_changes.specs.Writing.{Writes, WritesWell, WritesBytes, IsOverwritten, IsStored}
 use Rattle.dn_changes.specs.Runs.{Run, places_in, block_at}
 use Rattle.dn_changes.specs.MayWrite.{written_disk, MayWrite}
 
@@ -31,6 +32,18 @@ WritesLeaveOldOrNew = (ino : ℕ) (old new : Disk) (w : Writes ino old new) → 
     → LeavesOnly s t (IsCommitted who (inode_word ino 2) (tail_at (new.inode ino).log.pages (count (new.inode ino).log)) s)
     → LeavesOnly s t (λ c. StandsFor c old ⊎ StandsFor c new)
 
+-- once the tail has moved, the device stands for the disk of after
+abbrev pub WritesStand : Type 0
+WritesStand = (ino : ℕ) (old new : Disk) (w : Writes ino old new) → WritesWell ino old new w
+    → (who : ℕ) (s t : State) → length s.now ≡ 512 * old.geometry.pages → Stands (DiskSays old) s → IsReady who (Fresh ino old new) s
+    → IsDone who (inode_word ino 2) (tail_at (new.inode ino).log.pages (count (new.inode ino).log)) s t → StoresOnly (λ a. a ≡ inode_word ino 2) s t
+    → Stands (DiskSays new) t
+
+-- before that the prepared words of the log and the words of the new pages have to stand, and no others
+abbrev pub StoredWordsSuffice : Type 0
+StoredWordsSuffice = (ino : ℕ) (old new : Disk) (w : Writes ino old new) → WritesWell ino old new w
+    → (who : ℕ) (s : State) → IsReady who (IsStored ino old new w) s → IsReady who (Fresh ino old new) s
+
 -- the file has the text where it was written, and the bytes of the other files stay
 pub record PutsText (ino : ℕ) (old new : Disk) (at : ℕ) (text : List ℕ) : Type 0 where
   pub here : bytes new ino ≡ written (bytes old ino) at text
@@ -43,6 +56,11 @@ WritesPutText = (ino : ℕ) (old new : Disk) (w : Writes ino old new) → Writes
 abbrev pub WritesAreWrites : Type 0
 WritesAreWrites = (ino : ℕ) (old new : Disk) (w : Writes ino old new) → WritesWell ino old new w → (name : List ℕ) → named old name ≡ Some ino
     → (at b : ℕ) (text : List ℕ) → WritesBytes ino old new w at (b ∷ text) → IsSameFiles (files new) (after_op (files old) (Write name at (b ∷ text)))
+
+-- what every image of this program has stays: zeros past the end of files, prints, and marks of what the daemon did
+abbrev pub WritesStayOwn : Type 0
+WritesStayOwn = (print : Print) (ino : ℕ) (old new : Disk) (w : Writes ino old new) → WritesWell ino old new w → (at : ℕ) (text : List ℕ) → WritesBytes ino old new w at text
+    → IsOwn print old → IsOwn print new
 
 -- which pages are free afterwards
 pub record TakesAndFrees (ino : ℕ) (old new : Disk) (w : Writes ino old new) : Type 0 where

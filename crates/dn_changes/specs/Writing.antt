@@ -7,7 +7,7 @@ use Rattle.dn_model.specs.Maps.{Mapping, cut_to, size_of}
 use Rattle.dn_model.specs.Disk.{Disk, Live, maps}
 use Rattle.dn_model.specs.Counts.{IsFree, Near}
 use Rattle.dn_model.specs.Files.{bytes, byte_of}
-use Rattle.dn_model.specs.Growth.{IsGrown}
+use Rattle.dn_model.specs.Growth.{IsGrown, Prepared}
 use Rattle.dn_model.specs.Valid.{MayStand, IsValid}
 use Rattle.dn_changes.specs.Events.{Relogs, IsUnused}
 
@@ -69,3 +69,16 @@ pub record IsOverwritten (ino : ℕ) (old new : Disk) (w : Writes ino old new) (
   pub by : Mapping
   pub was : maps old ino (w.first + i) ≡ Some by
   pub block : by.block ≡ page
+
+-- a word of a page of the event, and what it is afterwards
+pub record IsBlockWord (ino : ℕ) (old new : Disk) (w : Writes ino old new) (a v : ℕ) : Type 0 where
+  pub i : ℕ
+  pub below : i < w.n
+  pub k : ℕ
+  pub in_page : k < 512
+  pub place : a ≡ 512 * w.blocks i + k
+  pub value : v ≡ new.word (w.blocks i) k
+
+-- the words that have to stand before the tail moves: those that are prepared for the log, and those of the event's pages
+abbrev pub IsStored : (ino : ℕ) (old new : Disk) → Writes ino old new → ℕ → ℕ → Type 0
+IsStored ino old new w a v = Prepared ino (old.inode ino).log (new.inode ino).log a v ⊎ IsBlockWord ino old new w a v

@@ -1,5 +1,5 @@
 //! Laws of single changes of an image.
 #![tactic(auto)]
 
-pub mod writes;
 pub mod data_pages;
+pub mod writes;
