@@ -28,6 +28,7 @@ pub fn commit_log<D: Pm>(
     ensures any_moment { OldOrNewLog g.now who ino tail (D.state device.old) (D.state device.new) }
     ensures stands { OnOk result (NewLogStands g.now who ino tail (D.state device.old) (D.state device.new)) }
     ensures only { StoresOnly (λ a. a ≡ inode_word ino 2) (D.state device.old) (D.state device.new) }
+    ensures faults { (D.state device.old).faults ≤ (D.state device.new).faults }
     ensures failed { IsErr result → Rose (D.state device.old).faults (D.state device.new).faults }
 {
     commit(device, who, g.inode_word(ino, 2), tail)

@@ -3,3 +3,4 @@ pub mod FirstWords
 pub mod Inside
 pub mod FirstSlot
 pub mod FirstImage
+pub mod CommitPage

@@ -4,6 +4,9 @@
 //! other inodes are free, no page is shared, and no pointer leads anywhere.
 #![tactic(auto)]
 
+pub mod answer;
+pub mod commit;
+pub mod file;
 pub mod laws;
 pub mod opening;
 pub mod parts;

@@ -64,6 +64,7 @@ pub fn fill_page_bytes<D: Pm>(device: &mut D, who: u32, page: u64, bytes: &[u8])
     ensures only { StoresOnly (IsInPage page) (D.state device.old) (D.state device.new) }
     ensures holds { HoldsBytes who page bytes.now (D.state device.new) }
     ensures spare { (D.state device.old).spare ≤ (D.state device.new).spare + FILL_UNITS }
+    ensures faults { (D.state device.old).faults ≤ (D.state device.new).faults }
 {
     let mut words = [0; 512];
     put_words(bytes, &mut words);

@@ -15,6 +15,7 @@ pub fn store_words<D: Pm>(device: &mut D, who: u32, at: u64, values: &[u64])
     ensures only { StoresOnly (IsIn at (length values.now)) (D.state device.old) (D.state device.new) }
     ensures holds { HoldsRun who at values.now (D.state device.new) }
     ensures keeps { KeepsFlushed Anyone (IsIn at (length values.now)) (D.state device.old) (D.state device.new) }
+    ensures faults { (D.state device.old).faults ≤ (D.state device.new).faults }
     ensures spare { (D.state device.old).spare ≤ (D.state device.new).spare + length values.now + lines_of at (length values.now) }
 {
     let lines = (at % 8 + values.len() as u64 + 7) / 8;

@@ -16,6 +16,7 @@ pub fn settle<D: Pm>(device: &mut D, who: u32) -> Result<(), Failed>
     ensures settled { OnOk result (Settles who (D.state device.old) (D.state device.new)) }
     ensures only { StoresOnly Nowhere (D.state device.old) (D.state device.new) }
     ensures others { KeepsFlushed (Others who) Nowhere (D.state device.old) (D.state device.new) }
+    ensures faults { (D.state device.old).faults ≤ (D.state device.new).faults }
     ensures failed { IsErr result → Rose (D.state device.old).faults (D.state device.new).faults }
     ensures spare { (D.state device.old).spare ≤ (D.state device.new).spare + 1 }
 {

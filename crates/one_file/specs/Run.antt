@@ -1,0 +1,29 @@
+-- Operations on an image of one file, one after another.
+use Rattle.std.specs.Prelude.{◌≡◌, ℕ, ◌+◌, ◌<◌, List, [], ◌∷◌}
+use Rattle.dn_model.specs.Disk.{Disk}
+use Rattle.dn_model.specs.Files.{files}
+use Rattle.dn_model.specs.Faults.{HasFree}
+use Rattle.dn_model.specs.History.{Step, needed, reserve}
+use Rattle.dn_model.specs.declared.op.Op.{Op}
+use Rattle.dn_model.specs.declared.op.Entry.{Entry}
+use Rattle.dn_model.specs.declared.op.Reply.{Reply}
+use Rattle.dn_model.specs.declared.op.Reply.TheVariants.{Refused}
+use Rattle.dn_model.specs.declared.op.Refusal.TheVariants.{NoSpace}
+
+-- the operation needs so many pages of this disk, which with the reserve are more than the free ones
+pub record LacksSpace (d : Disk) (op : Op) (need free : ℕ) : Type 0 where
+  pub is_need : need ≡ needed d op
+  pub some : 0 < need
+  pub lacks : free < need + reserve op
+  pub count : HasFree d free
+
+-- From this disk the operation has this reply, and leaves that disk: the reply and the files are those of the
+-- map from names to bytes, but where space is short.
+pub record IsStep (d : Disk) (op : Op) (reply : Reply) (d' : Disk) : Type 0 where
+  pub step : Step (files d) op reply (files d')
+  pub short : (need free : ℕ) → reply ≡ Refused (NoSpace need free) → LacksSpace d op need free
+
+-- one operation after another, of client 1
+pub data Runs : Disk → List Entry → Disk → Type 0 where
+  no_more : {d : Disk} → Runs d [] d
+  one_more : {d e f : Disk} {entry : Entry} {entries : List Entry} → entry.who ≡ 1 → IsStep d entry.op entry.reply e → Runs e entries f → Runs d (entry ∷ entries) f
