@@ -11,8 +11,8 @@ use pm_layout::Geometry;
 /// The units of the device that `prepare` uses for each slot and for each fresh page.
 pub const PREPARE_UNITS: u64 = 9;
 
-// Whether the page of this tail has no room left, or there is no page.
-fn is_full(tail: u64) -> bool
+/// Whether the page of this tail has no room left, or there is no page: the next item then begins a new page.
+pub fn is_full(tail: u64) -> bool
     ensures { IsTrue result ↔ IsFull tail }
 {
     tail == 0 || tail % 64 == 63

@@ -10,5 +10,6 @@ pub mod file;
 pub mod laws;
 pub mod opening;
 pub mod parts;
+mod write;
 
 pub use opening::{Opened, open_first};
