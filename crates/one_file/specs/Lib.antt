@@ -5,3 +5,5 @@ pub mod CommitPage
 pub mod Held
 pub mod Run
 pub mod Write
+pub mod PutLoop
+pub mod Session

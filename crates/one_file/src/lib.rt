@@ -10,6 +10,7 @@ pub mod file;
 pub mod laws;
 pub mod opening;
 pub mod parts;
+pub mod session;
 mod write;
 
 pub use opening::{Opened, open_first};

@@ -1,16 +1,16 @@
 // A write of the file's one page.
-ghost use Rattle.std.specs.Prelude.{◌≡◌, ◌≢◌, ◌↔◌, ◌+◌, ◌*◌, ◌<◌, ◌≤◌, ℕ, List, [], length, max, IsTrue, IfOk, OnOk, vec_len, if◌then◌else◌};
+ghost use Rattle.std.specs.Prelude.{◌≡◌, ◌≢◌, ◌↔◌, ◌+◌, ◌*◌, ◌<◌, ◌≤◌, ℕ, List, [], length, slice_index, max, IsTrue, IfOk, OnOk, vec_len, if◌then◌else◌};
 ghost use Rattle.dn_model.specs.Disk.{Disk};
 ghost use Rattle.dn_model.specs.Files.{bytes};
 ghost use Rattle.dn_model.specs.History.{room};
+ghost use Rattle.page_alloc.specs.Free.{Takes};
 ghost use Rattle.one_file.specs.Held.{Agrees, IsDiskOf};
-ghost use Rattle.one_file.specs.Write.{TakesPages, IsNewPage};
+ghost use Rattle.one_file.specs.Write.{TakesFresh, PutsText};
 
 use crate::commit::FILE;
 use crate::file::OneFile;
 use inode_log::prepare::is_full;
 use page_alloc::FreeSet;
-use page_bytes::{PAGE_BYTES, read_page};
 use pm_device::Pm;
 use std::alloc::{AllocError, Global};
 
@@ -25,40 +25,48 @@ fn needs_log_page<D: Pm>(v: &OneFile<D>) -> bool
     is_full(v.device.load(v.geometry.inode_word(FILE, TAIL)))
 }
 
-// Takes a page for the log, where it needs one, and then a page for the bytes.
-fn take_pages(alloc: Global, free: &mut FreeSet, for_log: bool) -> Result<(Vec<u64>, u64), AllocError>
-    requires { 2 ≤ length free.old.free }
-    ensures taken { IfOk result (λ taken. TakesPages free.old free.new taken.0.items taken.1) }
-    ensures log { IfOk result (λ taken. length taken.0.items ≡ (if for_log then 1 else 0)) }
+// Takes the least free page.
+fn take_page(free: &mut FreeSet) -> u64
+    requires { 1 ≤ length free.old.free }
+    ensures { Takes result free.old free.new }
+{
+    free.take().unwrap()
+}
+
+// Takes a page for the log, where it needs one.
+fn take_log_page(alloc: Global, free: &mut FreeSet, for_log: bool) -> Result<Vec<u64>, AllocError>
+    requires { 1 ≤ length free.old.free }
+    ensures taken { IfOk result (λ fresh. TakesFresh free.old free.new fresh.items) }
+    ensures log { IfOk result (λ fresh. length fresh.items ≡ (if for_log then 1 else 0)) }
 {
     let mut fresh = Vec::new(alloc);
-    if for_log {
-        fresh.push(free.take().unwrap())?;
+    if !for_log {
+        return Ok(fresh);
     }
-    let page = free.take().unwrap();
-    Ok((fresh, page))
+    fresh.push(take_page(free))?;
+    Ok(fresh)
 }
 
-// The bytes of the file's page, or zeros where it has none.
-fn old_page<D: Pm>(alloc: Global, v: &OneFile<D>) -> Result<Vec<u8>, AllocError>
-    requires { Agrees D.state v.now }
-    ensures { IfOk result (λ old. (d : Disk) → IsDiskOf D.state v.now d → IsNewPage (bytes d 1) [] old.items) }
+// A byte of a page of so many bytes into which a text is put at its start.
+fn new_byte(old: u8, k: usize, size: usize, text: &[u8]) -> u8
+    ensures inside { k < length text.now → result ≡ slice_index text.now k }
+    ensures kept { length text.now ≤ k → k < size → result ≡ old }
+    ensures past { length text.now ≤ k → size ≤ k → result ≡ 0 }
 {
-    match v.block {
-        Some(block) => read_page(alloc, &v.device, block),
-        None => vec![in alloc; 0; PAGE_BYTES],
+    if k < text.len() {
+        text[k]
+    } else if k < size {
+        old
+    } else {
+        0
     }
 }
 
-// The page with these bytes put in from its start on.
-fn new_page<D: Pm>(alloc: Global, v: &OneFile<D>, text: &[u8]) -> Result<Vec<u8>, AllocError>
-    requires agrees { Agrees D.state v.now }
-    requires few { length text.now ≤ 4096 }
-    ensures { IfOk result (λ content. (d : Disk) → IsDiskOf D.state v.now d → IsNewPage (bytes d 1) text.now content.items) }
+// Puts a text at the start of a page whose bytes from `size` on count as zeros.
+fn put_text(page: &mut [u8], size: usize, text: &[u8])
+    ensures { PutsText size text.now page.old page.new }
 {
-    let mut content = old_page(alloc, v)?;
-    for (k, byte) in text.iter().enumerate() {
-        content[k] = *byte;
+    for (k, byte) in page.iter_mut().enumerate() {
+        *byte = new_byte(*byte, k, size, text);
     }
-    Ok(content)
 }
