@@ -1,0 +1,16 @@
+use Rattle.pm_device.proofs.Calls.{flushed-fence}
+use Rattle.pm_device.proofs.Committed.{on_ok}
+use Rattle.pm_device.proofs.Flushed.{keeps-fence}
+use Rattle.pm_device.proofs.Only.{stores_only-fence}
+use Rattle.pm_device.proofs.settle.settle.Goals as goal
+
+pub returns-clause-settled : goal.returns-clause-settled
+returns-clause-settled g c = let S = g.D.Pm.state in
+    on_ok c.fence.result _ (λ went. record { flushed = λ a. flushed-fence (S c.args.device.now) (S c.fence.new.self) a c.args.who _ went c.fence.ensures.fences })
+
+pub returns-clause-only : goal.returns-clause-only
+returns-clause-only g c = let agree = g.met.D.Pm.agree in
+    stores_only-fence _ _ _ c.args.who _ (agree c.args.device.now) (agree c.fence.new.self) c.fence.ensures.fences
+
+pub returns-clause-others : goal.returns-clause-others
+returns-clause-others g c = keeps-fence _ _ _ c.args.who _ c.fence.ensures.fences
