@@ -14,7 +14,7 @@ pub const LARGEST_SIZE: u64 = 16_777_216;
 /// The most pages that one Write has.
 pub const MOST_PAGES: u64 = 17;
 
-/// How far the daemon is with the pages of a Write.
+/// How far the daemon that shares equal pages is with the pages of a Write, as in DeNova (IPDPS 2022).
 #[derive(Clone, Copy, Debug, PartialEq, Eq)]
 pub enum Flag {
     /// The pages are still to be compared with those that are shared.
@@ -51,8 +51,8 @@ impl Flag {
     }
 }
 
-/// One entry of an inode's log. What a file or the root holds is what the items of its log say, in
-/// order, as in the log-structured file system NOVA (FAST 2016).
+/// One item of an inode's log. What a file or the root holds is what the items of its log say, in
+/// order: each inode has a log of its own, as in the log-structured file system NOVA (FAST 2016).
 #[derive(Debug, Drop)]
 pub enum LogItem {
     /// Pages of a file have new bytes.

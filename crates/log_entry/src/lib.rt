@@ -11,3 +11,6 @@ pub use item::{Flag, LogItem, is_spelled};
 pub use name::{Name, NameFault, is_legal};
 pub use read::{Front, read_front, read_item};
 pub use write::{slots_of, write_item};
+
+#[cfg(test)]
+mod tests;

@@ -6,16 +6,16 @@ use crate::item::LogItem;
 use crate::name::Name;
 use std::alloc::AllocError;
 
-/// The words 0 of the slots of each kind.
-pub const WRITE: u64 = 1;
+// The first words of the slots of each kind.
+pub(crate) const WRITE: u64 = 1;
 
-pub const SIZE: u64 = 2;
+pub(crate) const SIZE: u64 = 2;
 
-pub const ADD: u64 = 3;
+pub(crate) const ADD: u64 = 3;
 
-pub const FORGET: u64 = 4;
+pub(crate) const FORGET: u64 = 4;
 
-pub const MORE: u64 = 5;
+const MORE: u64 = 5;
 
 /// How many slots of eight words the item takes: 1, or for a name of more than 40 bytes 2 to 5.
 #[tactic(auto, using(crate::proofs::Words::slot_counts), unfolding(crate::specs::Spelling::spelling))]
