@@ -7,5 +7,7 @@
 pub mod laws;
 pub mod opening;
 pub mod parts;
+#[cfg(test)]
+mod tests;
 
 pub use opening::{Opened, open_first};
