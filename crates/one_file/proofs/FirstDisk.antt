@@ -1,26 +1,25 @@
 -- The first disk makes sense, has one empty file, and all its data pages but the first are free.
-use Rattle.std.proofs.Common.{◌≡◌, ◌≢◌, ◌⊎◌, inl, inr, ⊎_elim, ℕ, zero, suc, ◌+◌, ◌-◌, ◌*◌, ◌/◌, ◌%◌, ◌<◌, ◌≤◌, Bool, true, false, List, [], ◌∷◌, ◌++◌, length, map, refl, sym, ◌∙◌, ap, subst, arith, append-nil}
-use Rattle.std.specs.Prelude.{slice_index, slice_get, if◌then◌else◌, Option, Some, None, is_some, IsNone, IsSome, All, Contains}
+use Rattle.std.proofs.Common.{◌≡◌, inl, inr, ℕ, zero, suc, ◌+◌, ◌<◌, ◌≤◌, Bool, true, false, List, [], ◌∷◌, ◌++◌, length, refl, sym, ◌∙◌, ap, subst, arith}
+use Rattle.std.specs.Prelude.{slice_index, if◌then◌else◌, Some, None, is_some, All, Contains}
 use Rattle.std.specs.Option.{option_map}
 use Rattle.std.proofs.lemmas.Bool.{cases_eq}
 use Rattle.std.proofs.lemmas.List.Elements.{All-nil, All-cons}
 use Rattle.pm_layout.specs.declared.Geometry.{Geometry}
-use Rattle.pm_layout.specs.Geometry.{InData, IsAccepted, first_data, directs, slots}
+use Rattle.pm_layout.specs.Geometry.{InData, IsAccepted, first_data, directs}
 use Rattle.log_entry.specs.Name.{IsLegal, same_name}
 use Rattle.log_entry.specs.Spelling.{spelling, IsSpelled, name_words, more_slots, more_count}
-use Rattle.log_entry.specs.declared.item.LogItem.{LogItem}
-use Rattle.log_entry.specs.declared.item.LogItem.TheVariants.{Write, Size, Add, Forget}
+use Rattle.log_entry.specs.declared.item.LogItem.TheVariants.{Add}
 use Rattle.log_entry.proofs.SameName.{same_name-true, same_name-same}
-use Rattle.dn_model.specs.Log.{Log, no_log, count, IsPaged}
-use Rattle.dn_model.specs.Maps.{Mapping, mapping, size_of}
+use Rattle.dn_model.specs.Log.{no_log, count}
+use Rattle.dn_model.specs.Maps.{mapping, size_of}
 use Rattle.dn_model.specs.Table.{Row, row_of, rows_from}
-use Rattle.dn_model.specs.Disk.{Disk, Inode, Use, Free, Live, Dying, IsUsed, IsMapped, maps, rows}
-use Rattle.dn_model.specs.Counts.{total, hit, mappings, IsLogPage, IsFree, IsNear}
+use Rattle.dn_model.specs.Disk.{Disk, IsUsed, IsMapped, maps, rows}
+use Rattle.dn_model.specs.Counts.{hit, mappings, IsLogPage, IsFree, IsNear}
 use Rattle.dn_model.specs.Files.{named, bytes, files}
-use Rattle.dn_model.specs.Valid.{MayStand, IsCut, IsLog, HasOneName, IsLinked, IsRow, AreApart, IsSingle, IsValid}
+use Rattle.dn_model.specs.Valid.{MayStand, IsCut, IsLog, HasOneName, IsLinked, AreApart, IsSingle, IsValid}
 use Rattle.dn_changes.specs.Events.{IsReadPage, IsUnused}
 use Rattle.dn_changes.proofs.Counting.{total-zero}
-use Rattle.one_file.specs.First.{first_log, first_inode, first_disk, IsFirst}
+use Rattle.one_file.specs.First.{first_log, first_inode, first_disk}
 
 no_more : (name : List ℕ) → length name ≤ 40 → more_count name ≡ 0
 no_more name short = omega arith

@@ -1,12 +1,10 @@
 -- A first image stands for the first disk.
-use Rattle.std.proofs.Common.{◌≡◌, ℕ, List, length, refl, sym, ◌∙◌, ap, arith}
+use Rattle.std.proofs.Common.{◌≡◌, refl, sym, ◌∙◌, ap, arith}
 use Rattle.std.specs.Prelude.{slice_index}
-use Rattle.pm_layout.specs.declared.Geometry.{Geometry}
 use Rattle.pm_layout.specs.Geometry.{gate_word}
 use Rattle.dn_model.specs.Disk.{of_head, at_gate}
-use Rattle.dn_model.specs.Image.{StandsFor, HasFiles}
 use Rattle.dn_model.proofs.L1.{rolled_closed, gate_closed}
-use Rattle.one_file.specs.First.{first_disk, IsFirst}
+use Rattle.one_file.specs.First.{first_disk}
 use Rattle.one_file.specs.Laws.{FirstImagesStand, FirstImagesHaveOneFile, IsFreePastFirst, IsUnusedPastFirst}
 use Rattle.one_file.proofs.FirstDisk.{first_valid, files-first, free_past, past_free, unused_past}
 

@@ -1,17 +1,16 @@
 -- A first image is its parts.
-use Rattle.std.proofs.Common.{◌≡◌, ◌≢◌, ◌⊎◌, inl, inr, ℕ, zero, suc, ◌+◌, ◌-◌, ◌*◌, ◌/◌, ◌%◌, ◌<◌, ◌≤◌, List, [], ◌∷◌, length, get_or, refl, sym, ◌∙◌, ap, subst, arith}
-use Rattle.std.specs.Prelude.{slice_index, IsSome}
+use Rattle.std.proofs.Common.{◌≡◌, ℕ, zero, suc, ◌+◌, ◌*◌, ◌<◌, ◌≤◌, List, [], ◌∷◌, length, get_or, refl, sym, ◌∙◌, ap, subst, arith}
+use Rattle.std.specs.Prelude.{slice_index}
 use Rattle.pm_layout.specs.declared.Geometry.{Geometry}
-use Rattle.pm_layout.specs.Geometry.{IsAccepted, first_data, directs, inode_word, slot_word, pointer_word, gate_word}
-use Rattle.log_entry.specs.Name.{IsLegal}
-use Rattle.log_entry.specs.Spelling.{spelling, spelled}
+use Rattle.pm_layout.specs.Geometry.{first_data, directs, inode_word, slot_word, pointer_word, gate_word}
+use Rattle.log_entry.specs.Spelling.{spelling}
 use Rattle.log_entry.specs.declared.item.LogItem.TheVariants.{Add}
-use Rattle.dn_model.specs.Log.{Log, no_log, LogSays, at_tail, at_head, at_footer, at_slot, count, tail_at, log_word, spelled_word}
-use Rattle.dn_model.specs.Table.{Row, RowsSay, ChainSays, at_direct_page, at_direct_next, at_row, row_of}
-use Rattle.dn_model.specs.Disk.{Disk, Inode, Use, Free, Live, Dying, IsUsed, IsMapped, rows, DiskSays, of_head, of_inodes, of_logs, of_chains, of_pointers, of_pages, HeadSays, at_magic, at_version, at_pages, at_inodes, at_gate, InodesSay, at_state, at_cut, LogsSay, ChainsSay, PointersSay, PagesSay}
+use Rattle.dn_model.specs.Log.{no_log, LogSays, at_tail, at_head, at_footer, at_slot, count, tail_at, spelled_word}
+use Rattle.dn_model.specs.Table.{ChainSays, at_direct_page, at_direct_next, at_row}
+use Rattle.dn_model.specs.Disk.{Disk, IsUsed, DiskSays, of_head, of_inodes, of_logs, of_chains, of_pointers, of_pages, HeadSays, at_magic, at_version, at_pages, at_inodes, at_gate, InodesSay, at_state, at_cut}
 use Rattle.one_file.specs.First.{first_log, first_inode, first_disk, IsFirst}
-use Rattle.one_file.specs.Parts.{HasGeometry, IsGateClosed, HasFirstRoot, HasEmptyFile, HasFreeInodes, IsEmptySlot, HasNoRows, HasNoPointers, HasFirstTable, HasFirstName}
-use Rattle.one_file.proofs.FirstDisk.{one_slot, count-first, count-none, unread}
+use Rattle.one_file.specs.Parts.{HasGeometry, IsGateClosed, HasFirstRoot, HasEmptyFile, HasFreeInodes, HasNoRows, HasNoPointers, HasFirstTable, HasFirstName}
+use Rattle.one_file.proofs.FirstDisk.{count-first, count-none, unread}
 
 -- what stands where something is said
 at_place : (w : List ℕ) (a b v x : ℕ) → a ≡ b → v ≡ x → slice_index w b ≡ x → slice_index w a ≡ v

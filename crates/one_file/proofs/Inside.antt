@@ -1,7 +1,7 @@
 -- The words of a first image lie inside the device.
-use Rattle.std.proofs.Common.{◌≡◌, ℕ, ◌+◌, ◌*◌, ◌<◌, ◌≤◌, List, length, arith}
+use Rattle.std.proofs.Common.{ℕ, ◌+◌, ◌*◌, ◌<◌, ◌≤◌, List, length, arith}
 use Rattle.pm_layout.specs.declared.Geometry.{Geometry}
-use Rattle.pm_layout.specs.Geometry.{first_data, directs, slots, inode_word, slot_word, pointer_word}
+use Rattle.pm_layout.specs.Geometry.{first_data, slots, inode_word, slot_word, pointer_word}
 use Rattle.dn_model.proofs.Regions.{inode_word_low}
 use Rattle.dn_changes.proofs.Unread.{slot_word_low, pointer_word_low}
 use Rattle.one_file.specs.Parts.{HasGeometry}

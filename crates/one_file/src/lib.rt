@@ -12,5 +12,7 @@ pub mod opening;
 pub mod parts;
 pub mod session;
 mod write;
+#[cfg(test)]
+mod tests;
 
 pub use opening::{Opened, open_first};

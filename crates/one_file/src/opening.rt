@@ -66,7 +66,11 @@ fn read_geometry<D: Pm>(device: &D) -> Option<Geometry>
 }
 
 // The name of the file, or None where the root's slot has no such name.
-fn read_first_name<D: Pm>(alloc: Global, device: &D, geometry: &Geometry) -> Result<Option<Name>, AllocError>
+fn read_first_name<D: Pm>(
+    alloc: Global,
+    device: &D,
+    geometry: &Geometry,
+) -> Result<Option<Name>, AllocError>
     requires { HasGeometry (D.state device.now).now geometry.now }
     ensures some { IfOk result (λ found. IfSome found (HasFirstName (D.state device.now).now geometry.now)) }
     ensures none { IfOk result (λ found. IfNone found ((name : List ℕ) → HasFirstName (D.state device.now).now geometry.now name → ⊥)) }
@@ -84,13 +88,7 @@ fn name_of_file(item: LogItem) -> Option<Name>
     ensures none { IfNone result ((name : List ℕ) → item ≡ LogItem.Add 1 name → ⊥) }
 {
     match item {
-        LogItem::Add { ino, name } => {
-            if ino == FILE {
-                Some(name)
-            } else {
-                None
-            }
-        }
+        LogItem::Add { ino, name } => { if ino == FILE { Some(name) } else { None } }
         _ => None,
     }
 }

@@ -1,6 +1,3 @@
-use Rattle.std.specs.Prelude.{IfSome, IfNone, Some, None, Option}
-use Rattle.std.proofs.Common.{◌≡◌, List, ℕ, subst, sym, ◌∙◌}
-use Rattle.one_file.specs.Parts.{HasFirstName}
 use Rattle.one_file.proofs.FirstWords.{first_of_parts, geometry_of, not_without_table, not_without_name}
 use Rattle.one_file.proofs.opening.open_first.Goals as goal
 

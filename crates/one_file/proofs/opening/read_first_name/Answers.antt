@@ -1,4 +1,4 @@
-use Rattle.std.proofs.Common.{◌≡◌, List, ℕ, [], ◌∷◌, subst, sym}
+use Rattle.std.proofs.Common.{◌≡◌, List, ℕ, [], ◌∷◌, subst}
 use Rattle.std.specs.Prelude.{IfSome, IfNone, Option, Some, None}
 use Rattle.log_entry.specs.Fronts.{BeginsWith}
 use Rattle.log_entry.specs.declared.item.LogItem.{LogItem}

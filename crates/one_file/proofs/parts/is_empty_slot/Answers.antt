@@ -1,4 +1,4 @@
-use Rattle.std.proofs.Common.{◌<◌, length, arith, subst}
+use Rattle.std.proofs.Common.{arith}
 use Rattle.one_file.proofs.Inside.{slot_inside}
 use Rattle.one_file.proofs.parts.is_empty_slot.Goals as goal
 
