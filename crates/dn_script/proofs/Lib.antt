@@ -1,0 +1,4 @@
+pub mod Digits
+pub mod NumberLists
+pub mod StreamLaws
+pub mod TextLaws

@@ -1,0 +1,16 @@
+//! Job texts, and the sources and sinks that they come from and replies go to.
+#![tactic(auto)]
+
+pub mod line;
+pub mod memory;
+pub mod spelling;
+pub mod stream;
+#[cfg(test)]
+mod tests;
+pub mod text;
+
+pub use line::{JobForm, LineMeaning, Numbers, line_meaning};
+pub use memory::{MemSink, MemSource};
+pub use spelling::number_of;
+pub use stream::{MOST_BYTES, ReadFault, Sink, Source, read_to_end, write_all};
+pub use text::first_line;

@@ -1,0 +1,245 @@
+// Words, lines and streams by example.
+use crate::spelling::{byte_of, number_of};
+use crate::{
+    JobForm, MemSink, MemSource, ReadFault, Sink, Source, first_line, line_meaning, read_to_end,
+    write_all,
+};
+use std::alloc::{AllocError, Global};
+use std::process::Abort;
+use std::test::Fail;
+
+// Asserts what lines say.
+fn check_lines(
+    rt: &impl Abort,
+    alloc: Global,
+    form: JobForm,
+    lines: &[(&str, &str)],
+) -> Result<(), AllocError> {
+    for (line, wanted) in lines {
+        let meaning = line_meaning(alloc, form, line.as_bytes())?;
+        let text = format!(in alloc; "{meaning:?}")?;
+        assert_eq!(rt; text.as_str(), *wanted, "at {line:?}");
+    }
+    Ok(())
+}
+
+// The lines of a text, each behind a bar.
+fn barred(alloc: Global, text: &[u8]) -> Result<Vec<u8>, AllocError> {
+    let mut out = Vec::new(alloc);
+    let mut rest = text;
+    for _ in 0..text.len() {
+        if rest.is_empty() {
+            break;
+        }
+        let (line, after) = first_line(rest);
+        out.push(b'|')?;
+        out.extend_from_slice(line)?;
+        rest = after;
+    }
+    Ok(out)
+}
+
+#[test]
+fn spells_words_and_lines(rt: HostRuntime) -> Result<(), Fail> {
+    let numbers = [
+        ("0", Some(0)),
+        ("7", Some(7)),
+        ("90", Some(90)),
+        ("18446744073709551615", Some(u64::MAX)),
+        ("18446744073709551616", None),
+        ("99999999999999999999999", None),
+        ("", None),
+        ("00", None),
+        ("07", None),
+        ("+7", None),
+        ("-7", None),
+        ("7a", None),
+    ];
+    for (word, wanted) in numbers {
+        assert_eq!(rt; number_of(word.as_bytes()), wanted, "at {word:?}");
+    }
+    let bytes = [
+        ("00", Some(0)),
+        ("fF", Some(255)),
+        ("1", None),
+        ("123", None),
+        ("0g", None),
+    ];
+    for (word, wanted) in bytes {
+        assert_eq!(rt; byte_of(word.as_bytes()), wanted, "at {word:?}");
+    }
+    let texts = [
+        ("", ""),
+        ("a", "|a"),
+        ("a\n", "|a"),
+        ("a\nbc", "|a|bc"),
+        ("\n\na\n\n", "|||a|"),
+    ];
+    for (text, wanted) in texts {
+        let lines = barred(rt.alloc(), text.as_bytes())?;
+        assert_eq!(rt; lines.as_slice(), wanted.as_bytes(), "at {text:?}");
+    }
+    Ok(())
+}
+
+#[test]
+fn reads_lines(rt: HostRuntime) -> Result<(), Fail> {
+    let alloc = rt.alloc();
+    let bad = [
+        "list ",
+        " list",
+        "list a",
+        "creat a",
+        "create",
+        "create ",
+        "create a b",
+        "create  a",
+        "write a 0",
+        "write a 0 1",
+        "write a 0 6g",
+        "write a 0 ",
+        "write a 00 61",
+        "fill a 0 2 6",
+        "fill a 0 131073 61",
+        "read a 0",
+        "cut a -1",
+        "rename a",
+        "size",
+        "client 0",
+        "client 15",
+        "client 01",
+        "turns",
+        "turns ",
+        "turns 1 x",
+        "count a",
+        "count",
+    ];
+    for line in bad {
+        check_lines(&rt, alloc, JobForm::Replay, &[(line, "Bad")])?;
+    }
+    check_lines(
+        &rt,
+        alloc,
+        JobForm::Apply,
+        &[
+            ("", "Skip"),
+            ("# list", "Skip"),
+            (
+                "create a",
+                "Do { op: Create { name: ByteText { bytes: [97] } }, weight: 0 }",
+            ),
+            (
+                "write a 5 4aB0",
+                "Do { op: Write { name: ByteText { bytes: [97] }, at: 5, bytes: ByteText { bytes: [74, 176] } }, weight: 0 }",
+            ),
+            (
+                "write a 5 -",
+                "Do { op: Write { name: ByteText { bytes: [97] }, at: 5, bytes: ByteText { bytes: [] } }, weight: 0 }",
+            ),
+            (
+                "fill a 5 3 61",
+                "Do { op: Write { name: ByteText { bytes: [97] }, at: 5, bytes: ByteText { bytes: [97, 97, 97] } }, weight: 3 }",
+            ),
+            (
+                "read a 5 131073",
+                "Do { op: Read { name: ByteText { bytes: [97] }, at: 5, length: 131073 }, weight: 131073 }",
+            ),
+            (
+                "cut a 0",
+                "Do { op: Cut { name: ByteText { bytes: [97] }, size: 0 }, weight: 0 }",
+            ),
+            (
+                "remove a",
+                "Do { op: Remove { name: ByteText { bytes: [97] } }, weight: 0 }",
+            ),
+            (
+                "rename a b",
+                "Do { op: Rename { from: ByteText { bytes: [97] }, to: ByteText { bytes: [98] } }, weight: 0 }",
+            ),
+            (
+                "size a",
+                "Do { op: Size { name: ByteText { bytes: [97] } }, weight: 0 }",
+            ),
+            ("list", "Do { op: List, weight: 1048576 }"),
+            ("client 1", "Bad"),
+            ("turns 1", "Bad"),
+            ("count 1", "Bad"),
+        ],
+    )?;
+    check_lines(
+        &rt,
+        alloc,
+        JobForm::Replay,
+        &[
+            ("client 14", "Client { number: 14 }"),
+            ("turns 1 16 99", "Turns(Numbers { numbers: [1, 16, 99] })"),
+            ("count 1", "Bad"),
+        ],
+    )?;
+    check_lines(
+        &rt,
+        alloc,
+        JobForm::Run,
+        &[
+            ("client 1", "Client { number: 1 }"),
+            ("turns 1", "Bad"),
+            ("count 7", "Count { slot: 7 }"),
+        ],
+    )?;
+    Ok(())
+}
+
+// A source of five bytes, of which each take gives some. The take with this number fails.
+fn read_five(alloc: Global, piece: usize, fail_at: u64) -> Result<Option<Vec<u8>>, AllocError> {
+    let bytes = Vec::from_slice(alloc, b"hello".as_slice())?;
+    let fail_at = Vec::from_slice(alloc, [fail_at].as_slice())?;
+    let mut source = MemSource::in_pieces(bytes, fail_at, piece.max(1));
+    match read_to_end(alloc, &mut source) {
+        Ok(bytes) => Ok(Some(bytes)),
+        Err(ReadFault::NoMemory) => Err(AllocError),
+        Err(_) => Ok(None),
+    }
+}
+
+// So many bytes, read from memory.
+fn read_many(alloc: Global, count: usize) -> Result<Result<usize, ReadFault>, AllocError> {
+    let bytes = vec![in alloc; 7u8; count]?;
+    let mut source = MemSource::of(bytes, Vec::new(alloc));
+    Ok(read_to_end(alloc, &mut source).map(|bytes| bytes.len()))
+}
+
+// Whether five bytes were written to a sink with this room, and what it took.
+fn write_five(alloc: Global, room: u64, fail_at: u64) -> Result<(bool, usize), AllocError> {
+    let fail_at = Vec::from_slice(alloc, [fail_at].as_slice())?;
+    let mut sink = MemSink::of(alloc, room, fail_at)?;
+    let written = write_all(&mut sink, b"hello".as_slice());
+    Ok((written == Ok(()), sink.bytes().len()))
+}
+
+#[test]
+fn moves_bytes(rt: HostRuntime) -> Result<(), Fail> {
+    let alloc = rt.alloc();
+    for (piece, takes) in [(1, 6), (2, 4), (3, 3), (5, 2), (9, 2)] {
+        for fail_at in 1..9 {
+            let read = read_five(alloc, piece, fail_at)?;
+            assert_eq!(rt;
+                read.is_some(),
+                fail_at > takes,
+                "pieces of {piece}, failing at {fail_at}"
+            );
+            if let Some(bytes) = read {
+                assert_eq!(rt; bytes.as_slice(), b"hello".as_slice());
+            }
+        }
+    }
+    assert_eq!(rt; read_many(alloc, 0)?, Ok(0));
+    assert_eq!(rt; read_many(alloc, 200_000)?, Ok(200_000));
+    assert_eq!(rt; read_many(alloc, 16_777_216)?, Ok(16_777_216));
+    assert_eq!(rt; read_many(alloc, 16_777_217)?, Err(ReadFault::TooLong));
+    assert_eq!(rt; write_five(alloc, 5, 0)?, (true, 5));
+    assert_eq!(rt; write_five(alloc, 9, 2)?, (true, 5));
+    assert_eq!(rt; write_five(alloc, 4, 0)?, (false, 4));
+    assert_eq!(rt; write_five(alloc, 0, 0)?, (false, 0));
+    assert_eq!(rt; write_five(alloc, 9, 1)?, (false, 0));
+    Ok(())
+}
