@@ -2,13 +2,15 @@
 #![tactic(auto)]
 
 mod report;
+mod streams;
 mod words;
 
+use dn_script::write_all;
 use report::{NO_MEMORY, UNBUILT, USAGE};
-use std::io::Write;
 use std::process::ExitCode;
 use std::rt::Env;
 use std::{env, io};
+use streams::StdSink;
 use words::Command;
 
 // The words after the program's name.
@@ -28,6 +30,6 @@ fn main(rt: HostRuntime) -> ExitCode {
             Some(Command::Apply) => (3, UNBUILT),
         },
     };
-    let _ = io::writer(&rt).write_all(text);
+    let _ = write_all(&mut StdSink::of(io::writer(&rt)), text);
     ExitCode::from(status)
 }

@@ -1,6 +1,5 @@
 // The texts that the program writes.
-ghost use Rattle.std.specs.Prelude.{◌≡◌, ◌++◌, List, length, OnOk};
-ghost use Rattle.std.specs.List.{flat_map};
+ghost use Rattle.std.specs.Prelude.{◌≡◌, ◌++◌, OnOk};
 ghost use Rattle.denova_cli.specs.Report.{spaced, spaced_number, spaced_digits, bytes_text, names_text, refusal_text, reply_text, history_line, line_end, last_line, bad_line_text};
 
 use dn_model::{Refusal, Reply};
