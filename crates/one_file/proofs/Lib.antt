@@ -7,3 +7,4 @@ pub mod CommitPage
 pub mod NeedsRoom
 pub mod Taken
 pub mod HeldFree
+pub mod MayCommit

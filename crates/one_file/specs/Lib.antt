@@ -7,3 +7,4 @@ pub mod Run
 pub mod Write
 pub mod PutLoop
 pub mod Session
+pub mod WriteHeld
