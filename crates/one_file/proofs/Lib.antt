@@ -4,3 +4,6 @@ pub mod Inside
 pub mod FirstSlot
 pub mod FirstImage
 pub mod CommitPage
+pub mod HeldFiles
+pub mod Window
+pub mod Refusals

@@ -4,3 +4,4 @@ pub mod Parts
 pub mod CommitPage
 pub mod Held
 pub mod Run
+pub mod ReadFile

@@ -5,10 +5,13 @@
 #![tactic(auto)]
 
 pub mod answer;
+pub mod answer_read;
 pub mod commit;
 pub mod file;
 pub mod laws;
 pub mod opening;
 pub mod parts;
+pub mod read;
+pub mod refuse;
 
 pub use opening::{Opened, open_first};
