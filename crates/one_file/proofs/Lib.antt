@@ -8,3 +8,6 @@ pub mod NeedsRoom
 pub mod Taken
 pub mod HeldFree
 pub mod MayCommit
+pub mod HeldFiles
+pub mod Window
+pub mod Refusals

@@ -8,3 +8,4 @@ pub mod Write
 pub mod PutLoop
 pub mod Session
 pub mod WriteHeld
+pub mod ReadFile

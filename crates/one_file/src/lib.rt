@@ -5,6 +5,7 @@
 #![tactic(auto)]
 
 pub mod answer;
+pub mod answer_read;
 pub mod commit;
 pub mod file;
 pub mod laws;
@@ -14,5 +15,7 @@ pub mod session;
 mod write;
 #[cfg(test)]
 mod tests;
+pub mod read;
+pub mod refuse;
 
 pub use opening::{Opened, open_first};
