@@ -11,3 +11,4 @@ pub mod MayCommit
 pub mod HeldFiles
 pub mod Window
 pub mod Refusals
+pub mod WriteHeld

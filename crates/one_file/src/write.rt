@@ -1,15 +1,19 @@
 // A write of the file's one page.
-ghost use Rattle.std.specs.Prelude.{◌≡◌, ◌≢◌, ◌↔◌, ◌+◌, ◌*◌, ◌<◌, ◌≤◌, ℕ, List, [], length, slice_index, max, IsTrue, IfOk, OnOk, vec_len, if◌then◌else◌};
+ghost use Rattle.std.specs.Prelude.{◌≡◌, ◌↔◌, ◌+◌, ◌<◌, ◌≤◌, ℕ, length, slice_index, Contains, IsTrue, IfOk, OnOk, MatchOption, if◌then◌else◌};
+ghost use Rattle.pm_device.specs.State.{Rose};
+ghost use Rattle.log_entry.specs.Spelling.{spelling};
 ghost use Rattle.dn_model.specs.Disk.{Disk};
-ghost use Rattle.dn_model.specs.Files.{bytes};
 ghost use Rattle.dn_model.specs.History.{room};
-ghost use Rattle.page_alloc.specs.Free.{Takes};
+ghost use Rattle.page_alloc.specs.Free.{IsInOrder, Takes};
 ghost use Rattle.one_file.specs.Held.{Agrees, IsDiskOf};
+ghost use Rattle.one_file.specs.WriteHeld.{GivesOldBack, HasWritten};
 ghost use Rattle.one_file.specs.Write.{TakesFresh, PutsText};
 
-use crate::commit::FILE;
+use crate::answer::RunFault;
+use crate::commit::{COMMIT_UNITS, FILE, commit_page};
 use crate::file::OneFile;
 use inode_log::prepare::is_full;
+use log_entry::{Flag, LogItem, write_item};
 use page_alloc::FreeSet;
 use pm_device::Pm;
 use std::alloc::{AllocError, Global};
@@ -28,7 +32,8 @@ fn needs_log_page<D: Pm>(v: &OneFile<D>) -> bool
 // Takes the least free page.
 fn take_page(free: &mut FreeSet) -> u64
     requires { 1 ≤ length free.old.free }
-    ensures { Takes result free.old free.new }
+    ensures takes { Takes result free.old free.new }
+    ensures in_order { IsInOrder free.new }
 {
     free.take().unwrap()
 }
@@ -69,4 +74,69 @@ fn put_text(page: &mut [u8], size: usize, text: &[u8])
     for (k, byte) in page.iter_mut().enumerate() {
         *byte = new_byte(*byte, k, size, text);
     }
+}
+
+// The slots of the item that maps the file's first place to a page.
+fn write_slots(alloc: Global, page: u64, size: u64) -> Result<Vec<[u64; 8]>, AllocError>
+    requires some { 1 ≤ size }
+    requires few { size ≤ 4096 }
+    ensures { IfOk result (λ slots. slots.items ≡ spelling (LogItem.Write 0 1 page size Flag.Needed 0)) }
+{
+    let mut slots = Vec::new(alloc);
+    let item = LogItem::Write {
+        first: 0,
+        count: 1,
+        block: page,
+        size,
+        flag: Flag::Needed,
+        mask: 0,
+    };
+    write_item(&item, &mut slots)?;
+    Ok(slots)
+}
+
+// Gives the overwritten page back, where there is one.
+fn give_old_back(free: &mut FreeSet, block: Option<u64>)
+    requires { MatchOption block (Unit {0}) (λ b. (b < free.old.pages) × (¬ Contains free.old.free b)) }
+    ensures { GivesOldBack block free.old free.new }
+{
+    if let Some(old) = block {
+        free.give_back(old);
+    }
+}
+
+// Takes pages, writes the content to one, and maps the file's first place to it.
+fn commit_write<D: Pm>(
+    alloc: Global,
+    v: &mut OneFile<D>,
+    content: &[u8],
+    size: u64,
+) -> Result<(), RunFault>
+    requires agrees { Agrees D.state v.old }
+    requires enough { 4 ≤ length v.old.free.free }
+    requires whole { length content.now ≡ 4096 }
+    requires some { 1 ≤ size }
+    requires few { size ≤ 4096 }
+    requires grows { v.old.size ≤ size }
+    requires zeros { (k : ℕ) → size ≤ k → k < 4096 → slice_index content.now k ≡ 0 }
+    requires room { COMMIT_UNITS ≤ (D.state v.old.device).spare }
+    ensures written { OnOk result ((d : Disk) → IsDiskOf D.state v.old d → HasWritten D.state v.old v.new size content.now d) }
+    ensures later { (D.state v.old.device).faults ≤ (D.state v.new.device).faults }
+    ensures stopped { result ≡ Err RunFault.Stopped → Rose (D.state v.old.device).faults (D.state v.new.device).faults }
+{
+    let for_log = needs_log_page(v);
+    let Ok(fresh) = take_log_page(alloc, &mut v.free, for_log) else {
+        return Err(RunFault::NoMemory);
+    };
+    let page = take_page(&mut v.free);
+    let Ok(slots) = write_slots(alloc, page, size) else {
+        return Err(RunFault::NoMemory);
+    };
+    let Ok(()) = commit_page(&mut v.device, &v.geometry, page, content, &slots, &fresh) else {
+        return Err(RunFault::Stopped);
+    };
+    give_old_back(&mut v.free, v.block);
+    v.block = Some(page);
+    v.size = size;
+    Ok(())
 }
