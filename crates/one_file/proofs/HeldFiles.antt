@@ -18,7 +18,7 @@ use Rattle.one_file.specs.ReadFile.{HoldsFile}
 
 module _ {D : Type 0} (state : D → State) (v : OneFile D) (d : Disk) (is : IsDiskOf state v d) where
   -- the one name of the root leads to the file
-  named_of : (name : List ℕ) → named d name ≡ (if same_name v.name name then Some 1 else None)
+  pub named_of : (name : List ℕ) → named d name ≡ (if same_name v.name name then Some 1 else None)
   unfolding named
   named_of name = ap (named_after name None) is.root
 

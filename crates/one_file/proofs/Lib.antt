@@ -12,3 +12,8 @@ pub mod HeldFiles
 pub mod Window
 pub mod Refusals
 pub mod WriteHeld
+pub mod WriteStep
+pub mod HeldSame
+pub mod FirstHeld
+pub mod Running
+pub mod GivenPages

@@ -9,3 +9,5 @@ pub mod PutLoop
 pub mod Session
 pub mod WriteHeld
 pub mod ReadFile
+pub mod RunLoop
+pub mod FreeLoop

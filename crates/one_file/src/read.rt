@@ -31,8 +31,8 @@ pub(crate) fn read_bytes<D: Pm>(
     Vec::from_slice(alloc, &page[start as usize..end as usize])
 }
 
-// The bytes of the file's page, or zeros where it has none.
-fn file_page<D: Pm>(alloc: Global, v: &OneFile<D>) -> Result<Vec<u8>, AllocError>
+/// The bytes of the file's page, or zeros where it has none.
+pub(crate) fn file_page<D: Pm>(alloc: Global, v: &OneFile<D>) -> Result<Vec<u8>, AllocError>
     requires { Agrees D.state v.now }
     ensures { IfOk result (λ page. HoldsFile D.state v.now page.items) }
 {
