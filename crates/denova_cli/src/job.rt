@@ -80,8 +80,8 @@ fn line_part(alloc: Global, line: &[u8]) -> Result<JobPart, AllocError>
     Ok(part_of(line_meaning(alloc, JobForm::Apply, line)?))
 }
 
-#[tactic(auto, using(crate::proofs::Jobs::job_steps))]
 // Appends the operation of the line of this number, where it has one.
+#[tactic(auto, using(crate::proofs::Jobs::job_steps))]
 fn add_line(ops: &mut Vec<NumberedOp>, number: u64, line: &[u8]) -> Result<(), JobFault>
     ensures ok { OnOk result ((rest : JobText) → prefixed ops.old.items (with_part number (part_of (meaning_of Apply line.now)) rest) ≡ prefixed ops.new.items rest) }
     ensures bad { IfErr result (λ fault. (rest : JobText) → FaultTells fault (prefixed ops.old.items (with_part number (part_of (meaning_of Apply line.now)) rest))) }
@@ -95,11 +95,11 @@ fn add_line(ops: &mut Vec<NumberedOp>, number: u64, line: &[u8]) -> Result<(), J
     }
 }
 
-#[tactic(auto, using(crate::proofs::Jobs::job_steps))]
 /// The operations of a job, in order.
 ///
 /// Served are, besides lines that say nothing, `write NAME 0 HEX` with 1 to 4,096 bytes, and `read NAME AT LENGTH`.
 /// `BadLine` comes with the number of the first line that is another.
+#[tactic(auto, using(crate::proofs::Jobs::job_steps))]
 pub fn read_ops(alloc: Global, text: &[u8]) -> Result<Vec<NumberedOp>, JobFault>
     ensures ok { IfOk result (λ ops. job_of 1 (lines text.now) ≡ Ops ops.items) }
     ensures bad { IfErr result (λ fault. FaultTells fault (job_of 1 (lines text.now))) }
