@@ -1,6 +1,7 @@
 //! The program: commands on an image of the file system.
 #![tactic(auto)]
 
+mod job;
 mod report;
 mod streams;
 mod words;
