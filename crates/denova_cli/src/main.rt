@@ -4,6 +4,7 @@
 mod job;
 mod report;
 mod streams;
+mod tool;
 mod words;
 
 use dn_script::write_all;
