@@ -1,1 +1,5 @@
+pub mod Jobs
+pub mod Outcomes
+pub mod Reports
+pub mod Served
 pub mod Texts

@@ -1,2 +1,4 @@
+pub mod Job
 pub mod Report
+pub mod Tool
 pub mod Words

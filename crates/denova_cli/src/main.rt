@@ -1,8 +1,10 @@
 //! The program: commands on an image of the file system.
 #![tactic(auto)]
 
+mod job;
 mod report;
 mod streams;
+mod tool;
 mod words;
 
 use dn_script::write_all;

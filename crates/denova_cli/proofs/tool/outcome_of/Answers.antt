@@ -1,0 +1,5 @@
+use Rattle.std.proofs.Common.{refl}
+use Rattle.denova_cli.proofs.tool.outcome_of.Goals as goal
+
+pub returns-in-None-clause-tells : goal.returns-in-None-clause-tells
+returns-in-None-clause-tells g c = (refl, c.in-None.ensures.none.0 refl)

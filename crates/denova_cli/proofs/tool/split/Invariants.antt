@@ -1,0 +1,9 @@
+use Rattle.std.proofs.Common.{◌≡◌}
+use Rattle.denova_cli.specs.Tool.{ops_in, lines_in}
+use Rattle.denova_cli.proofs.tool.split.Given as goal
+
+abbrev pub invariant-loop-line : goal.invariant-loop-line
+invariant-loop-line l = record {
+  ops : l.ops.items ≡ ops_in l.yielded;
+  lines : l.lines.items ≡ lines_in l.yielded;
+}

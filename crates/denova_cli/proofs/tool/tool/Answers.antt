@@ -1,0 +1,38 @@
+use Rattle.denova_cli.proofs.Outcomes.{applied, usage, bad_job, unbuilt, stopped, unread, unwritten, no_memory, too_long, known, no_command, complete}
+use Rattle.denova_cli.proofs.tool.tool.Goals as goal
+
+pub returns-clause-applied : goal.returns-clause-applied
+returns-clause-applied g c = applied _ _ _ _ _ _ _ _ _ _ _ c.call.ensures.ended
+
+pub returns-clause-usage : goal.returns-clause-usage
+returns-clause-usage g c = usage _ _ _ _ _ _ _ _ _ _ _ c.call.ensures.ended
+
+pub returns-clause-bad_job : goal.returns-clause-bad_job
+returns-clause-bad_job g c = bad_job _ _ _ _ _ _ _ _ _ _ _ c.call.ensures.ended
+
+pub returns-clause-unbuilt : goal.returns-clause-unbuilt
+returns-clause-unbuilt g c = unbuilt _ _ _ _ _ _ _ _ _ _ _ c.call.ensures.ended
+
+pub returns-clause-stopped : goal.returns-clause-stopped
+returns-clause-stopped g c = stopped _ _ _ _ _ _ _ _ _ _ _ c.call.ensures.ended
+
+pub returns-clause-unread : goal.returns-clause-unread
+returns-clause-unread g c = unread _ _ _ _ _ _ _ _ _ _ _ c.call.ensures.ended
+
+pub returns-clause-unwritten : goal.returns-clause-unwritten
+returns-clause-unwritten g c = unwritten _ _ _ _ _ _ _ _ _ _ _ c.call.ensures.ended
+
+pub returns-clause-no_memory : goal.returns-clause-no_memory
+returns-clause-no_memory g c = no_memory _ _ _ _ _ _ _ _ _ _ _ c.call.ensures.ended
+
+pub returns-clause-too_long : goal.returns-clause-too_long
+returns-clause-too_long g c = too_long _ _ _ _ _ _ _ _ _ _ _ c.call.ensures.ended
+
+pub returns-clause-known : goal.returns-clause-known
+returns-clause-known g c = known _ _ _ _ _ _ _ _ _ _ _ c.call.ensures.ended
+
+pub returns-clause-no_command : goal.returns-clause-no_command
+returns-clause-no_command g c = no_command _ _ _ _ _ _ _ _ _ _ _ c.call.ensures.ended
+
+pub returns-clause-complete : goal.returns-clause-complete
+returns-clause-complete g c = complete _ _ _ _ _ _ _ _ _ _ _ c.call.ensures.ended

@@ -1,0 +1,376 @@
+// What the program does for the command that is served.
+ghost use Rattle.std.specs.Prelude.{◌≡◌, ◌≢◌, ◌⊎◌, ◌++◌, ◌≤◌, ◌<◌, ℕ, List, length, map, string_bytes, IfOk, IfErr, OnOk, All};
+ghost use Rattle.pm_device.specs.State.{Rose};
+ghost use Rattle.pm_device.specs.Settled.{Still};
+ghost use Rattle.dn_script.specs.Streams.{with_back};
+ghost use Rattle.dn_model.specs.declared.op.Op.{Op};
+ghost use Rattle.one_file.specs.Held.{Agrees, IsDiskOf};
+ghost use Rattle.one_file.specs.Session.{IsServed, IsOpened};
+ghost use Rattle.denova_cli.specs.Report.{history_text, report_text, bad_line_text, stopped_text, no_memory_text};
+ghost use Rattle.denova_cli.specs.Tool.{HasText, HasJob, answered, ops_in, lines_in, status_of, text_of, IsTold, ReadTells, JobFaultTells, JobTells, EndTells, RunTells, OpsTell, ApplyTells, Tells, Ended, IsNoCommand, IsApplied, IsUsage, IsBadJob, IsUnbuilt, IsStopped, IsUnread, IsTooLong, IsServable};
+
+use crate::job::{JobFault, NumberedOp, read_ops};
+use crate::report::{
+    NO_MEMORY, READ_FAULT, STOPPED, TOO_LONG, UNBUILT, USAGE, write_bad_line, write_end, write_line,
+};
+use crate::words::{Command, command_of};
+use dn_model::{Entry, Op};
+use dn_script::{ReadFault, Sink, Source, read_to_end, write_all};
+use one_file::answer::RunFault;
+use one_file::file::OneFile;
+use one_file::session::{OpenFault, free_pages, open, run};
+use pm_device::Pm;
+use std::alloc::{AllocError, Global};
+
+/// The number of the one client in a report.
+const CLIENT: u32 = 1;
+
+/// The status where a text couldn't be written.
+const WRITE_FAULT: u8 = 6;
+
+/// How a command ended. A text is all that the program writes.
+#[derive(Debug, Drop)]
+pub enum Outcome {
+    /// Each operation was answered: the report.
+    Applied(Vec<u8>),
+    /// The words give no command.
+    Usage,
+    /// The job has a line that is no command: the text that tells its number.
+    BadLine(Vec<u8>),
+    /// The image is one that isn't served yet.
+    Unbuilt,
+    /// The device stopped: the lines of what was answered before, and the last line.
+    Stopped(Vec<u8>),
+    /// The job couldn't be read.
+    ReadFault,
+    /// Memory ran out.
+    NoMemory,
+    /// The job is too long.
+    TooLong,
+}
+
+impl Outcome {
+    // The status that the program ends with.
+    fn status(&self) -> u8
+        ensures { result ≡ status_of self.now }
+    {
+        match self {
+            Outcome::Applied(_) => 0,
+            Outcome::Usage => 1,
+            Outcome::BadLine(_) => 2,
+            Outcome::Unbuilt => 3,
+            Outcome::Stopped(_) => 4,
+            Outcome::ReadFault => 5,
+            Outcome::NoMemory => 7,
+            Outcome::TooLong => 8,
+        }
+    }
+
+    // The text that it writes.
+    fn text(&self) -> &[u8]
+        ensures { result.now ≡ text_of self.now }
+    {
+        match self {
+            Outcome::Applied(text) => text,
+            Outcome::Usage => USAGE,
+            Outcome::BadLine(text) => text,
+            Outcome::Unbuilt => UNBUILT,
+            Outcome::Stopped(text) => text,
+            Outcome::ReadFault => READ_FAULT,
+            Outcome::NoMemory => NO_MEMORY,
+            Outcome::TooLong => TOO_LONG,
+        }
+    }
+}
+
+// Writes the text, and answers the status: that of the outcome, or of a failed write.
+fn tell<K: Sink>(out: &mut K, outcome: &Outcome) -> u8
+    ensures told { IsTold outcome.now (K.taken out.old) (K.taken out.new) (K.faults out.old) (K.faults out.new) result }
+    ensures counts { K.faults out.old ≤ K.faults out.new }
+{
+    match write_all(out, outcome.text()) {
+        Ok(()) => outcome.status(),
+        Err(_) => WRITE_FAULT,
+    }
+}
+
+// The outcome of a job that wasn't read to its end.
+fn read_outcome(fault: ReadFault) -> Outcome
+    ensures { ReadTells fault result }
+{
+    match fault {
+        ReadFault::Failed => Outcome::ReadFault,
+        ReadFault::TooLong => Outcome::TooLong,
+        ReadFault::NoMemory => Outcome::NoMemory,
+    }
+}
+
+// The text of a job with a line that is no command.
+fn bad_line(alloc: Global, line: u64) -> Result<Vec<u8>, AllocError>
+    ensures { IfOk result (λ text. text.items ≡ bad_line_text line) }
+{
+    let mut text = Vec::new(alloc);
+    write_bad_line(&mut text, line)?;
+    Ok(text)
+}
+
+// The outcome of a job that has no operations.
+fn job_outcome(alloc: Global, fault: JobFault) -> Outcome
+    ensures { JobFaultTells fault result }
+{
+    match fault {
+        JobFault::BadLine { line } => match bad_line(alloc, line) {
+            Ok(text) => Outcome::BadLine(text),
+            Err(_) => Outcome::NoMemory,
+        },
+        JobFault::NoMemory => Outcome::NoMemory,
+    }
+}
+
+// Reads the text of a job.
+fn read_text<S: Source>(alloc: Global, input: &mut S) -> Result<Vec<u8>, Outcome>
+    ensures ok { IfOk result (λ text. HasText (S.left input.old) text.items) }
+    ensures err { IfErr result (λ outcome. JobTells (S.left input.old) (S.faults input.old) (S.faults input.new) outcome) }
+    ensures counts { S.faults input.old ≤ S.faults input.new }
+{
+    match read_to_end(alloc, input) {
+        Ok(text) => Ok(text),
+        Err(fault) => Err(read_outcome(fault)),
+    }
+}
+
+// Reads a job.
+fn read_job<S: Source>(alloc: Global, input: &mut S) -> Result<Vec<NumberedOp>, Outcome>
+    ensures ok { IfOk result (λ ops. HasJob (S.left input.old) ops.items) }
+    ensures err { IfErr result (λ outcome. JobTells (S.left input.old) (S.faults input.old) (S.faults input.new) outcome) }
+    ensures counts { S.faults input.old ≤ S.faults input.new }
+{
+    let text = read_text(alloc, input)?;
+    match read_ops(alloc, &text) {
+        Ok(ops) => Ok(ops),
+        Err(fault) => Err(job_outcome(alloc, fault)),
+    }
+}
+
+// The operations and the numbers of their lines.
+fn split(alloc: Global, job: Vec<NumberedOp>) -> Result<(Vec<Op>, Vec<u64>), AllocError>
+    ensures ops { IfOk result (λ parts. parts.0.items ≡ ops_in job.items) }
+    ensures lines { IfOk result (λ parts. parts.1.items ≡ lines_in job.items) }
+{
+    let mut ops = Vec::new(alloc);
+    let mut lines = Vec::new(alloc);
+    for NumberedOp { line, op } in job {
+        ops.push(op)?;
+        lines.push(line)?;
+    }
+    Ok((ops, lines))
+}
+
+// Appends the line of each operation that was answered.
+fn write_history(
+    text: &mut Vec<u8>,
+    lines: &[u64],
+    history: &[Entry],
+) -> Result<(), AllocError>
+    ensures { OnOk result (text.new.items ≡ text.old.items ++ history_text (answered lines.now history.now)) }
+{
+    let count = lines.len().min(history.len());
+    for k in 0..count {
+        write_line(text, CLIENT, lines[k], &history[k].reply)?;
+    }
+    Ok(())
+}
+
+// The text where each operation was answered.
+fn report(
+    alloc: Global,
+    lines: &[u64],
+    history: &[Entry],
+    free: u64,
+) -> Result<Vec<u8>, AllocError>
+    ensures { IfOk result (λ text. text.items ≡ report_text (answered lines.now history.now) free) }
+{
+    let mut text = Vec::new(alloc);
+    write_history(&mut text, lines, history)?;
+    write_end(&mut text, lines.len().min(history.len()) as u64, free)?;
+    Ok(text)
+}
+
+// The text where the device stopped.
+fn stopped_report(
+    alloc: Global,
+    lines: &[u64],
+    history: &[Entry],
+) -> Result<Vec<u8>, AllocError>
+    ensures { IfOk result (λ text. text.items ≡ history_text (answered lines.now history.now) ++ stopped_text) }
+{
+    let mut text = Vec::new(alloc);
+    write_history(&mut text, lines, history)?;
+    text.extend_from_slice(STOPPED)?;
+    Ok(text)
+}
+
+// How a run ended.
+fn run_outcome<D: Pm>(
+    alloc: Global,
+    v: &OneFile<D>,
+    ran: Result<(), RunFault>,
+    lines: &[u64],
+    history: &[Entry],
+) -> Outcome
+    requires { OnOk ran (Agrees D.state v.now) }
+    ensures { EndTells D.state v.now ran lines.now history.now result }
+{
+    match ran {
+        Ok(()) => match report(alloc, lines, history, free_pages(v)) {
+            Ok(text) => Outcome::Applied(text),
+            Err(_) => Outcome::NoMemory,
+        },
+        Err(RunFault::Stopped) => match stopped_report(alloc, lines, history) {
+            Ok(text) => Outcome::Stopped(text),
+            Err(_) => Outcome::NoMemory,
+        },
+        Err(RunFault::NoMemory) => Outcome::NoMemory,
+    }
+}
+
+// Runs the operations on an image that is open, and gives the device back.
+fn run_opened<D: Pm>(
+    alloc: Global,
+    mut v: OneFile<D>,
+    ops: Vec<Op>,
+    lines: &[u64],
+) -> (Outcome, D)
+    requires agrees { Agrees D.state v }
+    requires served { All IsServed ops.items }
+    ensures tells { RunTells D.state v ops.items lines.now (D.state result.1) result.0 }
+    ensures later { (D.state v.device).faults ≤ (D.state result.1).faults }
+{
+    let mut history = Vec::new(alloc);
+    let ran = run(alloc, &mut v, ops, &mut history);
+    let outcome = run_outcome(alloc, &v, ran, lines, &history);
+    let OneFile {
+        device,
+        geometry: _,
+        name: _,
+        free: _,
+        size: _,
+        block: _,
+    } = v;
+    (outcome, device)
+}
+
+// Runs the operations on the image of a device.
+fn run_ops<D: Pm>(alloc: Global, device: D, ops: Vec<Op>, lines: &[u64]) -> (Outcome, D)
+    requires still { Still (D.state device) }
+    requires served { All IsServed ops.items }
+    ensures tells { OpsTell ops.items lines.now (D.state device) (D.state result.1) result.0 }
+    ensures later { (D.state device).faults ≤ (D.state result.1).faults }
+{
+    match open(alloc, device) {
+        Ok(v) => run_opened(alloc, v, ops, lines),
+        Err((OpenFault::Unbuilt, device)) => (Outcome::Unbuilt, device),
+        Err((OpenFault::NoMemory, device)) => (Outcome::NoMemory, device),
+    }
+}
+
+// Runs a job on the image of a device.
+fn run_job<D: Pm>(alloc: Global, device: D, job: Vec<NumberedOp>) -> (Outcome, D)
+    requires still { Still (D.state device) }
+    requires served { All IsServed (ops_in job.items) }
+    ensures tells { OpsTell (ops_in job.items) (lines_in job.items) (D.state device) (D.state result.1) result.0 }
+    ensures later { (D.state device).faults ≤ (D.state result.1).faults }
+{
+    match split(alloc, job) {
+        Ok((ops, lines)) => run_ops(alloc, device, ops, &lines),
+        Err(_) => (Outcome::NoMemory, device),
+    }
+}
+
+// Reads a job and runs it on the image of a device.
+fn apply<D: Pm, S: Source>(alloc: Global, device: D, input: &mut S) -> (Outcome, D)
+    requires { Still (D.state device) }
+    ensures tells { ApplyTells (S.left input.old) (S.faults input.old) (S.faults input.new) (D.state device) (D.state result.1) result.0 }
+    ensures later { (D.state device).faults ≤ (D.state result.1).faults }
+    ensures counts { S.faults input.old ≤ S.faults input.new }
+{
+    match read_job(alloc, input) {
+        Ok(job) => run_job(alloc, device, job),
+        Err(outcome) => (outcome, device),
+    }
+}
+
+// Does what the words say.
+fn outcome_of<D: Pm, S: Source>(
+    alloc: Global,
+    words: &[String],
+    device: D,
+    input: &mut S,
+) -> (Outcome, D)
+    requires { Still (D.state device) }
+    ensures tells { Tells (map string_bytes words.now) (S.left input.old) (S.faults input.old) (S.faults input.new) (D.state device) (D.state result.1) result.0 }
+    ensures later { (D.state device).faults ≤ (D.state result.1).faults }
+    ensures counts { S.faults input.old ≤ S.faults input.new }
+{
+    match command_of(words) {
+        Some(Command::Apply) => apply(alloc, device, input),
+        None => (Outcome::Usage, device),
+    }
+}
+
+// The whole call, for an outcome that is told.
+fn call<D: Pm, S: Source, K: Sink>(
+    alloc: Global,
+    words: &[String],
+    device: D,
+    input: &mut S,
+    out: &mut K,
+) -> (u8, D)
+    requires { Still (D.state device) }
+    ensures ended { Ended (map string_bytes words.now) (S.left input.old) (S.faults input.old) (S.faults input.new) (D.state device) (D.state result.1) (K.taken out.old) (K.taken out.new) (K.faults out.old) (K.faults out.new) result.0 }
+    ensures device_faults { (D.state device).faults ≤ (D.state result.1).faults }
+    ensures source_faults { S.faults input.old ≤ S.faults input.new }
+    ensures sink_faults { K.faults out.old ≤ K.faults out.new }
+{
+    let (outcome, back) = outcome_of(alloc, words, device, input);
+    let status = tell(out, &outcome);
+    (status, back)
+}
+
+/// Does what the words after the program's name say: `IMAGE apply` reads a job from the input, runs its operations
+/// on the image that the device holds, and writes one line for each reply and a last line `end ENTRIES FREE`.
+/// Answers the status that the program ends with, and the device.
+///
+/// Status 0 is that of a whole run. At 1 the words give no command, at 2 the job has a line that is no command, at 3
+/// the image is none that is served, at 4 the device failed, at 5 the input, at 6 the output. At 7 memory ran out. At
+/// 8 the job is longer than 16,777,216 bytes.
+pub fn tool<D: Pm, S: Source, K: Sink>(
+    alloc: Global,
+    words: &[String],
+    device: D,
+    input: &mut S,
+    out: &mut K,
+) -> (u8, D)
+    requires still { Still (D.state device) }
+    ensures applied { result.0 ≡ 0 → IsApplied (map string_bytes words.now) (S.left input.old) (D.state device) (D.state result.1) (K.taken out.old) (K.taken out.new) }
+    ensures usage { result.0 ≡ 1 → IsUsage (map string_bytes words.now) (D.state device) (D.state result.1) (K.taken out.old) (K.taken out.new) }
+    ensures no_command { IsNoCommand (map string_bytes words.now) → (result.0 ≡ 1) ⊎ (result.0 ≡ 6) }
+    ensures bad_job { result.0 ≡ 2 → IsBadJob (map string_bytes words.now) (S.left input.old) (D.state device) (D.state result.1) (K.taken out.old) (K.taken out.new) }
+    ensures unbuilt { result.0 ≡ 3 → IsUnbuilt (map string_bytes words.now) (S.left input.old) (D.state device) (D.state result.1) (K.taken out.old) (K.taken out.new) }
+    ensures stopped { result.0 ≡ 4 → IsStopped (map string_bytes words.now) (S.left input.old) (D.state device) (D.state result.1) (K.taken out.old) (K.taken out.new) }
+    ensures unread { result.0 ≡ 5 → IsUnread (map string_bytes words.now) (S.faults input.old) (S.faults input.new) (D.state device) (D.state result.1) (K.taken out.old) (K.taken out.new) }
+    ensures unwritten { result.0 ≡ 6 → Rose (K.faults out.old) (K.faults out.new) }
+    ensures no_memory { result.0 ≡ 7 → K.taken out.new ≡ with_back (K.taken out.old) no_memory_text }
+    ensures too_long { result.0 ≡ 8 → IsTooLong (map string_bytes words.now) (S.left input.old) (D.state device) (D.state result.1) (K.taken out.old) (K.taken out.new) }
+    ensures known { result.0 ≤ 8 }
+
+    // the faults never fall
+    ensures device_faults { (D.state device).faults ≤ (D.state result.1).faults }
+    ensures source_faults { S.faults input.old ≤ S.faults input.new }
+    ensures sink_faults { K.faults out.old ≤ K.faults out.new }
+
+    // a run that can be served is, unless memory runs out
+    ensures complete { IsServable (map string_bytes words.now) (S.left input.old) (S.faults input.old) (S.faults input.new) (D.state device) (D.state result.1) (K.faults out.old) (K.faults out.new) → (result.0 ≡ 0) ⊎ (result.0 ≡ 7) }
+{
+    call(alloc, words, device, input, out)
+}
