@@ -1,13 +1,13 @@
 -- A run of words that is copied into place, and flushes that are forgotten.
-use Rattle.std.proofs.Common.{◌≡◌, inl, inr, ℕ, ◌+◌, ◌-◌, ◌<◌, ◌≤◌, Bool, true, false, cond, List, [], ◌∷◌, ◌++◌, length, get_or, take, drop, refl, sym, ◌∙◌, ap, arith, length-append, length-take-le, length-drop, get_or-take, get_or-drop}
-use Rattle.std.specs.Prelude.{slice_index, ◌&&◌}
+use Rattle.std.proofs.Common.{◌≡◌, inl, inr, ℕ, ◌+◌, ◌-◌, ◌<◌, ◌≤◌, Bool, true, false, cond, List, [], ◌∷◌, ◌++◌, length, take, drop, refl, sym, ◌∙◌, ap, arith, length-append, length-take-le, length-drop, get_or-take, get_or-drop}
+use Rattle.std.specs.Prelude.{slice_index}
 use Rattle.std.specs.List.{list_all, filter}
 use Rattle.std.proofs.lemmas.Bool.{cases_lt}
 use Rattle.std.proofs.lemmas.List.{get_or_append_left, get_or-append_right, take_at}
 use Rattle.std.proofs.lemmas.Grind.{same_number_lists}
 use Rattle.pm_device.proofs.Remembered.{and_both, both_and}
 use Rattle.pm_device.specs.State.{put_run}
-use Rattle.pm_device.specs.Words.{IsIn, cases_in}
+use Rattle.pm_device.specs.Words.{cases_in}
 use Rattle.pm_device.specs.Runs.{length-put_run, put_run_in, put_run_out}
 
 pub copied : (xs vs : List ℕ) (at : ℕ) → at + length vs ≤ length xs → take at xs ++ (vs ++ drop (length vs) (drop at xs)) ≡ put_run xs at vs

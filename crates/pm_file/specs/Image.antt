@@ -1,5 +1,5 @@
 -- A device that was just opened.
-use Rattle.std.specs.Prelude.{◌≡◌, ℕ, ◌%◌, ◌≤◌, length, None}
+use Rattle.std.specs.Prelude.{◌≡◌, ◌%◌, ◌≤◌, length, None}
 use Rattle.pm_device.specs.State.{State}
 
 -- whole pages, a past that isn't told, and no faults yet

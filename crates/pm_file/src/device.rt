@@ -18,13 +18,15 @@ mod tests;
 
 // Lines that an actor flushed.
 #[derive(Clone, Copy, Debug)]
-pub struct Flushed {
+struct Flushed {
     who: u32,
     first: u64,
     lines: u64,
 }
 
-/// An image file held in memory.
+/// An image file held in memory. Words are read and stored in memory alone; a fence writes the lines that its actor
+/// flushed, as they are then, and syncs the file. The device doesn't tell its past. Its room is that for flushes
+/// that await a fence: one unit for each line.
 #[derive(Drop)]
 pub struct FilePm<F> {
     file: F,
