@@ -173,7 +173,9 @@ impl<F: Read + Write + Seek + OpenFile + Drop> FilePm<F> {
 }
 
 impl<F: Write + Seek + OpenFile> Pm for FilePm<F> {
-    ghost use Rattle.std.specs.Prelude.{◌-◌, None, vec_len, vec_capacity};
+    ghost use Rattle.std.specs.Prelude.{◌≡◌, ◌+◌, ◌-◌, ◌*◌, ◌<◌, ◌≤◌, is_ok, OnOk, OnErr, None, [], ◌∷◌, ◌++◌, length, vec_len, vec_capacity};
+    ghost use Rattle.pm_device.specs.State.{IsSame, Stores, Flushes, Fences, Keeps};
+    ghost use Rattle.pm_file.specs.Pending.{pending, without};
 
     ghost state = { λ d. record { now = d.words.items; past = None; faults = d.faults; spare = vec_capacity d.flushed - vec_len d.flushed } };
 
@@ -193,20 +195,46 @@ impl<F: Write + Seek + OpenFile> Pm for FilePm<F> {
         self.words[at as usize]
     }
 
-    fn ready(&mut self, units: u64) -> Result<(), AllocError> {
+    fn ready(&mut self, units: u64) -> Result<(), AllocError>
+        ensures ok { OnOk result (units ≤ (⟦<FilePm<F> as Pm>⟧.state self.new).spare) }
+        ensures err { OnErr result ((⟦<FilePm<F> as Pm>⟧.state self.new).spare ≡ (⟦<FilePm<F> as Pm>⟧.state self.old).spare) }
+        ensures same { IsSame (⟦<FilePm<F> as Pm>⟧.state self.old) (⟦<FilePm<F> as Pm>⟧.state self.new) }
+        ensures keeps { Keeps (⟦<FilePm<F> as Pm>⟧.state self.old) (⟦<FilePm<F> as Pm>⟧.may self.old) (⟦<FilePm<F> as Pm>⟧.may self.new) }
+        ensures pending { pending self.new ≡ pending self.old }
+    {
         self.flushed.reserve(units as usize)
     }
 
-    fn store(&mut self, at: u64, value: u64) {
+    fn store(&mut self, at: u64, value: u64)
+        requires inside { at < length (⟦<FilePm<F> as Pm>⟧.state self.old).now }
+        requires room { 1 ≤ (⟦<FilePm<F> as Pm>⟧.state self.old).spare }
+        ensures stores { Stores at (value ∷ []) (⟦<FilePm<F> as Pm>⟧.state self.old) (⟦<FilePm<F> as Pm>⟧.state self.new) }
+        ensures keeps { Keeps (⟦<FilePm<F> as Pm>⟧.state self.old) (⟦<FilePm<F> as Pm>⟧.may self.old) (⟦<FilePm<F> as Pm>⟧.may self.new) }
+        ensures pending { pending self.new ≡ pending self.old }
+    {
         self.words[at as usize] = value;
     }
 
-    fn store_run(&mut self, at: u64, values: &[u64]) {
+    fn store_run(&mut self, at: u64, values: &[u64])
+        requires some { 1 ≤ length values.now }
+        requires inside { at + length values.now ≤ length (⟦<FilePm<F> as Pm>⟧.state self.old).now }
+        requires room { length values.now ≤ (⟦<FilePm<F> as Pm>⟧.state self.old).spare }
+        ensures stores { Stores at values.now (⟦<FilePm<F> as Pm>⟧.state self.old) (⟦<FilePm<F> as Pm>⟧.state self.new) }
+        ensures keeps { Keeps (⟦<FilePm<F> as Pm>⟧.state self.old) (⟦<FilePm<F> as Pm>⟧.may self.old) (⟦<FilePm<F> as Pm>⟧.may self.new) }
+        ensures pending { pending self.new ≡ pending self.old }
+    {
         let first = at as usize;
         self.words[first..first + values.len()].copy_from_slice(values);
     }
 
-    fn flush(&mut self, who: u32, first_line: u64, lines: u64) {
+    fn flush(&mut self, who: u32, first_line: u64, lines: u64)
+        requires some { 1 ≤ lines }
+        requires inside { 8 * (first_line + lines) ≤ length (⟦<FilePm<F> as Pm>⟧.state self.old).now }
+        requires room { lines ≤ (⟦<FilePm<F> as Pm>⟧.state self.old).spare }
+        ensures flushes { Flushes who first_line lines (⟦<FilePm<F> as Pm>⟧.state self.old) (⟦<FilePm<F> as Pm>⟧.state self.new) }
+        ensures keeps { Keeps (⟦<FilePm<F> as Pm>⟧.state self.old) (⟦<FilePm<F> as Pm>⟧.may self.old) (⟦<FilePm<F> as Pm>⟧.may self.new) }
+        ensures pending { pending self.new ≡ pending self.old ++ (record { who = who; first = first_line; lines = lines }) ∷ [] }
+    {
         let _ = self.flushed.push(Flushed {
             who,
             first: first_line,
@@ -214,7 +242,12 @@ impl<F: Write + Seek + OpenFile> Pm for FilePm<F> {
         });
     }
 
-    fn fence(&mut self, who: u32) -> Result<(), Failed> {
+    fn fence(&mut self, who: u32) -> Result<(), Failed>
+        requires room { 1 ≤ (⟦<FilePm<F> as Pm>⟧.state self.old).spare }
+        ensures fences { Fences who (is_ok result) (⟦<FilePm<F> as Pm>⟧.state self.old) (⟦<FilePm<F> as Pm>⟧.state self.new) }
+        ensures keeps { Keeps (⟦<FilePm<F> as Pm>⟧.state self.old) (⟦<FilePm<F> as Pm>⟧.may self.old) (⟦<FilePm<F> as Pm>⟧.may self.new) }
+        ensures pending { pending self.new ≡ without who (pending self.old) }
+    {
         let written = write_flushed(&mut self.file, &self.words, &self.flushed, who);
         forget(&mut self.flushed, who);
         match written {
