@@ -9,7 +9,7 @@ use crate::OpenFault;
 use crate::transfer::{read_words, write_words};
 use pm_device::{Failed, Pm};
 use std::alloc::AllocError;
-use std::fs::{Files, OpenFile, OpenOptions};
+use std::fs::{File, Files, OpenFile, OpenOptions};
 use std::io;
 use std::io::{Read, Seek, Write};
 
@@ -28,7 +28,7 @@ struct Flushed {
 /// flushed, as they are then, and syncs the file. The device doesn't tell its past. Its room is that for flushes
 /// that await a fence: one unit for each line.
 #[derive(Drop)]
-pub struct FilePm<F> {
+pub struct FilePm<F = File> {
     file: F,
     words: Vec<u64>,
     // what was flushed and not fenced since
