@@ -1,0 +1,4 @@
+pub mod Lines
+pub mod Length
+pub mod Image
+pub mod Pending
