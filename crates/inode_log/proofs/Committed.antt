@@ -1,8 +1,8 @@
 -- The tail moves: each image that a stop may leave reads as the log of before or as the log of after.
-use Rattle.std.proofs.Common.{◌≡◌, ◌≢◌, ◌⊎◌, inl, inr, ⊎_elim, ℕ, ◌+◌, ◌<◌, ◌≤◌, List, length, refl, sym, ◌∙◌, ap, subst, arith}
+use Rattle.std.proofs.Common.{◌≡◌, ◌⊎◌, ℕ, ◌<◌, length, sym, subst}
 use Rattle.std.specs.Prelude.{Result, Ok, Err, OnOk}
 use Rattle.pm_device.specs.State.{State}
-use Rattle.pm_device.specs.Reading.{Reads, Stands, DiffersAt, IsReady}
+use Rattle.pm_device.specs.Reading.{Reads, DiffersAt}
 use Rattle.pm_device.specs.Commit.{IsCommitted, IsDone}
 use Rattle.pm_device.specs.Settled.{LeavesOnly, StoresOnly}
 use Rattle.pm_device.proofs.Moments.{leaves_only-weaken}
@@ -10,8 +10,8 @@ use Rattle.inode_log.specs.Commits.{IsPreparedFor, OldOrNewLog, NewLogStands}
 use Rattle.pm_device.proofs.OneWord.{reads_old_or_new, stands_new}
 use Rattle.pm_layout.specs.declared.Geometry.{Geometry}
 use Rattle.pm_layout.specs.Geometry.{inode_word}
-use Rattle.dn_model.specs.Log.{Log, LogSays, IsPaged, count, tail_at}
-use Rattle.dn_model.specs.Growth.{IsGrown, Prepared, IsTail}
+use Rattle.dn_model.specs.Log.{Log, LogSays}
+use Rattle.dn_model.specs.Growth.{Prepared}
 use Rattle.dn_model.proofs.Append.{grown_differs}
 
 -- in the words of the call

@@ -1,20 +1,20 @@
 -- Slots are stored past a tail, one after the other.
 use Rattle.std.proofs.Common.{◌≡◌, ◌≢◌, ◌⊎◌, inl, inr, ⊎_elim, ℕ, zero, suc, ◌+◌, ◌-◌, ◌*◌, ◌/◌, ◌%◌, ◌<◌, ◌≤◌, List, [], ◌∷◌, ◌++◌, length, get_or, refl, sym, ◌∙◌, ap, subst, arith, length-append}
 use Rattle.std.specs.Prelude.{slice_index, All}
-use Rattle.std.proofs.lemmas.Bool.{cases_eq, cases_lt}
+use Rattle.std.proofs.lemmas.Bool.{cases_lt}
 use Rattle.std.proofs.lemmas.List.{get_or-append-add, get_or_default}
 use Rattle.std.proofs.lemmas.List.Concat.{flat_map-append}
 use Rattle.pm_device.specs.State.{State, Agree}
 use Rattle.pm_device.specs.Settled.{StoresOnly, IsFlushed}
 use Rattle.pm_device.specs.Words.{IsIn}
 use Rattle.pm_device.specs.Reading.{Said, IsReady}
-use Rattle.pm_device.specs.Lines.{KeepsFlushed, StoresRun}
+use Rattle.pm_device.specs.Lines.{StoresRun}
 use Rattle.pm_device.proofs.Only.{stores_only-then, stores_only-weaken, stores_only-none}
 use Rattle.pm_layout.specs.declared.Geometry.{Geometry}
-use Rattle.pm_layout.specs.Geometry.{InData, IsAccepted, inode_word, first_data}
+use Rattle.pm_layout.specs.Geometry.{InData, IsAccepted, inode_word}
 use Rattle.log_entry.specs.Spelling.{spelling, spelled}
-use Rattle.dn_model.specs.Log.{Log, IsPaged, count, tail_at, log_word, footer_word, spelled_word}
-use Rattle.dn_model.specs.Growth.{IsGrown, Prepared, new_head, new_footer, new_slot}
+use Rattle.dn_model.specs.Log.{Log, count, tail_at, footer_word, spelled_word}
+use Rattle.dn_model.specs.Growth.{Prepared, new_head, new_footer, new_slot}
 use Rattle.dn_model.proofs.Append.{count-grown, page-grown, log_word_in_data, same_page, same_slot, no_footer, same_index}
 use Rattle.dn_model.proofs.Regions.{inode_not_data, inode_word_low}
 use Rattle.inode_log.specs.Prepare.{IsToPrepare, IsPreparedBy, PreparedBelow, below_head, below_footer, below_slot, IsPreparedTo, HasRoomAt, IsFull}
@@ -109,7 +109,7 @@ module _ (g : Geometry) (ino : ℕ) (slots : List (List ℕ)) (fresh : List ℕ)
         let here : page ≡ slice_index new.pages 0 = from ∙ sym (page-fresh used) ∙ ap (slice_index new.pages) (let z : length old.pages + used ≡ 0 = omega arith in z) in
         let none : count old ≡ 0 = omega (arith, so_far.more) in
         let wide : StoresOnly (Said (Prepared ino old new)) s t = stores_only-weaken (IsIn (inode_word ino 1) 1) (Said (Prepared ino old new)) s t
-            (λ a inside. record { value = slice_index new.pages 0; told = new_head none (omega arith) (omega (arith, inside.0, inside.1)) refl }) stores.only in
+        (λ a inside. record { value = slice_index new.pages 0; told = new_head none (omega arith) (omega (arith, inside.0, inside.1)) refl }) stores.only in
         record {
           more = so_far.more;
           line_is = omega (arith, here, first, ap (λ (i : ℕ). slice_index new.pages (i / 63)) first);
@@ -161,7 +161,7 @@ module _ (g : Geometry) (ino : ℕ) (slots : List (List ℕ)) (fresh : List ℕ)
             inode_not_data g ino 1 (slice_index new.pages (n / 63)) 504 in_table (omega arith) (in_data_at n (omega arith)) (omega (arith, place, inside.0, inside.1))
         apart a v (below_footer k late below place value) inside =
             let e : k ≡ n / 63 = is.paged'.apart k (n / 63) (omega (arith, is.paged'.fits)) (omega (arith, is.paged'.fits))
-                (same_page (slice_index new.pages k) (slice_index new.pages (n / 63)) 504 504 (omega arith) (omega arith) (omega (arith, place, inside.0, inside.1))) in omega arith
+            (same_page (slice_index new.pages k) (slice_index new.pages (n / 63)) 504 504 (omega arith) (omega arith) (omega (arith, place, inside.0, inside.1))) in omega arith
         apart a v (below_slot k j late below word place value) inside =
             no_footer (slice_index new.pages (n / 63)) (slice_index new.pages (k / 63)) (k % 63) j (omega arith) word (omega (arith, place, inside.0, inside.1))
 

@@ -1,6 +1,4 @@
-use Rattle.std.proofs.Common.{◌≡◌, ◌*◌, ◌<◌, length, arith}
-use Rattle.std.specs.Prelude.{OnOk}
-use Rattle.pm_layout.specs.Geometry.{inode_word}
+use Rattle.std.proofs.Common.{arith}
 use Rattle.dn_model.proofs.Regions.{inode_word_low}
 use Rattle.inode_log.proofs.Committed.{committed_log, new_log_stands, on_ok_map}
 use Rattle.inode_log.proofs.log.commit_log.Goals as goal

@@ -1,4 +1,4 @@
-use Rattle.std.proofs.Common.{◌<◌, arith}
+use Rattle.std.proofs.Common.{arith}
 use Rattle.dn_model.proofs.Regions.{inode_word_low}
 use Rattle.inode_log.proofs.prepare.link.Goals as goal
 

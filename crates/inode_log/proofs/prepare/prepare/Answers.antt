@@ -1,10 +1,10 @@
-use Rattle.std.proofs.Common.{◌≡◌, ℕ, ◌+◌, ◌-◌, ◌*◌, ◌/◌, ◌%◌, ◌<◌, ◌≤◌, List, [], length, get_or, refl, sym, ◌∙◌, ap, subst, arith}
+use Rattle.std.proofs.Common.{◌≡◌, ℕ, ◌+◌, ◌-◌, ◌*◌, ◌<◌, ◌≤◌, [], length, get_or, refl, sym, ◌∙◌, ap, subst, arith}
 use Rattle.std.specs.Prelude.{slice_index}
 use Rattle.pm_layout.specs.Geometry.{inode_word}
 use Rattle.dn_model.specs.Log.{Log, count, tail_at}
 use Rattle.dn_model.proofs.Regions.{inode_word_low}
 use Rattle.inode_log.specs.Prepare.{IsFull, IsToPrepare, IsPreparedTo, HasRoomAt}
-use Rattle.inode_log.proofs.Preparing.{count_new, fresh_within, tail_below, line_below, enough_fresh, full_at, nothing_prepared, all_prepared, slot_stored, used_within, used_after}
+use Rattle.inode_log.proofs.Preparing.{count_new, fresh_within, tail_below, enough_fresh, full_at, nothing_prepared, all_prepared, slot_stored, used_within, used_after}
 use Rattle.inode_log.proofs.prepare.prepare.Goals as goal
 
 pub load-tail-requires : goal.load-tail-requires
@@ -91,7 +91,7 @@ loop-slot-preserved g c =
           let place : c.loop-slot.slot-index ≡ count old + c.loop-slot.slot-index - count old = omega arith in
           let long : length (S c.make_room-line.new.device).now ≡ 512 * c.args.g.now.pages = c.make_room-line.ensures.size ∙ c.loop-slot.invariant.same_size ∙ c.requires.size in
           let after = slot_stored c.args.g.now c.args.ino c.args.slots.now c.args.fresh.now old new (S c.args.device.now) is c.requires.accepted c.requires.ino c.args.who (S c.make_room-line.new.device) (S c.store_line.new.device)
-              (count old + c.loop-slot.slot-index) c.make_room-line.result.1 c.make_room-line.result.0 (get_or c.args.slots.now c.loop-slot.slot-index []) lt (c.told-slots c.loop-slot.slot-index c.loop-slot-test.true) (ap (λ (i : ℕ). get_or c.args.slots.now i []) place) long room c.store_line.ensures.stores in
+          (count old + c.loop-slot.slot-index) c.make_room-line.result.1 c.make_room-line.result.0 (get_or c.args.slots.now c.loop-slot.slot-index []) lt (c.told-slots c.loop-slot.slot-index c.loop-slot-test.true) (ap (λ (i : ℕ). get_or c.args.slots.now i []) place) long room c.store_line.ensures.stores in
           let next : count old + c.loop-slot.slot-index + 1 ≡ count old + (c.loop-slot.slot-index + 1) = omega arith in
           subst (λ (m : ℕ). IsPreparedTo c.args.who c.args.ino old new (S c.args.device.now) m (c.make_room-line.result.0 + 1) c.make_room-line.result.1 (S c.store_line.new.device)) next after;
       same_size = c.store_line.ensures.stores.only.words ∙ c.make_room-line.ensures.size ∙ c.loop-slot.invariant.same_size;

@@ -1,5 +1,5 @@
-use Rattle.std.proofs.Common.{⊎_elim, ◌≡◌, ◌++◌, [], ◌∷◌, List, ℕ, ◌*◌, ◌+◌, sym, ap, subst, refl, arith}
-use Rattle.std.specs.Prelude.{slice_index, Contains}
+use Rattle.std.proofs.Common.{⊎_elim, ◌++◌, [], ◌∷◌, List, ℕ, ◌*◌, ◌+◌, sym, subst, refl, arith}
+use Rattle.std.specs.Prelude.{Contains}
 use Rattle.pm_layout.specs.Geometry.{InData}
 use Rattle.inode_log.specs.Chain.{IsChain}
 use Rattle.inode_log.proofs.Walked.{IsWalk, none_outside, none_met, none_left, walk_on, walk_ends}

@@ -1,4 +1,3 @@
-use Rattle.std.proofs.Common.{◌≡◌, ◌≢◌, ℕ, ◌<◌, length}
 use Rattle.inode_log.proofs.Walked.{IsWalk}
 use Rattle.inode_log.proofs.walk.log_pages.Given as goal
 
