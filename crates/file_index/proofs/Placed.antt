@@ -1,11 +1,11 @@
 -- Where a key is among entries that rise, and what an edit there leaves.
-use Rattle.std.proofs.Common.{◌≡◌, ◌≢◌, ℕ, zero, suc, ◌+◌, ◌-◌, ◌<◌, ◌≤◌, List, [], ◌∷◌, ◌++◌, length, get_or, take, drop, set, Some, None, Result, Ok, Err, IfOk, IfErr, refl, sym, ap, subst, ◌∙◌, inl, inr, arith, take-append-drop, drop-cons, get_or-take, length-take, get_or-set_same, get_or-set_other, length-set}
-use Rattle.std.specs.Prelude.{All, AllPairs}
+use Rattle.std.proofs.Common.{◌≡◌, ◌≢◌, ℕ, suc, ◌+◌, ◌-◌, ◌<◌, ◌≤◌, List, ◌∷◌, ◌++◌, length, get_or, take, drop, set, Some, None, Result, Ok, Err, IfOk, IfErr, sym, ap, subst, ◌∙◌, inl, inr, arith, take-append-drop, drop-cons}
+use Rattle.std.specs.Prelude.{AllPairs}
 use Rattle.std.specs.List.{AllWithin, insert, remove}
 use Rattle.std.specs.List.Sorted.{IsSearchInRange, IsBinarySearchResult, IsSortedBy, IsNonDecreasingBy}
-use Rattle.std.specs.Ordering.{eq_by_cmp, is_lt, ordering_reverse, nat_cmp}
+use Rattle.std.specs.Ordering.{is_lt, ordering_reverse, nat_cmp}
 use Rattle.std.specs.declared.cmp.Ordering.{Ordering}
-use Rattle.std.specs.declared.cmp.Ordering.TheVariants.{Less, Equal, Greater}
+use Rattle.std.specs.declared.cmp.Ordering.TheVariants.{Less, Equal}
 use Rattle.std.specs.Cmp.{IsTotalOrder, tied_itself}
 use Rattle.std.specs.FinMap.{find, IsAntisymmetric}
 use Rattle.std.proofs.lemmas.Cmp.{ranked}
@@ -14,7 +14,7 @@ use Rattle.std.proofs.lemmas.List.{set_split}
 use Rattle.std.proofs.lemmas.List.Edits.{length-insert, get_or-insert_below, get_or-insert_at, get_or-insert_above}
 use Rattle.std.proofs.lemmas.List.Sorted.{searchable_from_sorted}
 use Rattle.file_index.specs.Entries.{IsRising, HasKey, IsGap}
-use Rattle.file_index.proofs.Lookups.{all_front, all_back, IsFree, find-free, find-append_front, find-append_back, find-middle_other, find-middle, other_below, turned, other_above, other}
+use Rattle.file_index.proofs.Lookups.{all_front, all_back, IsFree, find-free, find-append_front, find-middle_other, find-middle, other_below, turned, other_above, other}
 
 -- an item between lower and higher ones
 pub all_pairs_insert : {X : Type 0} (R : X → X → Type 0) (xs : List X) (n : ℕ) (y : X) → n ≤ length xs → AllPairs R xs → AllWithin (λ x. R x y) xs 0 n → AllWithin (λ x. R y x) xs n (length xs) → AllPairs R (insert xs n y)
