@@ -1,0 +1,12 @@
+//! Indexes in ordinary memory: where each page of a file is, and which inode each name leads to.
+#![tactic(auto)]
+
+pub mod name_map;
+pub mod page_map;
+mod room;
+
+pub use name_map::NameMap;
+pub use page_map::{MOST_PLACES, Mapping, PageMap};
+
+#[cfg(test)]
+mod tests;
