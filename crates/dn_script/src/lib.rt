@@ -1,8 +1,11 @@
 //! Job texts, and the sources and sinks that they come from and replies go to.
 #![tactic(auto)]
 
+pub mod draft;
+pub mod job;
 pub mod line;
 pub mod memory;
+pub mod reading;
 pub mod spelling;
 pub mod stream;
 #[cfg(test)]
