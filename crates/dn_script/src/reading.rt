@@ -2,6 +2,7 @@
 ghost use Rattle.std.specs.Prelude.{◌≡◌, ◌⊎◌, ◌<◌, ◌≤◌, ◌+◌, List, [], ℕ, length, Some, IfOk, IfSome, OnOk};
 ghost use Rattle.pm_device.specs.State.{Rose};
 ghost use Rattle.dn_script.specs.Text.{lines};
+ghost use Rattle.dn_script.specs.Formed.{IsJob};
 ghost use Rattle.dn_script.specs.Job.{Answers, start, after_lines, job_of, job_fault_of};
 
 use crate::draft::JobDraft;
@@ -45,7 +46,8 @@ fn read_lines(alloc: Global, form: JobForm, text: &[u8]) -> Result<JobDraft, Job
 // The job of a text.
 fn job_of_text(alloc: Global, form: JobForm, text: &[u8]) -> Result<Job, JobFault>
     requires { length text.now ≤ 16777216 }
-    ensures { Answers result (job_of form text.now) }
+    ensures answer { Answers result (job_of form text.now) }
+    ensures formed { IfOk result (IsJob form) }
 {
     if count_lines(text) > MOST_LINES {
         return Err(JobFault::TooLong);
@@ -72,6 +74,7 @@ fn job_fault(fault: ReadFault) -> JobFault
 /// schedule that is no actor's.
 pub fn read_job<S: Source>(alloc: Global, from: &mut S, form: JobForm) -> Result<Job, JobFault>
     ensures answer { IfSome (S.left from.old) (λ text. (result ≡ Err JobFault.ReadFault) ⊎ Answers result (job_of form text)) }
+    ensures formed { IfOk result (IsJob form) }
     ensures ended { OnOk result (IfSome (S.left from.old) (λ _. S.left from.new ≡ Some [])) }
     ensures counts { S.faults from.old ≤ S.faults from.new }
     ensures cause { result ≡ Err JobFault.ReadFault → Rose (S.faults from.old) (S.faults from.new) }
