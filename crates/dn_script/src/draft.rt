@@ -13,14 +13,14 @@ use std::marker::Model;
 
 /// A command, and the client that it belongs to.
 #[derive(Debug, Drop)]
-pub struct Owned {
+pub(crate) struct Owned {
     pub who: u32,
     pub line: Line,
 }
 
 /// What the lines of a job say so far.
 #[derive(Drop)]
-pub struct JobDraft {
+pub(crate) struct JobDraft {
     current: u32,
     named: Vec<u32>,
     owned: Vec<Owned>,
@@ -41,7 +41,7 @@ impl Model for JobDraft {
 
 impl JobDraft {
     /// Before any line.
-    pub fn new(alloc: Global) -> JobDraft
+    pub(crate) fn new(alloc: Global) -> JobDraft
         ensures { result ≡ start }
     {
         JobDraft {
@@ -116,7 +116,7 @@ impl JobDraft {
     }
 
     /// One line more, with its number. After an `Err` the draft is of no use.
-    pub fn add_line(
+    pub(crate) fn add_line(
         &mut self,
         alloc: Global,
         form: JobForm,
@@ -133,7 +133,7 @@ impl JobDraft {
     }
 
     /// The job of the lines, if each turn is an actor's.
-    pub fn finish(self, alloc: Global) -> Result<Job, JobFault>
+    pub(crate) fn finish(self, alloc: Global) -> Result<Job, JobFault>
         ensures { Answers result (job_of_draft self) }
     {
         let JobDraft {

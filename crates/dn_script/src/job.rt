@@ -20,10 +20,12 @@ pub enum Command {
     Count { slot: u64 },
 }
 
-/// A command, and the number of its line in the job, from 1.
+/// A command, and where it stands.
 #[derive(Debug, Drop)]
 pub struct Line {
+    /// The number of the line in the job, from 1.
     pub number: u64,
+    /// What it does.
     pub command: Command,
 }
 
@@ -43,18 +45,21 @@ impl Model for Lines {
 }
 
 impl Lines {
+    /// These lines.
     pub fn of(lines: Vec<Line>) -> Lines
         ensures { result ≡ lines.items }
     {
         Lines { lines }
     }
 
+    /// The lines, in order.
     pub fn lines(&self) -> &[Line]
         ensures { result.now ≡ self.now }
     {
         &self.lines
     }
 
+    /// The lines given back.
     pub fn into_vec(self) -> Vec<Line>
         ensures { result.items ≡ self }
     {
@@ -62,7 +67,7 @@ impl Lines {
     }
 }
 
-/// Clients with their lines, by number, seen as their list.
+/// Clients from 1 to 14 with their lines, by number, seen as their list.
 #[derive(Debug, Drop)]
 pub struct Clients {
     clients: Vec<(u32, Lines)>,
@@ -78,18 +83,21 @@ impl Model for Clients {
 }
 
 impl Clients {
+    /// These clients.
     pub fn of(clients: Vec<(u32, Lines)>) -> Clients
         ensures { result ≡ clients.items }
     {
         Clients { clients }
     }
 
+    /// The clients, in order.
     pub fn clients(&self) -> &[(u32, Lines)]
         ensures { result.now ≡ self.now }
     {
         &self.clients
     }
 
+    /// The clients given back.
     pub fn into_vec(self) -> Vec<(u32, Lines)>
         ensures { result.items ≡ self }
     {
@@ -112,18 +120,21 @@ impl Model for Turns {
 }
 
 impl Turns {
+    /// These turns.
     pub fn of(turns: Vec<u32>) -> Turns
         ensures { result ≡ turns.items }
     {
         Turns { turns }
     }
 
+    /// The turns, in order.
     pub fn turns(&self) -> &[u32]
         ensures { result.now ≡ self.now }
     {
         &self.turns
     }
 
+    /// The turns given back.
     pub fn into_vec(self) -> Vec<u32>
         ensures { result.items ≡ self }
     {
@@ -134,7 +145,9 @@ impl Turns {
 /// Scripts of clients, by number, and a schedule of turns.
 #[derive(Debug, Drop)]
 pub struct Job {
+    /// The clients that a line names or that have a command.
     pub clients: Clients,
+    /// Whose turn is next: a client, 15 for the daemon or 16 for reclaim.
     pub turns: Turns,
 }
 

@@ -1,7 +1,7 @@
 //! Job texts, and the sources and sinks that they come from and replies go to.
 #![tactic(auto)]
 
-pub mod draft;
+mod draft;
 pub mod job;
 pub mod line;
 pub mod memory;
