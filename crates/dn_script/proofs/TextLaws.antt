@@ -36,6 +36,10 @@ lines-nil : lines [] ≡ []
 unfolding lines
 lines-nil = refl
 
+pub lines_empty : (xs : List ℕ) → length xs ≡ 0 → lines xs ≡ []
+lines_empty [] none = lines-nil
+lines_empty (x ∷ xs) none = absurd (omega arith)
+
 pub lines_at : (xs : List ℕ) (n : ℕ) → n < length xs → get_or xs n 0 ≡ 10 → ((k : ℕ) → k < n → get_or xs k 0 ≢ 10) → lines xs ≡ take n xs ∷ lines (take (length xs - (n + 1)) (drop (n + 1) xs))
 lines_at xs n inside found first = rw (take_rest xs (n + 1), add-one) (cut_at 10 lines lines-cons n xs inside found first)
 

@@ -19,17 +19,20 @@ pub const LIST_WEIGHT: u64 = 1_048_576;
 /// The most clients of a job, which are numbered from 1.
 pub const MOST_CLIENTS: u64 = 14;
 
-/// The forms of a job: one script, scripts with a schedule, scripts for threads.
+/// The forms of a job.
 #[derive(Clone, Copy, Debug, PartialEq, Eq)]
 pub enum JobForm {
+    /// One script.
     Apply,
+    /// Scripts and a schedule.
     Replay,
+    /// Scripts for threads.
     Run,
 }
 
 /// The first word of a command.
 #[derive(Clone, Copy, Debug, PartialEq, Eq)]
-pub enum Keyword {
+enum Keyword {
     Create,
     Write,
     Fill,
@@ -59,12 +62,14 @@ impl Model for Numbers {
 }
 
 impl Numbers {
+    /// These numbers.
     pub fn of(numbers: Vec<u64>) -> Numbers
         ensures { result ≡ numbers.items }
     {
         Numbers { numbers }
     }
 
+    /// The numbers, in order.
     pub fn numbers(&self) -> &[u64]
         ensures { result.now ≡ self.now }
     {
@@ -91,7 +96,7 @@ pub enum LineMeaning {
 
 /// Why words weren't read.
 #[derive(Clone, Copy, Debug, PartialEq, Eq)]
-pub enum LineFault {
+enum LineFault {
     /// They are no command.
     Bad,
     /// Memory ran out.

@@ -1,8 +1,8 @@
-// Words, lines and streams by example.
+// Words, lines, streams and jobs by example.
 use crate::spelling::{byte_of, number_of};
 use crate::{
-    JobForm, MemSink, MemSource, ReadFault, Sink, Source, first_line, line_meaning, read_to_end,
-    write_all,
+    Job, JobFault, JobForm, MemSink, MemSource, ReadFault, first_line, line_meaning, read_job,
+    read_to_end, write_all,
 };
 use std::alloc::{AllocError, Global};
 use std::process::Abort;
@@ -241,5 +241,109 @@ fn moves_bytes(rt: HostRuntime) -> Result<(), Fail> {
     assert_eq!(rt; write_five(alloc, 4, 0)?, (false, 4));
     assert_eq!(rt; write_five(alloc, 0, 0)?, (false, 0));
     assert_eq!(rt; write_five(alloc, 9, 1)?, (false, 0));
+    Ok(())
+}
+
+// The job of a text that is read in pieces of so many bytes.
+fn job_of(
+    alloc: Global,
+    form: JobForm,
+    text: &[u8],
+    piece: usize,
+) -> Result<Result<Job, JobFault>, AllocError> {
+    let text = Vec::from_slice(alloc, text)?;
+    let mut source = MemSource::in_pieces(text, Vec::new(alloc), piece.max(1));
+    Ok(read_job(alloc, &mut source, form))
+}
+
+// A line again and again, and then another text.
+fn repeated(alloc: Global, line: &str, count: u32, end: &str) -> Result<Vec<u8>, AllocError> {
+    let mut text = Vec::new(alloc);
+    for _ in 0..count {
+        text.extend_from_slice(line.as_bytes())?;
+        text.push(b'\n')?;
+    }
+    text.extend_from_slice(end.as_bytes())?;
+    Ok(text)
+}
+
+#[test]
+fn reads_jobs(rt: HostRuntime) -> Result<(), Fail> {
+    let alloc = rt.alloc();
+    let jobs = [
+        (
+            JobForm::Apply,
+            "",
+            "Ok(Job { clients: Clients { clients: [] }, turns: Turns { turns: [] } })",
+        ),
+        (
+            JobForm::Apply,
+            "#\nlist",
+            "Ok(Job { clients: Clients { clients: [(1, Lines { lines: [Line { number: 2, command: Do(List) }] })] }, turns: Turns { turns: [] } })",
+        ),
+        (
+            JobForm::Run,
+            "count 5\nclient 2\n",
+            "Ok(Job { clients: Clients { clients: [(1, Lines { lines: [Line { number: 1, command: Count { slot: 5 } }] }), (2, Lines { lines: [] })] }, turns: Turns { turns: [] } })",
+        ),
+        (
+            JobForm::Replay,
+            "turns 16 3\nclient 3\nlist\nclient 2\nclient 3\nlist\nturns 2 15",
+            "Ok(Job { clients: Clients { clients: [(2, Lines { lines: [] }), (3, Lines { lines: [Line { number: 3, command: Do(List) }, Line { number: 6, command: Do(List) }] })] }, turns: Turns { turns: [16, 3, 2, 15] } })",
+        ),
+        (JobForm::Apply, "creat a", "Err(BadLine { line: 1 })"),
+        (
+            JobForm::Apply,
+            "list\n\nclient 1",
+            "Err(BadLine { line: 3 })",
+        ),
+        (
+            JobForm::Replay,
+            "client 1\nlist\nturns 3",
+            "Err(BadTurn { number: 3 })",
+        ),
+        (
+            JobForm::Replay,
+            "turns 15 1 99",
+            "Err(BadTurn { number: 1 })",
+        ),
+        (
+            JobForm::Replay,
+            "turns 99999999999\nlist x",
+            "Err(BadLine { line: 2 })",
+        ),
+    ];
+    for (form, text, wanted) in jobs {
+        let job = job_of(alloc, form, text.as_bytes(), 3)?;
+        let said = format!(in alloc; "{job:?}")?;
+        assert_eq!(rt; said.as_str(), wanted, "at {text:?}");
+    }
+    let faults = [
+        ("list", 256, "", None),
+        ("list", 256, "read a 0 1", Some(JobFault::TooLong)),
+        ("list", 256, "x", Some(JobFault::BadLine { line: 257 })),
+        ("list", 257, "x", Some(JobFault::TooLong)),
+        ("", 99_999, "list", None),
+        ("x", 100_000, "", Some(JobFault::BadLine { line: 1 })),
+        ("x", 100_000, "x", Some(JobFault::TooLong)),
+        (
+            "fill a 0 131072 00",
+            3,
+            "read a 0 18446744073709551615",
+            Some(JobFault::TooLong),
+        ),
+    ];
+    for (line, count, end, wanted) in faults {
+        let text = repeated(alloc, line, count, end)?;
+        let fault = job_of(alloc, JobForm::Apply, &text, 4096)?.err();
+        assert_eq!(rt; fault, wanted, "{count} times {line:?}");
+    }
+    let text = Vec::from_slice(alloc, b"list".as_slice())?;
+    let fail_at = Vec::from_slice(alloc, [2].as_slice())?;
+    let mut source = MemSource::of(text, fail_at);
+    assert_eq!(rt;
+        read_job(alloc, &mut source, JobForm::Apply).err(),
+        Some(JobFault::ReadFault)
+    );
     Ok(())
 }

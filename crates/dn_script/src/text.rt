@@ -41,7 +41,7 @@ fn first_word(text: &[u8]) -> (&[u8], Option<&[u8]>)
 
 /// The words that are left of a line.
 #[derive(Drop)]
-pub struct Words<'a> {
+pub(crate) struct Words<'a> {
     text: Option<&'a [u8]>,
 }
 
@@ -57,14 +57,14 @@ impl<'a> Model for Words<'a> {
 
 impl<'a> Words<'a> {
     /// The words of a line.
-    pub fn of(line: &'a [u8]) -> Words<'a>
+    pub(crate) fn of(line: &'a [u8]) -> Words<'a>
         ensures { result ≡ words line.now }
     {
         Words { text: Some(line) }
     }
 
     /// Takes the next word.
-    pub fn next_word(&mut self) -> Option<&'a [u8]>
+    pub(crate) fn next_word(&mut self) -> Option<&'a [u8]>
         ensures word { self.old ≡ option_to_list (option_copied result) ++ self.new }
         ensures none { IsNone result ↔ (self.old ≡ []) }
     {
@@ -75,7 +75,7 @@ impl<'a> Words<'a> {
     }
 
     /// The word, where it is the only one.
-    pub fn one(mut self) -> Option<&'a [u8]>
+    pub(crate) fn one(mut self) -> Option<&'a [u8]>
         ensures { option_copied result ≡ one_of self.entry }
     {
         let first = self.next_word()?;
@@ -86,7 +86,7 @@ impl<'a> Words<'a> {
     }
 
     /// The words, where they are two.
-    pub fn two(mut self) -> Option<(&'a [u8], &'a [u8])>
+    pub(crate) fn two(mut self) -> Option<(&'a [u8], &'a [u8])>
         ensures { option_map (λ w. (w.0.now, w.1.now)) result ≡ two_of self.entry }
     {
         let first = self.next_word()?;
@@ -95,7 +95,7 @@ impl<'a> Words<'a> {
     }
 
     /// The words, where they are three.
-    pub fn three(mut self) -> Option<(&'a [u8], &'a [u8], &'a [u8])>
+    pub(crate) fn three(mut self) -> Option<(&'a [u8], &'a [u8], &'a [u8])>
         ensures { option_map (λ w. (w.0.now, w.1.now, w.2.now)) result ≡ three_of self.entry }
     {
         let first = self.next_word()?;
@@ -104,7 +104,7 @@ impl<'a> Words<'a> {
     }
 
     /// The words, where they are four.
-    pub fn four(mut self) -> Option<(&'a [u8], &'a [u8], &'a [u8], &'a [u8])>
+    pub(crate) fn four(mut self) -> Option<(&'a [u8], &'a [u8], &'a [u8], &'a [u8])>
         ensures { option_map (λ w. (w.0.now, w.1.now, w.2.now, w.3.now)) result ≡ four_of self.entry }
     {
         let first = self.next_word()?;
