@@ -3,3 +3,4 @@ pub mod Outcomes
 pub mod Reports
 pub mod Served
 pub mod Texts
+pub mod Untold

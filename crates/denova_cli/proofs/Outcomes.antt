@@ -1,5 +1,5 @@
 -- Lemmas on outcomes.
-use Rattle.std.proofs.Common.{◌≡◌, ◌⊎◌, inl, inr, ⊎_elim, ◌*◌, ◌+◌, ◌<◌, ◌≤◌, ◌++◌, ℕ, List, length, Bool, true, false, Option, Some, None, Result, Ok, Err, IsOk, OnOk, IfSome, refl, ap, ◌∙◌, sym, subst, arith}
+use Rattle.std.proofs.Common.{◌≡◌, ◌⊎◌, inl, inr, ⊎_elim, ◌*◌, ◌<◌, ◌≤◌, ℕ, List, length, Option, Some, None, Result, Ok, Err, IsOk, OnOk, IfSome, refl, ap, ◌∙◌, sym, subst, arith}
 use Rattle.pm_device.specs.State.{State, Rose}
 use Rattle.dn_model.specs.Disk.{Disk}
 use Rattle.dn_model.specs.Image.{StandsFor}
@@ -14,9 +14,9 @@ use Rattle.one_file.specs.Session.{ops_of, IsOpened, HasRun}
 use Rattle.one_file.specs.declared.file.OneFile.{OneFile}
 use Rattle.one_file.specs.declared.answer.RunFault.{RunFault}
 use Rattle.one_file.specs.declared.answer.RunFault.TheVariants as run
-use Rattle.denova_cli.specs.Report.{history_text, stopped_text, no_memory_text}
+use Rattle.denova_cli.specs.Report.{no_memory_text}
 use Rattle.denova_cli.specs.Job.{Ops, BadAt, job_of}
-use Rattle.denova_cli.specs.Tool.{HasText, HasJob, HasBadLine, answered, ops_in, lines_in, status_of, text_of, Writes, IsTold, EndTells, RunTells, OpsTell, Tells, Ended, IsNoCommand, IsApplied, IsUsage, IsBadJob, IsUnbuilt, IsStopped, IsUnread, IsTooLong, IsServable}
+use Rattle.denova_cli.specs.Tool.{HasText, status_of, text_of, Writes, EndTells, RunTells, OpsTell, Tells, Ended, IsNoCommand, IsApplied, IsUsage, IsBadJob, IsUnbuilt, IsStopped, IsUnread, IsTooLong, IsServable}
 use Rattle.denova_cli.specs.declared.words.Command.TheVariants as command
 use Rattle.denova_cli.specs.declared.tool.Outcome.{Outcome}
 use Rattle.denova_cli.specs.declared.tool.Outcome.TheVariants.{Applied, Usage, BadLine, Unbuilt, Stopped, ReadFault as Unread, NoMemory, TooLong}

@@ -1,6 +1,5 @@
 -- Lemmas on the lines of a report.
 use Rattle.std.proofs.Common.{◌≡◌, ◌∷◌, [], ◌++◌, ◌+◌, ◌<◌, ◌≤◌, ℕ, suc, zero, List, length, take, min, get_or, refl, ap, ◌∙◌, sym, arith, add-one, append_assoc}
-use Rattle.std.specs.List.{flat_map}
 use Rattle.std.proofs.lemmas.List.Concat.{flat_map-append}
 use Rattle.std.proofs.lemmas.List.{append-nil}
 use Rattle.dn_model.specs.declared.op.Entry.{Entry}

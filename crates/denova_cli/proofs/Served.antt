@@ -1,5 +1,5 @@
 -- The operations of a job are served.
-use Rattle.std.proofs.Common.{◌≡◌, ◌∷◌, [], ◌++◌, ◌+◌, ◌<◌, ◌≤◌, ℕ, List, length, Bool, true, false, if◌then◌else◌, Option, All, refl, sym, ap, subst, ◌∙◌, arith}
+use Rattle.std.proofs.Common.{◌≡◌, ◌∷◌, [], ◌+◌, ℕ, List, Bool, true, false, if◌then◌else◌, Option, All, refl, subst, arith}
 use Rattle.std.proofs.lemmas.List.Elements.{All-cons}
 use Rattle.std.proofs.lemmas.Bool.Decides.{nat_tests}
 use Rattle.dn_model.specs.declared.op.Op.{Op}
@@ -9,7 +9,7 @@ use Rattle.dn_script.specs.declared.line.LineMeaning.{LineMeaning}
 use Rattle.dn_script.specs.declared.line.LineMeaning.TheVariants.{Skip, Do, Count, Client, Turns, Bad}
 use Rattle.dn_script.specs.Line.{meaning_of}
 use Rattle.one_file.specs.Session.{IsServed}
-use Rattle.denova_cli.specs.Job.{JobText, Ops, BadAt, is_served, part_of, with_part, prefixed, job_of}
+use Rattle.denova_cli.specs.Job.{JobText, Ops, BadAt, is_served, part_of, with_part, job_of}
 use Rattle.denova_cli.specs.Tool.{ops_in, HasJob}
 use Rattle.denova_cli.specs.declared.job.NumberedOp.{NumberedOp}
 use Rattle.denova_cli.specs.declared.job.JobPart.{JobPart}

@@ -74,6 +74,10 @@ report_text history free = history_text history ++ last_line (length history) fr
 abbrev pub bad_line_text : ℕ → List ℕ
 bad_line_text line = codes "bad-line" ++ spaced_number line ++ line_end
 
+-- the text of an image with a length that none has
+abbrev pub bad_length_text : ℕ → List ℕ
+bad_length_text bytes = codes "denova: bad length" ++ spaced_number bytes ++ line_end
+
 -- the texts of the other statuses
 abbrev pub usage_text : List ℕ
 usage_text = codes "usage" ++ line_end

@@ -1,6 +1,9 @@
 //! The program: commands on an image of the file system.
 #![tactic(auto)]
 
+ghost use Rattle.std.specs.Prelude.{◌≡◌, ◌⊎◌, IfOk};
+ghost use Rattle.denova_cli.specs.Report.{bad_length_text};
+
 mod job;
 mod report;
 mod streams;
@@ -8,12 +11,25 @@ mod tool;
 mod words;
 
 use dn_script::write_all;
-use report::{NO_MEMORY, UNBUILT, USAGE};
+use pm_file::{FilePm, OpenFault};
+use report::{CANNOT_OPEN, NO_MEMORY, USAGE, write_bad_length};
+use std::alloc::{AllocError, Global};
+use std::io::{Input, Write};
 use std::process::ExitCode;
-use std::rt::Env;
+use std::rt::{Env, Files};
 use std::{env, io};
-use streams::StdSink;
-use words::Command;
+use streams::{StdSink, StdSource};
+use tool::tool;
+use words::command_of;
+
+// The status where the words give no command.
+const BAD_WORDS: u8 = 1;
+
+// The status where memory ran out.
+const WITHOUT_MEMORY: u8 = 7;
+
+// The status where the image wasn't opened.
+const UNOPENED: u8 = 10;
 
 // The words after the program's name.
 fn words_after_name(rt: &(impl Env + AllocGlobal)) -> io::Result<Vec<String>> {
@@ -24,14 +40,70 @@ fn words_after_name(rt: &(impl Env + AllocGlobal)) -> io::Result<Vec<String>> {
     Ok(words)
 }
 
-fn main(rt: HostRuntime) -> ExitCode {
-    let (status, text) = match words_after_name(&rt) {
-        Err(_) => (7, NO_MEMORY),
-        Ok(words) => match words::command_of(&words) {
-            None => (1, USAGE),
-            Some(Command::Apply) => (3, UNBUILT),
+// Writes a text, and answers the status, whether or not the text was written.
+fn end_with<W: Write>(out: &mut StdSink<W>, text: &[u8], status: u8) -> u8
+    ensures { result ≡ status }
+{
+    let _ = write_all(out, text);
+    status
+}
+
+fn bad_length(alloc: Global, bytes: u64) -> Result<Vec<u8>, AllocError>
+    ensures { IfOk result (λ text. text.items ≡ bad_length_text bytes) }
+{
+    let mut text = Vec::new(alloc);
+    write_bad_length(&mut text, bytes)?;
+    Ok(text)
+}
+
+// Ends where the image wasn't opened.
+fn end_unopened<W: Write>(alloc: Global, out: &mut StdSink<W>, fault: OpenFault) -> u8
+    ensures { (result ≡ UNOPENED) ⊎ (result ≡ WITHOUT_MEMORY) }
+{
+    match fault {
+        OpenFault::Refused => end_with(out, CANNOT_OPEN, UNOPENED),
+        OpenFault::NoMemory => end_with(out, NO_MEMORY, WITHOUT_MEMORY),
+        OpenFault::BadLength { bytes } => match bad_length(alloc, bytes) {
+            Ok(text) => end_with(out, &text, UNOPENED),
+            Err(_) => end_with(out, NO_MEMORY, WITHOUT_MEMORY),
         },
+    }
+}
+
+// Opens the image and does what the words say.
+fn serve<R: Files + Input + AllocGlobal, W: Write>(
+    rt: &R,
+    path: &str,
+    words: &[String],
+    out: &mut StdSink<W>,
+) -> u8 {
+    match FilePm::open(rt, path, None) {
+        Ok(device) => {
+            let mut input = StdSource::of(rt.reader());
+            let (status, _device) = tool(rt.alloc(), words, device, &mut input, out);
+            status
+        }
+        Err(fault) => end_unopened(rt.alloc(), out, fault),
+    }
+}
+
+// Does what the words say, where they say something.
+fn obey<R: Files + Input + AllocGlobal, W: Write>(
+    rt: &R,
+    words: &[String],
+    out: &mut StdSink<W>,
+) -> u8 {
+    match words {
+        [path, ..] if command_of(words).is_some() => serve(rt, path.as_str(), words, out),
+        _ => end_with(out, USAGE, BAD_WORDS),
+    }
+}
+
+fn main(rt: HostRuntime) -> ExitCode {
+    let mut out = StdSink::of(io::writer(&rt));
+    let status = match words_after_name(&rt) {
+        Ok(words) => obey(&rt, &words, &mut out),
+        Err(_) => end_with(&mut out, NO_MEMORY, WITHOUT_MEMORY),
     };
-    let _ = write_all(&mut StdSink::of(io::writer(&rt)), text);
     ExitCode::from(status)
 }

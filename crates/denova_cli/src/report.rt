@@ -1,6 +1,6 @@
 // The texts that the program writes.
 ghost use Rattle.std.specs.Prelude.{◌≡◌, ◌++◌, OnOk};
-ghost use Rattle.denova_cli.specs.Report.{spaced, spaced_number, spaced_digits, bytes_text, names_text, refusal_text, reply_text, history_line, line_end, last_line, bad_line_text};
+ghost use Rattle.denova_cli.specs.Report.{spaced, spaced_number, spaced_digits, bytes_text, names_text, refusal_text, reply_text, history_line, line_end, last_line, bad_line_text, bad_length_text};
 
 use dn_model::{Refusal, Reply};
 use itoa::Buffer;
@@ -24,6 +24,9 @@ pub const NO_MEMORY: &[u8] = b"no-memory\n";
 
 /// What is written where the job is too long.
 pub const TOO_LONG: &[u8] = b"too-long\n";
+
+/// What is written where the image can't be opened.
+pub const CANNOT_OPEN: &[u8] = b"denova: cannot open image\n";
 
 // Each function below appends to the text. Where memory runs out it has appended an unknown part, and the text is
 // of no use any more.
@@ -141,6 +144,15 @@ pub fn write_bad_line(text: &mut Vec<u8>, line: u64) -> Result<(), AllocError>
 {
     text.extend_from_slice(b"bad-line")?;
     write_number(text, line)?;
+    end_line(text)
+}
+
+/// Appends what is written where the image's length, in bytes, is none that an image has.
+pub fn write_bad_length(text: &mut Vec<u8>, bytes: u64) -> Result<(), AllocError>
+    ensures { OnOk result (text.new.items ≡ text.old.items ++ bad_length_text bytes) }
+{
+    text.extend_from_slice(b"denova: bad length")?;
+    write_number(text, bytes)?;
     end_line(text)
 }
 

@@ -1,4 +1,4 @@
-use Rattle.std.proofs.Common.{◌≡◌, ◌<◌, ◌≤◌, length, min, sym, ap, ◌∙◌, arith}
+use Rattle.std.proofs.Common.{◌<◌, ◌≤◌, length, min, sym, arith}
 use Rattle.std.proofs.lemmas.List.{append-nil}
 use Rattle.denova_cli.proofs.Reports.{history_text-none, history_text-more, history_text-all}
 use Rattle.denova_cli.proofs.tool.write_history.Goals as goal
