@@ -164,8 +164,7 @@ module _ {D : Type 0} (state : D → State) (v : OneFile D) (d : Disk) (is : IsD
       by_block None none = tt
       by_block (Some b) to =
           let mapped : IsMapped d b = record { ino = 1; idx = 0; maps_to = record { in_table = omega (arith, is.valid.accepted.inodes); in_file = omega arith; by = to.by; is = to.is; block = to.block } } in
-          let in_data = read_in_data d is.valid b (inl mapped) in
-          (
+          let in_data = read_in_data d is.valid b (inl mapped) in (
             omega (arith, in_data.high, ap (λ (g : Geometry). g.pages) is.geometry, is.pages, takes.pages, fresh_taken.pages),
             λ there.
                 let ne : b ≢ page = λ e. takes.gone (subst (Contains taken.free) e there) in

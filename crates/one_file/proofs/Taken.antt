@@ -17,7 +17,9 @@ pub takes_one : (page : ℕ) (old new : FreePages) → Takes page old new → Ta
 takes_one page old new takes = record {
   pages = takes.pages;
   were_free = λ p c. subst (λ (xs : List ℕ). Contains xs p) (sym takes.rest) (subst (Contains (page ∷ new.free)) (only_one page p c) (Contains-here page new.free));
-  rest = λ q. ((λ there. let ne : q ≢ page = λ e. takes.gone (subst (Contains new.free) e there) in ((takes.others q ne).0 there, λ c. ne (sym (only_one page q c)))),
-      (λ both. let ne : q ≢ page = λ e. both.1 (subst (Contains (page ∷ [])) (sym e) (Contains-here page [])) in (takes.others q ne).1 both.0));
+  rest = λ q. (
+    (λ there. let ne : q ≢ page = λ e. takes.gone (subst (Contains new.free) e there) in ((takes.others q ne).0 there, λ c. ne (sym (only_one page q c)))),
+    (λ both. let ne : q ≢ page = λ e. both.1 (subst (Contains (page ∷ [])) (sym e) (Contains-here page [])) in (takes.others q ne).1 both.0),
+  );
   left = omega (arith, ap (λ (xs : List ℕ). length xs) takes.rest);
 }

@@ -1,6 +1,6 @@
 // A file system of one file of at most one page.
-use page_alloc::FreeSet;
 use log_entry::Name;
+use page_alloc::FreeSet;
 use pm_device::Pm;
 use pm_layout::Geometry;
 

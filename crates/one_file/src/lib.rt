@@ -11,11 +11,11 @@ pub mod file;
 pub mod laws;
 pub mod opening;
 pub mod parts;
-pub mod session;
-mod write;
-#[cfg(test)]
-mod tests;
 pub mod read;
 pub mod refuse;
+pub mod session;
+#[cfg(test)]
+mod tests;
+mod write;
 
 pub use opening::{Opened, open_first};

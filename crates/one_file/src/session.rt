@@ -68,7 +68,12 @@ fn first_free_pages(alloc: Global, geometry: &Geometry) -> Result<FreeSet, Alloc
 }
 
 /// Runs operations, one after another, and puts each with its reply behind the history.
-pub fn run<D: Pm>(alloc: Global, v: &mut OneFile<D>, ops: Vec<Op>, history: &mut Vec<Entry>) -> Result<(), RunFault>
+pub fn run<D: Pm>(
+    alloc: Global,
+    v: &mut OneFile<D>,
+    ops: Vec<Op>,
+    history: &mut Vec<Entry>,
+) -> Result<(), RunFault>
     requires agrees { Agrees D.state v.old }
     requires served { All IsServed ops.items }
     requires empty { history.old.items ≡ [] }

@@ -33,11 +33,11 @@ pub returns-clause-written : goal.returns-clause-written
 returns-clause-written g c = λ d is.
     let S = g.D.Pm.state in
     let may = may_now S c.args.v.now d is c.take_log_page.new.free c.take_page-page.new.free c.in-Ok.fresh.items c.deref-2.result.now c.deref-2.ensures.value c.take_page-page.result c.args.size
-        c.needs_log_page-for_log.result (c.needs_log_page-for_log.ensures d is) c.in-Ok.ensures.taken c.in-Ok.ensures.log c.take_page-page.ensures.takes c.take_page-page.ensures.in_order
-        c.requires.enough c.requires.some c.requires.few c.deref.result.now (c.deref.ensures.value ∙ c.in-Ok-write_slots.ensures) in
+    c.needs_log_page-for_log.result (c.needs_log_page-for_log.ensures d is) c.in-Ok.ensures.taken c.in-Ok.ensures.log c.take_page-page.ensures.takes c.take_page-page.ensures.in_order
+    c.requires.enough c.requires.some c.requires.few c.deref.result.now (c.deref.ensures.value ∙ c.in-Ok-write_slots.ensures) in
     let taken = fresh_taken S c.args.v.now d is c.take_log_page.new.free c.take_page-page.new.free c.in-Ok.fresh.items c.deref-2.result.now c.deref-2.ensures.value c.take_page-page.result c.args.size
-        c.needs_log_page-for_log.result (c.needs_log_page-for_log.ensures d is) c.in-Ok.ensures.taken c.in-Ok.ensures.log c.take_page-page.ensures.takes c.take_page-page.ensures.in_order
-        c.requires.enough c.requires.some c.requires.few in
+    c.needs_log_page-for_log.result (c.needs_log_page-for_log.ensures d is) c.in-Ok.ensures.taken c.in-Ok.ensures.log c.take_page-page.ensures.takes c.take_page-page.ensures.in_order
+    c.requires.enough c.requires.some c.requires.few in
     let committed = c.in-Ok-commit_page.ensures.committed d c.args.size may in
     record {
       slots = c.deref.result.now;

@@ -14,5 +14,5 @@ returns g c = λ d is.
     let log = (d.inode 1).log in
     let paged = (is.valid.logs 1 in_table used).paged in
     let tail : c.load.result ≡ tail_at log.pages (count log) = c.load.ensures ∙ ap (slice_index (g.D.Pm.state c.args.v.now.device).now) c.inode_word.ensures
-        ∙ is.stands.reads (inode_word 1 2) (tail_at log.pages (count log)) (of_logs (record { ino = 1; in_table = in_table; used = used; says = at_tail refl refl })) in
+    ∙ is.stands.reads (inode_word 1 2) (tail_at log.pages (count log)) (of_logs (record { ino = 1; in_table = in_table; used = used; says = at_tail refl refl })) in
     ((λ yes. room_if_full d.geometry log paged (subst IsFull tail (c.is_full.ensures.0 yes))), (λ none. c.is_full.ensures.1 (subst IsFull (sym tail) (full_if_room d.geometry log paged none))))
