@@ -53,10 +53,10 @@ history_text-more numbers history k e before so_far more in_numbers in_history a
     let front : List Answered = answered (take k numbers) (take k history) in
     let here : Answered = one_line (get_or numbers k 0) (get_or history k e) in
     let grows : history_text (answered (take (k + 1) numbers) (take (k + 1) history)) ≡ history_text front ++ line_of here =
-        ap (λ j. history_text (answered (take j numbers) (take j history))) (add-one k)
-        ∙ ap history_text (answered_more numbers history k e in_numbers in_history)
-        ∙ flat_map-append line_of front (here ∷ [])
-        ∙ ap (λ (xs : List ℕ). history_text front ++ xs) (append-nil (line_of here)) in
+    ap (λ j. history_text (answered (take j numbers) (take j history))) (add-one k)
+    ∙ ap history_text (answered_more numbers history k e in_numbers in_history)
+    ∙ flat_map-append line_of front (here ∷ [])
+    ∙ ap (λ (xs : List ℕ). history_text front ++ xs) (append-nil (line_of here)) in
     then_more
     ∙ ap (λ (xs : List ℕ). xs ++ line_of here) at_first
     ∙ append_assoc before (history_text front) (line_of here)

@@ -1,5 +1,5 @@
 // What the program does for the command that is served.
-ghost use Rattle.std.specs.Prelude.{◌≡◌, ◌≢◌, ◌⊎◌, ◌++◌, ◌≤◌, ◌<◌, ℕ, List, length, map, string_bytes, IfOk, IfErr, OnOk, All};
+ghost use Rattle.std.specs.Prelude.{◌≡◌, ◌≢◌, ◌⊎◌, ◌++◌, ◌≤◌, ◌<◌, ℕ, List, length, map, string_bytes, IfOk, IfErr, OnOk, All, vec_len, ◌%◌};
 ghost use Rattle.pm_device.specs.State.{Rose};
 ghost use Rattle.pm_device.specs.Settled.{Still};
 ghost use Rattle.dn_script.specs.Streams.{with_back};
@@ -167,11 +167,7 @@ fn split(alloc: Global, job: Vec<NumberedOp>) -> Result<(Vec<Op>, Vec<u64>), All
 }
 
 // Appends the line of each operation that was answered.
-fn write_history(
-    text: &mut Vec<u8>,
-    lines: &[u64],
-    history: &[Entry],
-) -> Result<(), AllocError>
+fn write_history(text: &mut Vec<u8>, lines: &[u64], history: &[Entry]) -> Result<(), AllocError>
     ensures { OnOk result (text.new.items ≡ text.old.items ++ history_text (answered lines.now history.now)) }
 {
     let count = lines.len().min(history.len());
@@ -182,12 +178,7 @@ fn write_history(
 }
 
 // The text where each operation was answered.
-fn report(
-    alloc: Global,
-    lines: &[u64],
-    history: &[Entry],
-    free: u64,
-) -> Result<Vec<u8>, AllocError>
+fn report(alloc: Global, lines: &[u64], history: &[Entry], free: u64) -> Result<Vec<u8>, AllocError>
     ensures { IfOk result (λ text. text.items ≡ report_text (answered lines.now history.now) free) }
 {
     let mut text = Vec::new(alloc);
@@ -197,11 +188,7 @@ fn report(
 }
 
 // The text where the device stopped.
-fn stopped_report(
-    alloc: Global,
-    lines: &[u64],
-    history: &[Entry],
-) -> Result<Vec<u8>, AllocError>
+fn stopped_report(alloc: Global, lines: &[u64], history: &[Entry]) -> Result<Vec<u8>, AllocError>
     ensures { IfOk result (λ text. text.items ≡ history_text (answered lines.now history.now) ++ stopped_text) }
 {
     let mut text = Vec::new(alloc);
@@ -235,12 +222,7 @@ fn run_outcome<D: Pm>(
 }
 
 // Runs the operations on an image that is open, and gives the device back.
-fn run_opened<D: Pm>(
-    alloc: Global,
-    mut v: OneFile<D>,
-    ops: Vec<Op>,
-    lines: &[u64],
-) -> (Outcome, D)
+fn run_opened<D: Pm>(alloc: Global, mut v: OneFile<D>, ops: Vec<Op>, lines: &[u64]) -> (Outcome, D)
     requires agrees { Agrees D.state v }
     requires served { All IsServed ops.items }
     ensures tells { RunTells D.state v ops.items lines.now (D.state result.1) result.0 }
@@ -373,4 +355,110 @@ pub fn tool<D: Pm, S: Source, K: Sink>(
     ensures complete { IsServable (map string_bytes words.now) (S.left input.old) (S.faults input.old) (S.faults input.new) (D.state device) (D.state result.1) (K.faults out.old) (K.faults out.new) → (result.0 ≡ 0) ⊎ (result.0 ≡ 7) }
 {
     call(alloc, words, device, input, out)
+}
+
+#[cfg(test)]
+mod tests {
+    use super::*;
+    use dn_script::{MemSink, MemSource};
+    use pm_device::MemPm;
+    use std::process::Abort;
+    use std::test::Fail;
+
+    // The words that aren't 0 in the first image of 64 pages and 8 inodes with a file `f`.
+    const FIRST: [(usize, u64); 12] = [
+        (0, 0x3130_4156_4F4E_4544),
+        (1, 1),
+        (2, 64),
+        (3, 8),
+        (1024, 1),
+        (1025, 6),
+        (1026, 385),
+        (1040, 1),
+        (3072, 3),
+        (3073, 1),
+        (3074, 1),
+        (3075, 0x66),
+    ];
+
+    const APPLY: &[&str] = &["img", "apply"];
+
+    fn put(words: &mut Vec<u64>, at: usize, value: u64) {
+        if let Some(word) = words.get_mut(at) {
+            *word = value;
+        }
+    }
+
+    // The first image, where the length is that of 64 pages.
+    fn first_words(alloc: Global, length: usize) -> Result<Vec<u64>, AllocError> {
+        let mut words = vec![in alloc; 0; length]?;
+        for (at, value) in FIRST {
+            put(&mut words, at, value);
+        }
+        Ok(words)
+    }
+
+    fn device_of(alloc: Global, words: Vec<u64>) -> Result<MemPm, AllocError>
+        requires { vec_len words % 512 ≡ 0 }
+        ensures { IfOk result (λ device. Still (⟦<MemPm as Pm>⟧.state device)) }
+    {
+        let device = MemPm::of_words(alloc, words, Vec::new(alloc))?;
+        Ok(device)
+    }
+
+    // How a call on the first image ends. Takes and puts with these numbers fail, where 0 is none.
+    fn ended(
+        alloc: Global,
+        words: &[&str],
+        job: &str,
+        take_fails: u64,
+        put_fails: u64,
+    ) -> Result<(u8, Vec<u8>), AllocError> {
+        let mut spelled = Vec::new(alloc);
+        for word in words {
+            spelled.push(String::from_str(alloc, word)?)?;
+        }
+        let job = Vec::from_slice(alloc, job.as_bytes())?;
+        let mut input = MemSource::of(job, vec![in alloc; take_fails]?);
+        let mut out = MemSink::of(alloc, 1000, vec![in alloc; put_fails]?)?;
+        let first = first_words(alloc, 32768)?;
+        if first.len() % 512 != 0 {
+            return Err(AllocError);
+        }
+        let device = device_of(alloc, first)?;
+        let (status, _device) = tool(alloc, &spelled, device, &mut input, &mut out);
+        Ok((status, Vec::from_slice(alloc, out.bytes())?))
+    }
+
+    fn check(
+        rt: &(impl Abort + AllocGlobal),
+        words: &[&str],
+        job: &str,
+        fails: (u64, u64),
+        status: u8,
+        text: &str,
+    ) -> Result<(), AllocError> {
+        let (told, written) = ended(rt.alloc(), words, job, fails.0, fails.1)?;
+        assert_eq!(rt; told, status, "at {job:?}");
+        assert_eq!(rt; written.as_slice(), text.as_bytes());
+        Ok(())
+    }
+
+    #[test]
+    fn each_status_has_its_text(rt: HostRuntime) -> Result<(), Fail> {
+        check(&rt, &["img"], "", (0, 0), 1, "usage\n")?;
+        check(&rt, &["img"], "", (1, 0), 1, "usage\n")?;
+        check(&rt, &["img"], "", (0, 1), 6, "")?;
+        check(
+            &rt,
+            APPLY,
+            "read f 0 1\n\nlist\n",
+            (0, 0),
+            2,
+            "bad-line 3\n",
+        )?;
+        check(&rt, APPLY, "list\n", (1, 0), 5, "read-fault\n")?;
+        check(&rt, APPLY, "list\n", (0, 1), 6, "")?;
+        Ok(())
+    }
 }

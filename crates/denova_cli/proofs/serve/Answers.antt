@@ -1,4 +1,4 @@
-use Rattle.denova_cli.proofs.Untold.{opened_still}
+use Rattle.denova_cli.proofs.StillDevices.{opened_still}
 use Rattle.denova_cli.proofs.serve.Goals as goal
 
 pub tool-status-requires : goal.tool-status-requires
