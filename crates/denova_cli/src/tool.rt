@@ -461,4 +461,31 @@ mod tests {
         check(&rt, APPLY, "list\n", (0, 1), 6, "")?;
         Ok(())
     }
+
+    #[test]
+    fn jobs_are_served(rt: HostRuntime) -> Result<(), Fail> {
+        let table = [
+            (
+                "write f 0 616263\nread f 0 8\n",
+                "1 1 done\n1 2 bytes 3 616263\nend 2 55\n",
+            ),
+            (
+                "write f 0 616263\nwrite f 0 64\nread f 0 8",
+                "1 1 done\n1 2 done\n1 3 bytes 3 646263\nend 3 55\n",
+            ),
+            (
+                "# two refusals\nread g 0 1\n\nread f 0 65537\n",
+                "1 2 not-found\n1 4 too-long\nend 2 57\n",
+            ),
+            (
+                "read a/b 0 1\nread f 9 9\n",
+                "1 1 bad-name\n1 2 bytes 0\nend 2 57\n",
+            ),
+            ("", "end 0 57\n"),
+        ];
+        for (job, text) in table {
+            check(&rt, APPLY, job, (0, 0), 0, text)?;
+        }
+        Ok(())
+    }
 }

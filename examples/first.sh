@@ -1,0 +1,34 @@
+#!/bin/sh
+# Makes a sample image of 64 pages with one empty file `f`, runs a job on it, and shows the replies.
+set -eu
+here=$(cd "$(dirname "$0")/.." && pwd)
+folder=$(mktemp -d)
+trap 'rm -rf "$folder"' EXIT
+image=$folder/sample.img
+
+# put WORD BYTES: the bytes, in printf's escapes, from the start of a word of eight bytes
+put() {
+    printf "$2" | dd of="$image" bs=1 seek=$(($1 * 8)) conv=notrunc 2>/dev/null
+}
+
+dd if=/dev/zero of="$image" bs=4096 count=64 2>/dev/null
+put 0 'DENOVA01'        # the superblock: mark, version, pages, inodes
+put 1 '\001'
+put 2 '\100'
+put 3 '\010'
+put 1024 '\001'         # inode 0, the directory: in use, its log's first page and its tail
+put 1025 '\006'
+put 1026 '\201\001'
+put 1040 '\001'         # inode 1, the empty file
+put 3072 '\003'         # the directory's one item: the name `f` is inode 1
+put 3073 '\001'
+put 3074 '\001'
+put 3075 'f'
+
+job='write f 0 68656c6c6f
+read f 0 64
+write f 0 4a
+read f 0 64
+read nobody 0 1'
+echo "$job" | sed 's/^/> /'
+echo "$job" | "$here/denova" "$image" apply
