@@ -2,12 +2,14 @@
 use Rattle.std.proofs.Common.{◌≡◌, ◌≢◌, ◌⊎◌, inl, inr, ⊎_elim, ℕ, zero, suc, List, [], ◌∷◌, refl, sym, ◌∙◌, ap, arith}
 use Rattle.pm_layout.specs.declared.Geometry.{Geometry}
 use Rattle.pm_layout.specs.Geometry.{slot_word}
-use Rattle.dn_model.specs.Table.{Row, RowsSay, at_field, at_next, at_later, count_word, be_number, first_slot}
+use Rattle.dn_model.specs.Table.{Row, RowsSay, at_field, at_next, at_later, first_slot}
+use Rattle.fingerprint.specs.Count.{count_word}
+use Rattle.fingerprint.specs.Print.{print_word}
 use Rattle.dn_changes.proofs.OpenDirect.{slot_word_one, HaveSlots}
 
 -- the row with this slot has another count word, and nothing else differs
 pub data Recounts (slot word : ℕ) : List Row → List Row → Type 0 where
-  this_row : {old new : Row} {rows : List Row} → old.slot ≡ slot → new.slot ≡ old.slot → new.page ≡ old.page → new.print ≡ old.print → count_word new ≡ word
+  this_row : {old new : Row} {rows : List Row} → old.slot ≡ slot → new.slot ≡ old.slot → new.page ≡ old.page → new.print ≡ old.print → count_word new.rfc new.uc ≡ word
       → HaveSlots (λ s. s ≢ slot) rows → Recounts slot word (old ∷ rows) (new ∷ rows)
   later_row : {row : Row} {olds news : List Row} → row.slot ≢ slot → Recounts slot word olds news → Recounts slot word (row ∷ olds) (row ∷ news)
 
@@ -30,11 +32,11 @@ rows_differ g slot word (old ∷ olds) [] changes a v told = elim changes [ ]
 rows_differ g slot word (old ∷ olds) (new ∷ news) (this_row here same page print count apart) a v (at_field zero lt place value) =
     inr ((λ e. omega arith), at_field 0 lt (place ∙ ap (λ s. slot_word g s 0) same) (value ∙ page))
 rows_differ g slot word (old ∷ olds) (new ∷ news) (this_row here same page print count apart) a v (at_field (suc zero) lt place value) =
-    inr ((λ e. omega arith), at_field 1 lt (place ∙ ap (λ s. slot_word g s 1) same) (value ∙ ap (λ (p : List ℕ). be_number p 0 0 8) print))
+    inr ((λ e. omega arith), at_field 1 lt (place ∙ ap (λ s. slot_word g s 1) same) (value ∙ ap (λ (p : List ℕ). print_word p 0) print))
 rows_differ g slot word (old ∷ olds) (new ∷ news) (this_row here same page print count apart) a v (at_field (suc (suc zero)) lt place value) =
-    inr ((λ e. omega arith), at_field 2 lt (place ∙ ap (λ s. slot_word g s 2) same) (value ∙ ap (λ (p : List ℕ). be_number p 0 8 8) print))
+    inr ((λ e. omega arith), at_field 2 lt (place ∙ ap (λ s. slot_word g s 2) same) (value ∙ ap (λ (p : List ℕ). print_word p 1) print))
 rows_differ g slot word (old ∷ olds) (new ∷ news) (this_row here same page print count apart) a v (at_field (suc (suc (suc zero))) lt place value) =
-    inr ((λ e. omega arith), at_field 3 lt (place ∙ ap (λ s. slot_word g s 3) same) (value ∙ ap (λ (p : List ℕ). be_number p 0 16 4) print))
+    inr ((λ e. omega arith), at_field 3 lt (place ∙ ap (λ s. slot_word g s 3) same) (value ∙ ap (λ (p : List ℕ). print_word p 2) print))
 rows_differ g slot word (old ∷ olds) (new ∷ news) (this_row here same page print count apart) a v (at_field (suc (suc (suc (suc k)))) lt place value) =
     inl (omega (arith, place, same, here), value ∙ count)
 rows_differ g slot word (old ∷ olds) (new ∷ news) (this_row here same page print count apart) a v (at_next place value) =
