@@ -381,21 +381,29 @@ mod tests {
         (3075, 0x66),
     ];
 
+    // The words that a first write of the bytes `abc` makes of it.
+    const WRITTEN: [(usize, u64); 8] = [
+        (1041, 7),
+        (1042, 449),
+        (3584, 1),
+        (3586, 1),
+        (3587, 8),
+        (3588, 3),
+        (3589, 1),
+        (4096, 6_513_249),
+    ];
+
     const APPLY: &[&str] = &["img", "apply"];
 
-    fn put(words: &mut Vec<u64>, at: usize, value: u64) {
-        if let Some(word) = words.get_mut(at) {
-            *word = value;
+    // An image of 64 pages in which these words aren't 0.
+    fn image_of(alloc: Global, words: &[&[(usize, u64)]]) -> Result<Vec<u64>, AllocError> {
+        let mut image = vec![in alloc; 0; 32768]?;
+        for (at, value) in words.iter().copied().flatten() {
+            if let Some(word) = image.get_mut(*at) {
+                *word = *value;
+            }
         }
-    }
-
-    // The first image, where the length is that of 64 pages.
-    fn first_words(alloc: Global, length: usize) -> Result<Vec<u64>, AllocError> {
-        let mut words = vec![in alloc; 0; length]?;
-        for (at, value) in FIRST {
-            put(&mut words, at, value);
-        }
-        Ok(words)
+        Ok(image)
     }
 
     fn device_of(alloc: Global, words: Vec<u64>) -> Result<MemPm, AllocError>
@@ -406,14 +414,15 @@ mod tests {
         Ok(device)
     }
 
-    // How a call on the first image ends. Takes and puts with these numbers fail, where 0 is none.
+    // How a call ends, with the words that are left. Takes and puts with these numbers fail, where 0 is none.
     fn ended(
         alloc: Global,
         words: &[&str],
+        image: Vec<u64>,
         job: &str,
         take_fails: u64,
         put_fails: u64,
-    ) -> Result<(u8, Vec<u8>), AllocError> {
+    ) -> Result<(u8, Vec<u8>, Vec<u64>), AllocError> {
         let mut spelled = Vec::new(alloc);
         for word in words {
             spelled.push(String::from_str(alloc, word)?)?;
@@ -421,13 +430,13 @@ mod tests {
         let job = Vec::from_slice(alloc, job.as_bytes())?;
         let mut input = MemSource::of(job, vec![in alloc; take_fails]?);
         let mut out = MemSink::of(alloc, 1000, vec![in alloc; put_fails]?)?;
-        let first = first_words(alloc, 32768)?;
-        if first.len() % 512 != 0 {
+        if image.len() % 512 != 0 {
             return Err(AllocError);
         }
-        let device = device_of(alloc, first)?;
-        let (status, _device) = tool(alloc, &spelled, device, &mut input, &mut out);
-        Ok((status, Vec::from_slice(alloc, out.bytes())?))
+        let device = device_of(alloc, image)?;
+        let (status, device) = tool(alloc, &spelled, device, &mut input, &mut out);
+        let text = Vec::from_slice(alloc, out.bytes())?;
+        Ok((status, text, device.image_at(alloc, device.moment(), 0)?))
     }
 
     fn check(
@@ -438,9 +447,13 @@ mod tests {
         status: u8,
         text: &str,
     ) -> Result<(), AllocError> {
-        let (told, written) = ended(rt.alloc(), words, job, fails.0, fails.1)?;
+        let first = image_of(rt.alloc(), &[&FIRST])?;
+        let (told, written, left) = ended(rt.alloc(), words, first, job, fails.0, fails.1)?;
         assert_eq!(rt; told, status, "at {job:?}");
         assert_eq!(rt; written.as_slice(), text.as_bytes());
+        if status != 0 {
+            assert_eq!(rt; left, image_of(rt.alloc(), &[&FIRST])?, "at {job:?}");
+        }
         Ok(())
     }
 
@@ -485,6 +498,27 @@ mod tests {
         ];
         for (job, text) in table {
             check(&rt, APPLY, job, (0, 0), 0, text)?;
+        }
+        Ok(())
+    }
+
+    #[test]
+    fn a_write_leaves_its_words(rt: HostRuntime) -> Result<(), Fail> {
+        let first = image_of(rt.alloc(), &[&FIRST])?;
+        let (status, _, left) = ended(rt.alloc(), APPLY, first, "write f 0 616263", 0, 0)?;
+        assert_eq!(rt; status, 0);
+        assert_eq!(rt; left, image_of(rt.alloc(), &[&FIRST, &WRITTEN])?);
+        Ok(())
+    }
+
+    #[test]
+    fn other_images_are_not_served(rt: HostRuntime) -> Result<(), Fail> {
+        for words in [&[] as &[(usize, u64)], &FIRST[1..], &FIRST[..7]] {
+            let image = image_of(rt.alloc(), &[words])?;
+            let (status, text, left) = ended(rt.alloc(), APPLY, image, "", 0, 0)?;
+            assert_eq!(rt; status, 3);
+            assert_eq!(rt; text.as_slice(), b"refused unbuilt\n".as_slice());
+            assert_eq!(rt; left, image_of(rt.alloc(), &[words])?);
         }
         Ok(())
     }

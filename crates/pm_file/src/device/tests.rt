@@ -69,6 +69,7 @@ fn refuses_bad_files(rt: HostRuntime) -> Result<(), Fail> {
         );
     }
     assert!(rt; fs::read(&rt, "other").is_err(), "no file is made");
+    fs::remove_file(&rt, "image")?;
     Ok(())
 }
 
