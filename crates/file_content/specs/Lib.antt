@@ -1,2 +1,4 @@
 pub mod Slots
 pub mod SlotLoop
+pub mod Content
+pub mod ReadLoop
