@@ -2,3 +2,4 @@ pub mod Slots
 pub mod SlotLoop
 pub mod Content
 pub mod ReadLoop
+pub mod PutLoop

@@ -4,9 +4,11 @@
 //! A page is 4,096 bytes or 512 words, also of a file. The slots of a log have eight words.
 #![tactic(auto)]
 
+pub mod fill;
 pub mod place;
 pub mod slots;
 
+pub use fill::{FILL_UNITS, fill_place};
 pub use place::read_place;
 pub use slots::write_slots;
 use std::alloc::AllocError;
