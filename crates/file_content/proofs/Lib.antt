@@ -1,3 +1,4 @@
 pub mod Cutting
 pub mod FileBytes
 pub mod Filling
+pub mod Appending

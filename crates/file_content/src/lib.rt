@@ -6,10 +6,12 @@
 
 pub mod fill;
 pub mod place;
+pub mod read;
 pub mod slots;
 
 pub use fill::{FILL_UNITS, fill_place};
 pub use place::read_place;
+pub use read::{MOST_BYTES, read_bytes};
 pub use slots::write_slots;
 use std::alloc::AllocError;
 
