@@ -3,3 +3,5 @@ pub mod SlotLoop
 pub mod Content
 pub mod ReadLoop
 pub mod PutLoop
+pub mod Pages
+pub mod FillLoop

@@ -1,5 +1,5 @@
 // New pages of a file are filled.
-ghost use Rattle.std.specs.Prelude.{◌≡◌, ◌≢◌, ◌&&◌, ◌+◌, ◌-◌, ◌*◌, ◌<◌, ◌≤◌, ℕ, length, slice_index, nat_le, nat_lt, if◌then◌else◌, OnOk, IsErr};
+ghost use Rattle.std.specs.Prelude.{◌≡◌, ◌+◌, ◌*◌, ◌<◌, ◌≤◌, ℕ, length, All, OnOk, IsErr};
 ghost use Rattle.pm_device.specs.State.{Rose};
 ghost use Rattle.pm_device.specs.Settled.{StoresOnly, KeepsFlushed, Others};
 ghost use Rattle.pm_device.specs.Reading.{Stands};
@@ -9,6 +9,7 @@ ghost use Rattle.dn_model.specs.Disk.{Disk, DiskSays};
 ghost use Rattle.dn_model.specs.Files.{bytes};
 ghost use Rattle.dn_model.specs.Valid.{IsValid};
 ghost use Rattle.file_content.specs.Content.{IsFileOf, AreBlocksIn, IsFilled, SettlesBut};
+ghost use Rattle.file_content.specs.Pages.{IsInPages, AreApart, AreFilled};
 ghost use Rattle.file_content.specs.PutLoop.{PutsText, put_byte};
 
 use crate::place::read_place;
@@ -78,4 +79,53 @@ pub fn fill_place<D: Pm>(
     put_text(&mut page, 4096 * place, at, text);
     fill_page_bytes(device, who, block, &page);
     settle(device, who)
+}
+
+/// Fills these pages, one after another, with the bytes of the places of a file from `first` on, with a text put in
+/// from byte `at` on; flushes and fences. The pages are different ones, and the disk doesn't use them. It takes no
+/// memory, and `FILL_UNITS` of the device for each page.
+///
+/// # Errors
+/// `Failed` where a fence failed. Some of the pages are stored then, and a stop may leave each word of them or the one
+/// before.
+pub fn fill_places<D: Pm>(
+    device: &mut D,
+    g: &Geometry,
+    who: u32,
+    map: &PageMap,
+    size: u64,
+    first: u64,
+    at: u64,
+    text: &[u8],
+    blocks: &[u64],
+) -> Result<(), Failed>
+    requires accepted { IsAccepted g.now }
+    requires device { length (D.state device.old).now ≡ 512 * g.now.pages }
+    requires mapped { AreBlocksIn g.now map.now.map }
+    requires places { first + length blocks.now ≤ 4096 }
+    requires blocks { All (λ block. block < g.now.pages) blocks.now }
+    requires apart { AreApart blocks.now }
+    requires room { FILL_UNITS * length blocks.now ≤ (D.state device.old).spare }
+    ensures filled { OnOk result (AreFilled g.now map.now.map size first at text.now blocks.now (length blocks.now) (D.state device.old) (D.state device.new)) }
+    ensures settled { OnOk result (1 ≤ length blocks.now → SettlesBut who (IsInPages blocks.now) (D.state device.old) (D.state device.new)) }
+    ensures only { StoresOnly (IsInPages blocks.now) (D.state device.old) (D.state device.new) }
+    ensures others { KeepsFlushed (Others who) (IsInPages blocks.now) (D.state device.old) (D.state device.new) }
+    ensures spare { (D.state device.old).spare ≤ (D.state device.new).spare + FILL_UNITS * length blocks.now }
+    ensures faults { (D.state device.old).faults ≤ (D.state device.new).faults }
+    ensures failed { IsErr result → Rose (D.state device.old).faults (D.state device.new).faults }
+{
+    for (i, block) in blocks.iter().enumerate() {
+        fill_place(
+            device,
+            g,
+            who,
+            map,
+            size,
+            first + i as u64,
+            at,
+            text,
+            *block,
+        )?;
+    }
+    Ok(())
 }

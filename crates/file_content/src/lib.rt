@@ -9,7 +9,7 @@ pub mod place;
 pub mod read;
 pub mod slots;
 
-pub use fill::{FILL_UNITS, fill_place};
+pub use fill::{FILL_UNITS, fill_place, fill_places};
 pub use place::read_place;
 pub use read::{MOST_BYTES, read_bytes};
 pub use slots::write_slots;
