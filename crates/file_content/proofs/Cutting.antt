@@ -1,11 +1,9 @@
 -- A list of runs gets one more run at its end.
-use Rattle.std.proofs.Common.{◌≡◌, ◌≢◌, inl, inr, ℕ, ◌+◌, ◌-◌, ◌<◌, ◌≤◌, List, [], ◌∷◌, ◌++◌, length, refl, sym, ◌∙◌, ap, arith, length-append, append-nil}
+use Rattle.std.proofs.Common.{◌≡◌, ◌≢◌, inl, inr, ℕ, ◌+◌, ◌-◌, ◌<◌, ◌≤◌, List, [], ◌∷◌, ◌++◌, length, sym, ◌∙◌, ap, arith, length-append}
 use Rattle.std.specs.Prelude.{slice_index}
 use Rattle.std.proofs.lemmas.Bool.{cases_lt}
-use Rattle.std.proofs.lemmas.List.Concat.{flat_map-append}
-use Rattle.log_entry.specs.Spelling.{spelled, spelling, pages_of}
-use Rattle.dn_changes.specs.Runs.{Run, run_item, run_items, places_in, block_at, IsChained}
-use Rattle.dn_changes.proofs.RunItems.{block_at-here, block_at-later, runs-spelled}
+use Rattle.dn_changes.specs.Runs.{Run, places_in, block_at, IsChained}
+use Rattle.dn_changes.proofs.RunItems.{block_at-here, block_at-later}
 use Rattle.file_content.specs.Slots.{IsRunAt, AreMaximal, IsCutInto}
 use Rattle.file_content.specs.SlotLoop.{GoesOnTo, IsCutTo}
 
@@ -52,15 +50,6 @@ maximal-push first (run ∷ next ∷ runs) r chained maximal ends =
         let whole : run.count + places_in (next ∷ runs) - 1 ≡ run.count + (places_in (next ∷ runs) - 1) = omega (arith, chained.3.1) in
         ap (block_at (run ∷ next ∷ runs)) whole ∙ block_at-later run (next ∷ runs) (places_in (next ∷ runs) - 1)
 
-pub items-push : (size : ℕ) (runs : List Run) (r : Run) → run_items (runs ++ r ∷ []) size ≡ run_items runs size ++ run_item size r ∷ []
-items-push size [] r = refl
-items-push size (run ∷ runs) r = ap (λ is. run_item size run ∷ is) (items-push size runs r)
-
-pub spelled-push : (size : ℕ) (runs : List Run) (r : Run) → spelled (run_items (runs ++ r ∷ []) size) ≡ spelled (run_items runs size) ++ spelling (run_item size r)
-spelled-push size runs r =
-    ap spelled (items-push size runs r) ∙ flat_map-append spelling (run_items runs size) (run_item size r ∷ [])
-    ∙ ap (λ ss. spelled (run_items runs size) ++ ss) (append-nil (spelling (run_item size r)))
-
 module _ (pages : List ℕ) (from : ℕ) where
   -- one more page has the next number
   pub goes_on-next : (at : ℕ) → GoesOnTo pages from at → from < at → at < length pages → slice_index pages at ≡ slice_index pages (at - 1) + 1 → GoesOnTo pages from (at + 1)
@@ -75,51 +64,45 @@ module _ (pages : List ℕ) (from : ℕ) where
           let last : slice_index pages (at - 1) ≡ slice_index pages from + (i - 1) = ap (slice_index pages) (sym before) ∙ so_far.consecutive (i - 1) (omega arith) in
           ap (slice_index pages) e ∙ next ∙ omega (arith, last, past, e)
 
-module _ (first size : ℕ) (pages : List ℕ) (slots : List (List ℕ)) (n count : ℕ) (to : IsCutTo first size pages n slots) (is : IsRunAt pages n count) (few : length pages ≤ 17) where
+module _ (first : ℕ) (pages : List ℕ) (runs : List Run) (n count : ℕ) (to : IsCutTo first pages n runs) (is : IsRunAt pages n count) (few : length pages ≤ 17) where
   abbrev next : Run
   next = record { first = first + n; count = count; block = slice_index pages n }
 
-  page_of_next : (i : ℕ) → n ≤ i → i < n + count → block_at (to.runs ++ next ∷ []) i ≡ slice_index pages i
+  page_of_next : (i : ℕ) → n ≤ i → i < n + count → block_at (runs ++ next ∷ []) i ≡ slice_index pages i
   page_of_next i low high =
-      let place : places_in to.runs + (i - n) ≡ i = omega (arith, to.places) in
+      let place : places_in runs + (i - n) ≡ i = omega (arith, to.places) in
       let same : n + (i - n) ≡ i = omega arith in
-      ap (block_at (to.runs ++ next ∷ [])) (sym place) ∙ block-push_last to.runs next (i - n) (omega arith)
+      ap (block_at (runs ++ next ∷ [])) (sym place) ∙ block-push_last runs next (i - n) (omega arith)
       ∙ sym (is.consecutive (i - n) (omega arith)) ∙ ap (slice_index pages) same
 
-  last_page : 1 ≤ places_in to.runs → block_at to.runs (places_in to.runs - 1) ≡ slice_index pages (n - 1)
-  last_page some = ap (λ (k : ℕ). block_at to.runs (k - 1)) to.places ∙ to.blocks (n - 1) (omega (arith, some, to.places))
+  last_page : 1 ≤ places_in runs → block_at runs (places_in runs - 1) ≡ slice_index pages (n - 1)
+  last_page some = ap (λ (k : ℕ). block_at runs (k - 1)) to.places ∙ to.blocks (n - 1) (omega (arith, some, to.places))
 
   -- one run more is cut
-  pub cut-next : n < length pages → IsCutTo first size pages (n + count) (slots ++ spelling (run_item size next))
+  pub cut-next : n < length pages → IsCutTo first pages (n + count) (runs ++ next ∷ [])
   cut-next lt = record {
-    runs = to.runs ++ next ∷ [];
     within = is.within;
-    chained = chained-push first to.runs next to.chained (omega (arith, to.places)) is.some (omega (arith, is.within, few));
-    places = omega (arith, places-push to.runs next, to.places);
-    blocks = λ i below. elim (cases_lt i n) [
-      | inl low ↦ block-push_here to.runs next i (omega (arith, to.places, low)) ∙ to.blocks i low
-      | inr high ↦ page_of_next i high below
+    chained = chained-push first runs next to.chained (omega (arith, to.places)) is.some (omega (arith, is.within, few));
+    places = omega (arith, places-push runs next, to.places);
+    blocks = λ i lt. elim (cases_lt i n) [
+      | inl low ↦ block-push_here runs next i (omega (arith, to.places, low)) ∙ to.blocks i low
+      | inr high ↦ page_of_next i high lt
     ];
-    maximal = maximal-push first to.runs next to.chained to.maximal (λ some e. to.apart (omega (arith, some, to.places)) lt (e ∙ ap (λ (p : ℕ). p + 1) (last_page some)));
-    some = λ _. omega (arith, length-append to.runs (next ∷ []));
-    few = omega (arith, length-append to.runs (next ∷ []), to.few, is.some);
-    are_slots = spelled-push size to.runs next ∙ ap (λ ss. ss ++ spelling (run_item size next)) to.are_slots;
+    maximal = maximal-push first runs next to.chained to.maximal (λ some e. to.apart (omega (arith, some, to.places)) lt (e ∙ ap (λ (p : ℕ). p + 1) (last_page some)));
+    some = λ _. omega (arith, length-append runs (next ∷ []));
+    few = omega (arith, length-append runs (next ∷ []), to.few, is.some);
     apart = λ _ more. is.ends more;
   }
 
 -- all the pages are cut
-pub cut-all : (first size : ℕ) (pages : List ℕ) (slots : List (List ℕ)) (n : ℕ) → IsCutTo first size pages n slots → length pages ≤ n → 1 ≤ length pages → first + length pages ≤ pages_of size → size ≤ 16777216
-    → IsCutInto first size pages slots
-cut-all first size pages slots n to all some inside small =
+pub cut-all : (first : ℕ) (pages : List ℕ) (runs : List Run) (n : ℕ) → IsCutTo first pages n runs → length pages ≤ n → 1 ≤ length pages → IsCutInto first pages runs
+cut-all first pages runs n to all some =
     let whole : n ≡ length pages = omega (arith, to.within, all) in
     record {
-      runs = to.runs;
       chained = to.chained;
       places = to.places ∙ whole;
       blocks = λ i lt. to.blocks i (omega (arith, lt, whole));
       maximal = to.maximal;
       some = to.some (omega (arith, some, whole));
       few = omega (arith, to.few, whole);
-      items = runs-spelled size to.runs first to.chained (omega (arith, inside, whole, to.places)) small;
-      are_slots = to.are_slots;
     }

@@ -3,3 +3,6 @@ pub mod FileBytes
 pub mod Filling
 pub mod Appending
 pub mod FillSteps
+pub mod Remapping
+pub mod Spelling
+pub mod Freeing

@@ -1,4 +1,7 @@
 pub mod Slots
+pub mod Runs
+pub mod RemapLoop
+pub mod Overwritten
 pub mod SlotLoop
 pub mod Content
 pub mod ReadLoop

@@ -1,7 +1,6 @@
--- How the pages that a write takes are cut into runs, and the slots of their items.
-use Rattle.std.specs.Prelude.{◌≡◌, ◌≢◌, ℕ, ◌+◌, ◌-◌, ◌<◌, ◌≤◌, List, [], ◌∷◌, length, slice_index, All}
-use Rattle.log_entry.specs.Spelling.{spelled, IsSpelled}
-use Rattle.dn_changes.specs.Runs.{Run, run_items, places_in, block_at, IsChained}
+-- How the pages that a write takes are cut into runs.
+use Rattle.std.specs.Prelude.{◌≡◌, ◌≢◌, ℕ, ◌+◌, ◌-◌, ◌<◌, ◌≤◌, List, [], ◌∷◌, length, slice_index}
+use Rattle.dn_changes.specs.Runs.{Run, places_in, block_at, IsChained}
 
 -- from this place on, so many of the pages have consecutive numbers, and the page behind them doesn't follow
 pub record IsRunAt (pages : List ℕ) (from count : ℕ) : Type 0 where
@@ -21,14 +20,11 @@ AreMaximal [] = Unit {0}
 AreMaximal (run ∷ runs) = IsApartFrom run runs × AreMaximal runs
 
 -- The places from `first` on go to these pages, one after another: cut into runs of consecutive pages, each as long
--- as can be, whose items in a file of this size are spelled by these slots.
-pub record IsCutInto (first size : ℕ) (pages : List ℕ) (slots : List (List ℕ)) : Type 0 where
-  pub runs : List Run
+-- as can be.
+pub record IsCutInto (first : ℕ) (pages : List ℕ) (runs : List Run) : Type 0 where
   pub chained : IsChained first runs
   pub places : places_in runs ≡ length pages
   pub blocks : (i : ℕ) → i < length pages → block_at runs i ≡ slice_index pages i
   pub maximal : AreMaximal runs
   pub some : 1 ≤ length runs
   pub few : length runs ≤ length pages
-  pub items : All IsSpelled (run_items runs size)
-  pub are_slots : spelled (run_items runs size) ≡ slots
