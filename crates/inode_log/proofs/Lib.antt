@@ -1,3 +1,4 @@
 pub mod Committed
 pub mod Walked
 pub mod Preparing
+pub mod Reflagged
