@@ -1,10 +1,15 @@
 -- The plan of a write, from the pages that it takes and gives back.
-use Rattle.std.proofs.Common.{◌≡◌, ◌⊎◌, ℕ, ◌+◌, ◌<◌, ◌≤◌, Bool, true, false, List, [], length, refl, sym, ◌∙◌, ap, subst, arith}
-use Rattle.std.specs.Prelude.{◌↔◌, Contains, nat_lt, if◌then◌else◌}
-use Rattle.std.proofs.lemmas.Bool.{cases_lt}
+use Rattle.std.proofs.Common.{◌≡◌, ◌⊎◌, ℕ, ◌+◌, ◌-◌, ◌/◌, ◌<◌, ◌≤◌, Bool, true, false, List, [], length, refl, sym, ◌∙◌, ap, subst, arith}
+use Rattle.std.specs.Prelude.{◌↔◌, Contains, ◌==◌, nat_lt, if◌then◌else◌, All}
+use Rattle.std.proofs.lemmas.List.{length-map}
 use Rattle.std.proofs.lemmas.Bool.Decides.{nat_tests}
 use Rattle.page_alloc.specs.Free.{FreePages, IsInOrder}
-use Rattle.dn_changes.proofs.RunItems.{length-spelled-runs}
+use Rattle.log_entry.specs.Spelling.{IsSpelled, pages_of}
+use Rattle.dn_model.specs.History.{touched}
+use Rattle.dn_changes.specs.Runs.{run_items}
+use Rattle.dn_changes.proofs.RunItems.{runs-spelled}
+use Rattle.file_content.specs.Runs.{seen, all_seen}
+use Rattle.file_content.specs.declared.runs.Run.{Run}
 use Rattle.file_content.specs.Slots.{IsCutInto}
 use Rattle.file_write.specs.Take.{TakesFirst, TakesForWrite, ReturnsUnused}
 use Rattle.file_write.proofs.Taking.{takes-used, takes-unused}
@@ -31,6 +36,16 @@ planned room slots places old mid new end fresh fresh' blocks in_order first sec
       log_page = ap length back.0 ∙ sym (ap (λ (b : Bool). if b then 1 else 0) not);
     }
 
--- there are no more slots than places
-pub slots-few : (first size : ℕ) (pages : List ℕ) (slots : List (List ℕ)) (places : ℕ) → length pages ≡ places → IsCutInto first size pages slots → length slots ≤ places
-slots-few first size pages slots places long cut = omega (arith, ap length cut.are_slots, length-spelled-runs size cut.runs, cut.few, long)
+-- there are no more runs than places
+pub runs-few : (first : ℕ) (pages : List ℕ) (runs : List Run) (places : ℕ) → length pages ≡ places → IsCutInto first pages (all_seen runs) → length runs ≤ places
+runs-few first pages runs places long cut = omega (arith, length-map seen runs, cut.few, long)
+
+-- the items of the runs can be spelled
+pub runs-spelled-in : (first size : ℕ) (pages : List ℕ) (runs : List Run) → first + length pages ≤ pages_of size → size ≤ 16777216 → IsCutInto first pages (all_seen runs) → All IsSpelled (run_items (all_seen runs) size)
+runs-spelled-in first size pages runs inside small cut = runs-spelled size (all_seen runs) first cut.chained (omega (arith, cut.places, inside)) small
+
+-- the places that bytes touch lie in a file that holds the bytes
+pub touched-inside : (at count size n : ℕ) → 1 ≤ count → n ≡ touched at count → at + count ≤ size → at / 4096 + n ≤ pages_of size
+touched-inside at count size n some is fits = let none : (count == 0) ≡ false = grind (arith, nat_tests) in
+    let n_is : n ≡ (at + count + 4095) / 4096 - at / 4096 = is ∙ ap (λ (b : Bool). if b then 0 else (at + count + 4095) / 4096 - at / 4096) none in
+    omega arith

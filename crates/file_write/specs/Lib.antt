@@ -1,2 +1,4 @@
 pub mod Take
 pub mod Plan
+pub mod Held
+pub mod Store

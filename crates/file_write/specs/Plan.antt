@@ -2,7 +2,10 @@
 use Rattle.std.specs.Prelude.{◌≡◌, ℕ, ◌+◌, ◌/◌, max, if◌then◌else◌, nat_lt, List, length}
 use Rattle.page_alloc.specs.Free.{FreePages}
 use Rattle.dn_model.specs.History.{touched}
+use Rattle.log_entry.specs.Spelling.{spelled}
+use Rattle.dn_changes.specs.Runs.{run_items}
 use Rattle.file_content.specs.Slots.{IsCutInto}
+use Rattle.file_content.specs.Runs.{all_seen}
 use Rattle.file_write.specs.Take.{TakesForWrite}
 use Rattle.file_write.specs.declared.plan.WritePlan.{WritePlan}
 
@@ -12,5 +15,6 @@ pub record IsPlan (size at count room : ℕ) (old new : FreePages) (plan : Write
   pub size_is : plan.size ≡ max size (at + count)
   pub places : length plan.blocks.items ≡ touched at count
   pub takes : TakesForWrite old new plan.fresh.items plan.blocks.items
-  pub cut : IsCutInto plan.first plan.size plan.blocks.items plan.slots.items
-  pub log_page : length plan.fresh.items ≡ (if nat_lt room (length plan.slots.items) then 1 else 0)
+  pub cut : IsCutInto plan.first plan.blocks.items (all_seen plan.runs.items)
+  pub spelled_by : spelled (run_items (all_seen plan.runs.items) plan.size) ≡ plan.slots.items
+  pub log_page : length plan.fresh.items ≡ (if nat_lt room (length plan.runs.items) then 1 else 0)

@@ -5,6 +5,7 @@
 #![tactic(auto)]
 
 pub mod plan;
+pub mod store;
 pub mod take;
 
 use std::alloc::AllocError;

@@ -6,7 +6,7 @@ ghost use Rattle.file_write.specs.Plan.{IsPlan};
 
 use crate::NoMemory;
 use crate::take::{places_of, return_unused, take_pages};
-use file_content::write_slots;
+use file_content::runs::{Run, cut_into_runs, run_slots};
 use page_alloc::FreeSet;
 use std::alloc::Global;
 
@@ -24,7 +24,9 @@ pub struct WritePlan {
     pub blocks: Vec<u64>,
     /// The page that the file's log takes, where its items have no room on its last one.
     pub fresh: Vec<u64>,
-    /// The slots of the items.
+    /// The runs that these places are cut into.
+    pub runs: Vec<Run>,
+    /// The slots of their items.
     pub slots: Vec<[u64; 8]>,
 }
 
@@ -63,13 +65,15 @@ pub fn plan_write(
     let size = size.max(at + count);
     let mut fresh = take_pages(alloc, free, pages_needed(places, room) - places)?;
     let blocks = take_pages(alloc, free, places)?;
-    let slots = write_slots(alloc, first, &blocks, size)?;
-    return_unused(free, &mut fresh, room < slots.len() as u64);
+    let runs = cut_into_runs(alloc, first, &blocks)?;
+    let slots = run_slots(alloc, &runs, size)?;
+    return_unused(free, &mut fresh, room < runs.len() as u64);
     Ok(WritePlan {
         first,
         size,
         blocks,
         fresh,
+        runs,
         slots,
     })
 }
