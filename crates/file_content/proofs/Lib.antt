@@ -3,3 +3,4 @@ pub mod FileBytes
 pub mod Filling
 pub mod Appending
 pub mod FillSteps
+pub mod Blocks
