@@ -6,3 +6,4 @@ pub mod FillSteps
 pub mod Remapping
 pub mod Spelling
 pub mod Freeing
+pub mod Blocks
