@@ -38,7 +38,7 @@ planned room slots places old mid new end fresh fresh' blocks in_order first sec
 
 -- there are no more runs than places
 pub runs-few : (first : ℕ) (pages : List ℕ) (runs : List Run) (places : ℕ) → length pages ≡ places → IsCutInto first pages (all_seen runs) → length runs ≤ places
-runs-few first pages runs places long cut = omega (arith, length-map seen runs, cut.few, long)
+runs-few first pages runs places long cut = omega (arith, length-map runs seen, cut.few, long)
 
 -- the items of the runs can be spelled
 pub runs-spelled-in : (first size : ℕ) (pages : List ℕ) (runs : List Run) → first + length pages ≤ pages_of size → size ≤ 16777216 → IsCutInto first pages (all_seen runs) → All IsSpelled (run_items (all_seen runs) size)

@@ -69,7 +69,7 @@ words-keep d blocks now unused page k read =
     ap (λ (b : Bool). if b then slice_index now (512 * page + k) else d.word page k) (any-none blocks page (λ i lt e. unused_unread d page (subst (IsUnused d) e (unused i lt)) read))
 
 -- the places that some bytes touch
-touched_is : (at count : ℕ) → 1 ≤ count → touched at count ≡ (at + count + 4095) / 4096 - at / 4096
+pub touched_is : (at count : ℕ) → 1 ≤ count → touched at count ≡ (at + count + 4095) / 4096 - at / 4096
 touched_is at count some = let none : (count == 0) ≡ false = grind (arith, nat_tests) in ap (λ (b : Bool). if b then 0 else (at + count + 4095) / 4096 - at / 4096) none
 
 merged-in : (old : List ℕ) (at : ℕ) (text : List ℕ) (j : ℕ) → at ≤ j → j < at + length text → merged_byte old at text j ≡ slice_index text (j - at)

@@ -35,6 +35,7 @@ pub record IsReadyToStore (g : Geometry) (ino size : ℕ) (map : FinMap nat_cmp 
   pub places : length plan.blocks.items ≡ touched at (length text)
   pub covers : places_in (all_seen plan.runs.items) ≡ length plan.blocks.items
   pub blocks : (i : ℕ) → i < length plan.blocks.items → block_at (all_seen plan.runs.items) i ≡ slice_index plan.blocks.items i
+  pub few_blocks : length plan.blocks.items ≤ 17
   pub few_slots : length plan.slots.items ≤ 17
   pub few_fresh : length plan.fresh.items ≤ 1
   pub slots : spelled (run_items (all_seen plan.runs.items) plan.size) ≡ plan.slots.items

@@ -7,6 +7,7 @@
 pub mod plan;
 pub mod store;
 pub mod take;
+pub mod write;
 
 use std::alloc::AllocError;
 
