@@ -1,0 +1,9 @@
+pub mod Cutting
+pub mod FileBytes
+pub mod Filling
+pub mod Appending
+pub mod FillSteps
+pub mod Remapping
+pub mod Spelling
+pub mod Freeing
+pub mod Blocks

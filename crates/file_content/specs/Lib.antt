@@ -1,0 +1,10 @@
+pub mod Slots
+pub mod Runs
+pub mod RemapLoop
+pub mod Overwritten
+pub mod SlotLoop
+pub mod Content
+pub mod ReadLoop
+pub mod PutLoop
+pub mod Pages
+pub mod FillLoop

@@ -1,0 +1,4 @@
+pub mod Items
+pub mod Slots
+pub mod Walk
+pub mod Way
