@@ -6,11 +6,12 @@
 #![tactic(auto)]
 
 ghost use Rattle.std.specs.Prelude.{◌≡◌, ◌+◌, ◌*◌, ◌<◌, ◌≤◌, ℕ, List, [], ◌∷◌, length, slice_index};
+ghost use Rattle.pm_device.specs.Settled.{KeepsFlushed, Anyone};
+ghost use Rattle.pm_device.specs.Words.{IsIn};
 ghost use Rattle.pm_device.specs.Lines.{StoresRun};
 ghost use Rattle.pm_layout.specs.Geometry.{IsAccepted, inode_word};
 
 use pm_device::Pm;
-use pm_device::line::store_word;
 use pm_device::run::store_words;
 use pm_layout::Geometry;
 
@@ -26,8 +27,8 @@ pub const TAIL: u64 = 2;
 /// The field of a dying inode's cut: only the pages below it are still mapped.
 pub const CUT: u64 = 3;
 
-/// The units of the device that `store_field` uses.
-pub const FIELD_UNITS: u64 = 9;
+/// The units of the device that `store_field` uses: one for the word, and one for its line.
+pub const FIELD_UNITS: u64 = 2;
 
 /// The units of the device that `clear_inode` uses: one for each of three words, and one for their line.
 pub const CLEAR_UNITS: u64 = 4;
@@ -83,10 +84,11 @@ pub fn store_field<D: Pm>(device: &mut D, g: &Geometry, who: u32, ino: u64, fiel
     requires field { field < 4 }
     requires room { FIELD_UNITS ≤ (D.state device.old).spare }
     ensures stores { StoresRun who (inode_word ino field) (value ∷ []) (D.state device.old) (D.state device.new) }
+    ensures keeps { KeepsFlushed Anyone (IsIn (inode_word ino field) 1) (D.state device.old) (D.state device.new) }
     ensures spare { (D.state device.old).spare ≤ (D.state device.new).spare + FIELD_UNITS }
     ensures faults { (D.state device.old).faults ≤ (D.state device.new).faults }
 {
-    store_word(device, who, g.inode_word(ino, field), value);
+    store_words(device, who, g.inode_word(ino, field), &[value]);
 }
 
 /// Stores 0 into the head, the tail and the cut of an inode in one run and flushes them, so that this actor's next
@@ -97,6 +99,7 @@ pub fn clear_inode<D: Pm>(device: &mut D, g: &Geometry, who: u32, ino: u64)
     requires ino { ino < g.now.inodes }
     requires room { CLEAR_UNITS ≤ (D.state device.old).spare }
     ensures stores { StoresRun who (inode_word ino 1) (0 ∷ 0 ∷ 0 ∷ []) (D.state device.old) (D.state device.new) }
+    ensures keeps { KeepsFlushed Anyone (IsIn (inode_word ino 1) 3) (D.state device.old) (D.state device.new) }
     ensures spare { (D.state device.old).spare ≤ (D.state device.new).spare + CLEAR_UNITS }
     ensures faults { (D.state device.old).faults ≤ (D.state device.new).faults }
 {
