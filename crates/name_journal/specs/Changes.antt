@@ -19,10 +19,14 @@ new_value changes i = (change_at changes i).value
 abbrev pub IsNewAt : List Change → ℕ → Type 0
 IsNewAt changes i = (j : ℕ) → j < i → address changes j ≢ address changes i
 
+-- no two name one word
+abbrev pub AreApart : List Change → Type 0
+AreApart changes = (i j : ℕ) → i < length changes → j < length changes → address changes i ≡ address changes j → i ≡ j
+
 -- each names the state, the head or the tail of an inode, and no two name one word
 pub record AreChanges (inodes : ℕ) (changes : List Change) : Type 0 where
   pub journaled : (i : ℕ) → i < length changes → IsJournaled inodes (address changes i)
-  pub apart : (i j : ℕ) → i < length changes → j < length changes → address changes i ≡ address changes j → i ≡ j
+  pub apart : AreApart changes
 
 -- some change names the word
 pub record IsNamed (changes : List Change) (a : ℕ) : Type 0 where

@@ -6,5 +6,7 @@
 #![tactic(auto)]
 
 pub mod change;
+mod pairs;
+mod values;
 
 pub use change::Change;
