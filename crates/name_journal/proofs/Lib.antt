@@ -1,3 +1,6 @@
 pub mod Named
 pub mod Paired
 pub mod Stored
+pub mod Told
+pub mod Rolling
+pub mod Closing

@@ -7,6 +7,8 @@
 
 pub mod change;
 mod pairs;
+pub mod roll_back;
 mod values;
 
 pub use change::Change;
+pub use roll_back::RollFault;
