@@ -8,7 +8,7 @@ use Rattle.pm_device.specs.Words.{IsIn}
 use Rattle.pm_device.proofs.Calls.{settled-store_out, settled-flush, settled-fence, flushed-fence, flush_flushes}
 use Rattle.pm_device.proofs.Only.{stores_only-store, stores_only-flush, stores_only-fence, stores_only-then, stores_only-weaken}
 use Rattle.pm_device.proofs.Flushed.{keeps-store, keeps-flush, keeps-fence, keeps-then, keeps-weaken}
-use Rattle.pm_device.proofs.Committed.{Commits, leaves}
+use Rattle.pm_device.proofs.Committed.{leaves}
 
 -- a fence, a store of one word, a flush and a fence
 pub record Closes (who at value : ℕ) (s t u v x : State) (ok : Bool) : Type 0 where

@@ -4,3 +4,5 @@ pub mod Stored
 pub mod Told
 pub mod Rolling
 pub mod Closing
+pub mod RolledBack
+pub mod Opened

@@ -1,7 +1,6 @@
 -- Which words a journal may hold.
-use Rattle.std.proofs.Common.{◌≡◌, ◌≢◌, inl, inr, ⊎_elim, ℕ, suc, ◌+◌, ◌-◌, ◌*◌, ◌/◌, ◌%◌, ◌<◌, ◌≤◌, List, length, refl, sym, ◌∙◌, ap, subst, arith}
+use Rattle.std.proofs.Common.{◌≡◌, inl, inr, ℕ, ◌+◌, ◌-◌, ◌/◌, ◌%◌, ◌<◌, ◌≤◌, List, length, sym, subst, arith}
 use Rattle.std.proofs.lemmas.Bool.{cases_lt, cases_eq}
-use Rattle.pm_layout.specs.Geometry.{inode_word}
 use Rattle.dn_model.specs.Rolled.{IsJournaled}
 use Rattle.name_journal.specs.declared.change.Change.{Change}
 use Rattle.name_journal.specs.Changes.{address, IsNewAt, AreChanges}

@@ -1,5 +1,5 @@
 -- The pairs of the journal are stored and read.
-use Rattle.std.proofs.Common.{◌≡◌, ◌≢◌, inl, inr, ⊎_elim, ℕ, zero, suc, ◌+◌, ◌-◌, ◌*◌, ◌<◌, ◌≤◌, List, [], ◌∷◌, length, set, take, refl, sym, ◌∙◌, ap, subst, arith, length-set, length-take, get_or-set_same, get_or-set_other, get_or-take}
+use Rattle.std.proofs.Common.{◌≡◌, inl, inr, ℕ, zero, suc, ◌+◌, ◌*◌, ◌<◌, ◌≤◌, List, [], ◌∷◌, length, set, take, refl, sym, ◌∙◌, subst, arith, length-set, length-take, get_or-set_same, get_or-set_other, get_or-take}
 use Rattle.std.specs.Prelude.{slice_index}
 use Rattle.std.proofs.lemmas.Bool.{cases_eq}
 use Rattle.pm_device.specs.State.{State}
@@ -13,7 +13,7 @@ use Rattle.name_journal.specs.Pairs.{ArePairs, HavePairs, PairsOf, of_address, o
 
 pub four_pairs : (c : List ℕ) (p q r s : Change) → p.at ≡ pair_address c 0 → p.value ≡ pair_value c 0 → q.at ≡ pair_address c 1 → q.value ≡ pair_value c 1
     → r.at ≡ pair_address c 2 → r.value ≡ pair_value c 2 → s.at ≡ pair_address c 3 → s.value ≡ pair_value c 3 → ArePairs c (p ∷ q ∷ r ∷ s ∷ [])
-four_pairs c p q r s a0 v0 a1 v1 a2 v2 a3 v3 = record { addresses = at; values = value }
+four_pairs c p q r s a0 v0 a1 v1 a2 v2 a3 v3 = record { four = refl; addresses = at; values = value }
   where
     at : (i : ℕ) → i < 4 → address (p ∷ q ∷ r ∷ s ∷ []) i ≡ pair_address c i
     at zero lt = a0

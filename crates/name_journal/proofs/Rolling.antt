@@ -1,11 +1,12 @@
 -- Which images are one image once they are rolled.
-use Rattle.std.proofs.Common.{◌≡◌, ◌≢◌, ◌⊎◌, inl, inr, ⊎_elim, ℕ, zero, suc, ◌+◌, ◌*◌, ◌<◌, ◌≤◌, List, length, refl, sym, ◌∙◌, ap, subst, arith, length-set, get_or-set_same, get_or-set_other}
+use Rattle.std.proofs.Common.{◌≡◌, ◌≢◌, ◌⊎◌, inl, inr, ⊎_elim, ℕ, zero, suc, ◌+◌, ◌*◌, ◌<◌, ◌≤◌, List, length, sym, ◌∙◌, subst, arith, length-set, get_or-set_same, get_or-set_other}
 use Rattle.std.specs.Prelude.{slice_index}
 use Rattle.std.proofs.lemmas.Bool.{cases_eq}
 use Rattle.std.proofs.lemmas.Grind.{same_number_lists}
 use Rattle.pm_layout.specs.Geometry.{gate_word}
 use Rattle.dn_model.specs.Rolled.{rolled, put_back, pair_address, pair_value, IsGate, IsJournaled}
 use Rattle.dn_model.proofs.RollBack.{length-put_back, put_back_other, put_back_at}
+use Rattle.name_journal.specs.Pairs.{CanRoll}
 use Rattle.name_journal.proofs.Named.{journaled_low}
 
 pub length-rolled : (c : List ℕ) → length (rolled c) ≡ length c
@@ -44,15 +45,20 @@ pub record IsRolling (w c : List ℕ) : Type 0 where
       ⊎ ((slice_index c gate_word ≡ 0) × ((i : ℕ) → i < slice_index w gate_word → slice_index c (pair_address w i) ≡ pair_value w i))
   pub others : (a : ℕ) → a < length w → a ≢ gate_word → ((i : ℕ) → i < slice_index w gate_word → a ≢ pair_address w i) → slice_index c a ≡ slice_index w a
 
-module _ (inodes : ℕ) (w : List ℕ) (is : IsGate inodes w) (long : 1024 ≤ length w) (table : (a : ℕ) → IsJournaled inodes a → a < length w) where
-  high : (i : ℕ) → i < slice_index w gate_word → 1024 ≤ pair_address w i
-  high i lt = journaled_low inodes (pair_address w i) (is.addresses i lt)
+pub can_roll : (inodes : ℕ) (w : List ℕ) → IsGate inodes w → ((a : ℕ) → IsJournaled inodes a → a < length w) → CanRoll w
+can_roll inodes w is table = record {
+  few = is.few;
+  high = λ i lt. journaled_low inodes (pair_address w i) (is.addresses i lt);
+  within = λ i lt. table (pair_address w i) (is.addresses i lt);
+  apart = is.apart;
+}
 
+module _ (w : List ℕ) (is : CanRoll w) (long : 1024 ≤ length w) where
   not_gate : (i : ℕ) → i < slice_index w gate_word → pair_address w i ≢ gate_word
-  not_gate i lt e = omega (arith, high i lt, e)
+  not_gate i lt e = omega (arith, is.high i lt, e)
 
   here : (i : ℕ) → i < slice_index w gate_word → slice_index (rolled w) (pair_address w i) ≡ pair_value w i
-  here i lt = rolled_pair w i lt (not_gate i lt) (table (pair_address w i) (is.addresses i lt)) is.apart
+  here i lt = rolled_pair w i lt (not_gate i lt) (is.within i lt) is.apart
 
   -- word by word
   by_words : (c : List ℕ) → length c ≡ length w → slice_index c gate_word ≡ 0
@@ -69,7 +75,7 @@ module _ (inodes : ℕ) (w : List ℕ) (is : IsGate inodes w) (long : 1024 ≤ l
 
   -- the words of the journal's page are no pair's
   page_word : (k : ℕ) → k < 1024 → (i : ℕ) → i < slice_index w gate_word → k ≢ pair_address w i
-  page_word k lt i few e = omega (arith, high i few, e, lt)
+  page_word k lt i few e = omega (arith, is.high i few, e, lt)
 
   module _ (c : List ℕ) (rolling : IsRolling w c) where
     shut_rolled : slice_index c gate_word ≡ 0 → (a : ℕ) → a ≢ gate_word → slice_index (rolled c) a ≡ slice_index c a
@@ -92,7 +98,7 @@ module _ (inodes : ℕ) (w : List ℕ) (is : IsGate inodes w) (long : 1024 ≤ l
       put : (i : ℕ) → i < slice_index w gate_word → slice_index (rolled c) (pair_address w i) ≡ pair_value w i
       put i lt = subst (λ (a : ℕ). slice_index (rolled c) a ≡ pair_value w i) (address_same i lt)
           (rolled_pair c i (omega (arith, lt, opened)) (λ e. not_gate i lt (sym (address_same i lt) ∙ e))
-          (omega (arith, address_same i lt, table (pair_address w i) (is.addresses i lt), rolling.size)) apart ∙ value_same i lt)
+          (omega (arith, address_same i lt, is.within i lt, rolling.size)) apart ∙ value_same i lt)
 
       pub rolled_same_open : rolled c ≡ rolled w
       rolled_same_open = by_words (rolled c) (length-rolled c ∙ rolling.size) (rolled_gate c (omega (arith, long, rolling.size))) put

@@ -1,8 +1,8 @@
 -- What is known of an image where the past is told.
-use Rattle.std.proofs.Common.{◌≡◌, ℕ, ◌-◌, ◌<◌, ◌≤◌, List, length, sym, ◌∙◌, ap, arith}
-use Rattle.std.specs.Prelude.{slice_index, Option, Some, None}
-use Rattle.pm_device.specs.Past.{Past, MayHold, Left, moment}
-use Rattle.pm_device.specs.State.{State, Agree, read_after}
+use Rattle.std.proofs.Common.{◌≡◌, ℕ, ◌-◌, ◌<◌, List, length, sym, ◌∙◌, ap, arith}
+use Rattle.std.specs.Prelude.{slice_index, Option, Some, None, Result, Ok, Err, OnOk}
+use Rattle.pm_device.specs.Past.{Past, MayHold, Left}
+use Rattle.pm_device.specs.State.{State, Agree}
 use Rattle.pm_device.specs.Settled.{Each, Extends, OfWord, MayLeave, IsSettled, LeavesOnly, StoresOnly, IsOldBut, word_now}
 use Rattle.pm_device.specs.MemLaws.{placed_now}
 use Rattle.pm_device.specs.Runs.{length-read_after, now_ends_in}
@@ -53,3 +53,7 @@ now_may_stay s a agree lt = go s.past agree
         let ends = now_ends_in p a (omega (arith, here, lt)) in
         let placed = placed_now p a in
         record { place = length (word_now p a).values - 1; late = omega (arith, placed.durable); known = omega (arith, placed.durable); value = ends.last ∙ ap (λ xs. slice_index xs a) (sym agree) }
+
+pub on_ok_map : {T E : Type 0} (r : Result T E) (P Q : Type 0) → (P → Q) → OnOk r P → OnOk r Q
+on_ok_map (Ok x) P Q gives holds = gives holds
+on_ok_map (Err e) P Q gives holds = tt

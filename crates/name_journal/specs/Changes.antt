@@ -1,5 +1,5 @@
 -- Changes of words of the inode table.
-use Rattle.std.specs.Prelude.{◌≡◌, ◌≢◌, ◌⊎◌, ℕ, ◌+◌, ◌*◌, ◌/◌, ◌<◌, ◌≤◌, List, length, slice_index, slice_index_or}
+use Rattle.std.specs.Prelude.{◌≡◌, ◌≢◌, ◌⊎◌, ℕ, ◌+◌, ◌*◌, ◌/◌, ◌<◌, ◌≤◌, List, length, slice_index_or}
 use Rattle.dn_model.specs.Rolled.{IsJournaled}
 use Rattle.pm_device.specs.Pages.{IsInPage}
 use Rattle.name_journal.specs.declared.change.Change.{Change}

@@ -1,12 +1,14 @@
 -- The pairs of the journal.
-use Rattle.std.specs.Prelude.{◌≡◌, ℕ, ◌+◌, ◌*◌, ◌<◌, List, length, slice_index}
+use Rattle.std.specs.Prelude.{◌≡◌, ◌⊎◌, ℕ, ◌+◌, ◌*◌, ◌<◌, ◌≤◌, List, length, slice_index}
 use Rattle.pm_device.specs.Words.{IsIn}
+use Rattle.pm_layout.specs.Geometry.{gate_word}
 use Rattle.dn_model.specs.Rolled.{pair_address, pair_value}
 use Rattle.name_journal.specs.declared.change.Change.{Change}
-use Rattle.name_journal.specs.Changes.{address, new_value}
+use Rattle.name_journal.specs.Changes.{address, new_value, IsNamed}
 
 -- these are the four pairs that the words c have room for
 pub record ArePairs (c : List ℕ) (pairs : List Change) : Type 0 where
+  pub four : length pairs ≡ 4
   pub addresses : (i : ℕ) → i < 4 → address pairs i ≡ pair_address c i
   pub values : (i : ℕ) → i < 4 → new_value pairs i ≡ pair_value c i
 
@@ -24,3 +26,21 @@ pub data PairsOf (changes : List Change) (c : List ℕ) (a v : ℕ) : Type 0 whe
 -- the words of their pairs
 abbrev pub IsInPairs : List Change → ℕ → Type 0
 IsInPairs changes = IsIn 520 (2 * length changes)
+
+-- the gate's pairs are up to four, of different words behind the journal
+pub record CanRoll (c : List ℕ) : Type 0 where
+  pub few : slice_index c gate_word ≤ 4
+  pub high : (i : ℕ) → i < slice_index c gate_word → 1024 ≤ pair_address c i
+  pub within : (i : ℕ) → i < slice_index c gate_word → pair_address c i < length c
+  pub apart : (i j : ℕ) → i < slice_index c gate_word → j < slice_index c gate_word → pair_address c i ≡ pair_address c j → i ≡ j
+
+-- these are the gate's pairs
+pub record AreOpen (c : List ℕ) (pairs : List Change) : Type 0 where
+  pub can : CanRoll c
+  pub count : length pairs ≡ slice_index c gate_word
+  pub addresses : (i : ℕ) → i < length pairs → address pairs i ≡ pair_address c i
+  pub values : (i : ℕ) → i < length pairs → new_value pairs i ≡ pair_value c i
+
+-- a word that a pair names, or the gate
+abbrev pub IsRolledAt : List Change → ℕ → Type 0
+IsRolledAt pairs a = IsNamed pairs a ⊎ (a ≡ gate_word)

@@ -51,7 +51,6 @@ pub(crate) fn read_pairs<D: Pm>(device: &D) -> [Change; 4]
 pub(crate) fn is_gate<D: Pm>(device: &D, g: &Geometry, pairs: &[Change]) -> bool
     requires page { 1024 ≤ length (D.state device.now).now }
     requires pairs { ArePairs (D.state device.now).now pairs.now }
-    requires four { length pairs.now ≡ 4 }
     ensures { IsTrue result ↔ IsGate g.now.inodes (D.state device.now).now }
 {
     let gate = device.load(GATE);
