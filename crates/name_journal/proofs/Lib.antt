@@ -6,3 +6,5 @@ pub mod Rolling
 pub mod Closing
 pub mod RolledBack
 pub mod Opened
+pub mod ImageKinds
+pub mod Journaling

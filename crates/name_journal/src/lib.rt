@@ -6,9 +6,11 @@
 #![tactic(auto)]
 
 pub mod change;
+pub mod commit;
 mod pairs;
-pub mod roll_back;
+pub mod undo;
 mod values;
 
 pub use change::Change;
-pub use roll_back::RollFault;
+pub use commit::commit_all;
+pub use undo::{RollFault, roll_back};

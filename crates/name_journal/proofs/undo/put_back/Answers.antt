@@ -1,6 +1,6 @@
 use Rattle.name_journal.proofs.Told.{on_ok_map}
 use Rattle.name_journal.proofs.RolledBack.{rolls_at_any_moment, rolls_now, rolls_still, rolls_only, rolls_others}
-use Rattle.name_journal.proofs.roll_back.put_back.Goals as goal
+use Rattle.name_journal.proofs.undo.put_back.Goals as goal
 
 pub returns-clause-rolled : goal.returns-clause-rolled
 returns-clause-rolled g c =

@@ -1,7 +1,7 @@
 use Rattle.std.proofs.Common.{take, arith}
 use Rattle.pm_device.specs.Settled.{Others}
 use Rattle.name_journal.proofs.Opened.{open_pairs, open_inside, open_only, open_others, shut_is_rolled, still_leaves}
-use Rattle.name_journal.proofs.roll_back.roll_back.Goals as goal
+use Rattle.name_journal.proofs.undo.roll_back.Goals as goal
 
 pub returns-then-gate-eq0-clause-rolled : goal.returns-then-gate-eq0-clause-rolled
 returns-then-gate-eq0-clause-rolled g c =

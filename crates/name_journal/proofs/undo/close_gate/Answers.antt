@@ -5,7 +5,7 @@ use Rattle.pm_device.proofs.Flushed.{keeps-fence}
 use Rattle.pm_device.proofs.Only.{stores_only-fence}
 use Rattle.pm_layout.specs.Geometry.{gate_word}
 use Rattle.name_journal.proofs.Closing.{Closes, closes_leaves, closes_done, closes_only, closes_others}
-use Rattle.name_journal.proofs.roll_back.close_gate.Goals as goal
+use Rattle.name_journal.proofs.undo.close_gate.Goals as goal
 
 pub returns-in_err-fence-clause-any_moment : goal.returns-in_err-fence-clause-any_moment
 returns-in_err-fence-clause-any_moment g c settled =
