@@ -1,5 +1,5 @@
 -- The kinds of images that a commit of several words leaves.
-use Rattle.std.proofs.Common.{◌≡◌, ◌≢◌, ◌⊎◌, inl, inr, ⊎_elim, ℕ, ◌+◌, ◌*◌, ◌<◌, ◌≤◌, List, length, refl, sym, ◌∙◌, ap, subst, arith}
+use Rattle.std.proofs.Common.{◌≡◌, ◌≢◌, ◌⊎◌, inl, inr, ℕ, ◌+◌, ◌*◌, ◌<◌, ◌≤◌, List, length, refl, sym, ◌∙◌, subst, arith}
 use Rattle.std.specs.Prelude.{slice_index}
 use Rattle.pm_device.specs.State.{State, Agree}
 use Rattle.pm_device.specs.Settled.{MayLeave, IsFlushed, IsOldBut}
@@ -8,9 +8,9 @@ use Rattle.pm_device.specs.Pages.{IsInPage}
 use Rattle.pm_layout.specs.Geometry.{gate_word}
 use Rattle.dn_model.specs.Rolled.{rolled, pair_address, pair_value, IsGate, IsJournaled}
 use Rattle.name_journal.specs.declared.change.Change.{Change}
-use Rattle.name_journal.specs.Changes.{address, new_value, AreChanges, IsNamed, NewValues, IsTouched}
+use Rattle.name_journal.specs.Changes.{address, new_value, AreChanges, NewValues, IsTouched}
 use Rattle.name_journal.specs.Pairs.{PairsOf, of_address, of_old}
-use Rattle.name_journal.specs.AllOrNone.{AllOrNone, AllChanged, NoneChanged}
+use Rattle.name_journal.specs.AllOrNone.{AllOrNone}
 use Rattle.name_journal.proofs.Named.{journaled_low}
 use Rattle.name_journal.proofs.Told.{IsImage, now_may_stay}
 use Rattle.name_journal.proofs.Rolling.{rolled_gate, rolled_other, rolled_pair}

@@ -1,9 +1,8 @@
 -- Pairs are stored, the gate is opened, new values are stored, and the gate is closed.
-use Rattle.std.proofs.Common.{◌≡◌, ◌≢◌, ◌⊎◌, inl, inr, ⊎_elim, ℕ, ◌+◌, ◌*◌, ◌<◌, ◌≤◌, List, length, refl, sym, ◌∙◌, ap, subst, arith, get_or-set_same, length-set}
+use Rattle.std.proofs.Common.{◌≡◌, ◌≢◌, ◌⊎◌, inl, inr, ⊎_elim, ℕ, ◌*◌, ◌<◌, ◌≤◌, List, length, refl, sym, ◌∙◌, ap, subst, arith, get_or-set_same}
 use Rattle.std.specs.Prelude.{slice_index}
-use Rattle.std.proofs.lemmas.Bool.{cases_eq}
 use Rattle.pm_device.specs.State.{State, Agree}
-use Rattle.pm_device.specs.Settled.{IsSettled, IsFlushed, IsOldBut, LeavesOnly, StoresOnly, KeepsFlushed, Anyone}
+use Rattle.pm_device.specs.Settled.{IsSettled, IsOldBut, LeavesOnly, StoresOnly, KeepsFlushed, Anyone}
 use Rattle.pm_device.specs.Reading.{Reads, Stands, IsReady, DiffersAt}
 use Rattle.pm_device.specs.Commit.{IsCommitted, IsDone}
 use Rattle.pm_device.specs.Pages.{IsInPage}
@@ -19,7 +18,7 @@ use Rattle.name_journal.specs.Changes.{address, new_value, AreChanges, IsNamed, 
 use Rattle.name_journal.specs.Pairs.{PairsOf, of_address, of_old, IsInPairs}
 use Rattle.name_journal.specs.AllOrNone.{AllOrNone, IsAllDone}
 use Rattle.name_journal.proofs.Opened.{changes_inside}
-use Rattle.name_journal.proofs.Told.{IsImage, leaves_only-image, leaves_only-both, stores_leave}
+use Rattle.name_journal.proofs.Told.{leaves_only-image, leaves_only-both, stores_leave}
 use Rattle.name_journal.proofs.ImageKinds.{GateSays, OpenSays, KeptSays, NewSays, DoneSays, not_in_page, not_gate, all_or_none_closed, all_or_none_open, all_or_none_done}
 
 abbrev AtGate : ℕ → Type 0

@@ -8,3 +8,4 @@ pub mod RolledBack
 pub mod Opened
 pub mod ImageKinds
 pub mod Journaling
+pub mod States

@@ -29,14 +29,17 @@ unfolding rolled
 rolled_pair c i lt ne within apart =
     get_or-set_other (put_back c (slice_index c gate_word) c) gate_word (pair_address c i) 0 0 ne ∙ put_back_at c c (slice_index c gate_word) i lt within apart
 
--- some pair names the word, or none of the first n does
-pub cases_named : (c : List ℕ) (a n : ℕ) → ((i : ℕ) × (i < n) × (a ≡ pair_address c i)) ⊎ ((i : ℕ) → i < n → a ≢ pair_address c i)
-cases_named c a zero = inr (λ i lt. absurd (omega arith))
-cases_named c a (suc n) = elim (cases_eq a (pair_address c n)) [
+-- some of the first n places is this one, or none is
+pub cases_at : (f : ℕ → ℕ) (a n : ℕ) → ((i : ℕ) × (i < n) × (a ≡ f i)) ⊎ ((i : ℕ) → i < n → a ≢ f i)
+cases_at f a zero = inr (λ i lt. absurd (omega arith))
+cases_at f a (suc n) = elim (cases_eq a (f n)) [
   | inl e ↦ inl (n, omega arith, e)
   | inr ne ↦ ⊎_elim (λ found. inl (found.0, omega (arith, found.1), found.2))
-      (λ none. inr (λ i lt. ⊎_elim (λ (e : i ≡ n). subst (λ (k : ℕ). a ≢ pair_address c k) (sym e) ne) (λ (other : i ≢ n). none i (omega arith)) (cases_eq i n))) (cases_named c a n)
+      (λ none. inr (λ i lt. ⊎_elim (λ (e : i ≡ n). subst (λ (k : ℕ). a ≢ f k) (sym e) ne) (λ (other : i ≢ n). none i (omega arith)) (cases_eq i n))) (cases_at f a n)
 ]
+
+pub cases_named : (c : List ℕ) (a n : ℕ) → ((i : ℕ) × (i < n) × (a ≡ pair_address c i)) ⊎ ((i : ℕ) → i < n → a ≢ pair_address c i)
+cases_named c = cases_at (pair_address c)
 
 -- The pairs of w are put back, some of them or all, and then the gate is closed.
 pub record IsRolling (w c : List ℕ) : Type 0 where
