@@ -8,6 +8,8 @@
 pub mod change;
 pub mod commit;
 mod pairs;
+#[cfg(test)]
+mod tests;
 pub mod undo;
 mod values;
 
