@@ -1,0 +1,11 @@
+pub mod Named
+pub mod Paired
+pub mod Stored
+pub mod Told
+pub mod Rolling
+pub mod Closing
+pub mod RolledBack
+pub mod Opened
+pub mod ImageKinds
+pub mod Journaling
+pub mod States
