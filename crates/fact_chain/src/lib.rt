@@ -130,3 +130,6 @@ pub fn unlink<D: Pm>(
     let next = load_field(device, g, slot, NEXT);
     commit_field(device, g, who, before, NEXT, next)
 }
+
+#[cfg(test)]
+mod tests;

@@ -4,5 +4,5 @@
 pub mod slot;
 pub mod steps;
 
-pub use slot::{commit_field, load_field, read_slot, store_fields};
+pub use slot::{commit_field, load_field, peek_slot, read_slot, store_fields};
 pub use steps::Steps;

@@ -13,7 +13,8 @@ use fingerprint::FactSlot;
 use pm_device::commit::commit;
 use pm_device::{Failed, Pm};
 use pm_layout::Geometry;
-use std::sync::ledger::Ledger;
+use std::marker::Brand;
+use std::sync::ledger::{Blank, Ledger};
 
 /// The place of a slot's page number among its words.
 pub const PAGE: u64 = 0;
@@ -79,6 +80,36 @@ pub fn read_slot<D: Pm, L: Ledger>(
 {
     steps.tick();
     FactSlot::of_words(&load_words(device, g, slot))
+}
+
+// Reads a slot with a count of its own, over this ledger.
+fn read_over<D: Pm, L: Ledger>(device: &D, g: &Geometry, slot: u64, blank: Blank) -> FactSlot
+    requires name { blank.name ≡ L.name }
+    requires parts { blank.parts ≡ L.parts }
+    requires part { 0 < blank.parts }
+    requires accepted { IsAccepted g.now }
+    requires size { length (D.state device.now).now ≡ 512 * g.now.pages }
+    requires slot { slot < slots g.now }
+    ensures read { IsReadFrom (words_of g.now (D.state device.now).now slot) result }
+    ensures fits { IsSlot result }
+    ensures back { IsTheSlotOf (words_of g.now (D.state device.now).now slot) result }
+{
+    let mut steps = Steps::<L>::new(blank);
+    read_slot(device, g, slot, &mut steps)
+}
+
+/// The slot that the eight words hold, for callers that don't count their steps.
+pub fn peek_slot<D: Pm>(device: &D, g: &Geometry, slot: u64) -> FactSlot
+    requires accepted { IsAccepted g.now }
+    requires size { length (D.state device.now).now ≡ 512 * g.now.pages }
+    requires slot { slot < slots g.now }
+    ensures read { IsReadFrom (words_of g.now (D.state device.now).now slot) result }
+    ensures fits { IsSlot result }
+
+    // Words that a slot spells give that slot back.
+    ensures back { IsTheSlotOf (words_of g.now (D.state device.now).now slot) result }
+{
+    read_over::<D, Brand>(device, g, slot, Blank::new(1))
 }
 
 /// Stores words of a slot from `field` on, and flushes the slot's line. They aren't fenced.
