@@ -1,0 +1,70 @@
+-- What a table in a device's words stands for.
+use Rattle.std.specs.Prelude.{◌≡◌, ◌≢◌, ℕ, ◌+◌, ◌-◌, ◌*◌, ◌<◌, ◌≤◌, List, length, slice_get, Some, Contains, All}
+use Rattle.pm_device.specs.State.{State}
+use Rattle.pm_device.specs.Reading.{Reads, Stands}
+use Rattle.pm_layout.specs.declared.Geometry.{Geometry}
+use Rattle.pm_layout.specs.Geometry.{IsAccepted, directs, slots}
+use Rattle.page_alloc.specs.Free.{FreePages}
+use Rattle.dn_model.specs.Table.{Row}
+use Rattle.dn_model.specs.Disk.{Disk, ChainsSay, PointersSay, rows}
+use Rattle.dn_model.specs.Valid.{IsRow, AreApart}
+
+-- What is kept of a table in ordinary memory: its geometry, and which indirect slots have no row. Number k of the
+-- set stands for the k-th indirect slot.
+pub record Table : Type 0 where
+  pub geometry : Geometry
+  pub free : FreePages
+
+-- an indirect slot that the set has
+abbrev pub IsUnused : Table → ℕ → Type 0
+IsUnused t slot = (directs t.geometry ≤ slot) × Contains t.free.free (slot - directs t.geometry)
+
+-- a row of the table with this slot; with this page
+pub record IsAtSlot (d : Disk) (slot : ℕ) (row : Row) : Type 0 where
+  pub there : Contains (rows d) row
+  pub slot_is : row.slot ≡ slot
+
+pub record IsOfPage (d : Disk) (page : ℕ) (row : Row) : Type 0 where
+  pub there : Contains (rows d) row
+  pub page_is : row.page ≡ page
+
+-- there is one, or there is none
+pub record HasRow (d : Disk) (slot : ℕ) : Type 0 where
+  pub row : Row
+  pub is : IsAtSlot d slot row
+
+abbrev pub HasNoneAt : Disk → ℕ → Type 0
+HasNoneAt d slot = (row : Row) → Contains (rows d) row → row.slot ≢ slot
+
+abbrev pub HasNoneOf : Disk → ℕ → Type 0
+HasNoneOf d page = (row : Row) → Contains (rows d) row → row.page ≢ page
+
+-- the rows make sense, and the pointer of each row's page leads to it
+pub record HasGoodRows (d : Disk) : Type 0 where
+  pub table : (prefix k : ℕ) (row : Row) → prefix < directs d.geometry → slice_get (d.chain prefix) k ≡ Some row → IsRow d.geometry prefix k row
+  pub apart : AreApart (rows d)
+  pub pointers : (page : ℕ) → page < d.geometry.pages → d.pointer page ≤ slots d.geometry
+  pub leads : All (λ row. d.pointer row.page ≡ row.slot + 1) (rows d)
+
+-- the words read as the table of d, and the set has the indirect slots without a row
+pub record IsTable (d : Disk) (words : List ℕ) (t : Table) : Type 0 where
+  pub geometry : d.geometry ≡ t.geometry
+  pub accepted : IsAccepted t.geometry
+  pub size : length words ≡ 512 * t.geometry.pages
+  pub chains : Reads (ChainsSay d) words
+  pub pointers : Reads (PointersSay d) words
+  pub good : HasGoodRows d
+  pub set : t.free.pages ≡ t.geometry.pages
+  pub free : (k : ℕ) → Contains t.free.free k → HasNoneAt d (directs t.geometry + k)
+  pub taken : (k : ℕ) → k < t.geometry.pages → ¬ Contains t.free.free k → HasRow d (directs t.geometry + k)
+
+-- so it is, and a stop leaves these words as they are read
+pub record IsSettledTable (d : Disk) (s : State) (t : Table) : Type 0 where
+  pub table : IsTable d s.now t
+  pub chains : Stands (ChainsSay d) s
+  pub pointers : Stands (PointersSay d) s
+
+-- the words read as some table
+pub record HasTable (words : List ℕ) (t : Table) : Type 0 where
+  pub disk : Disk
+  pub is : IsTable disk words t
