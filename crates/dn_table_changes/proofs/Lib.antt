@@ -1,0 +1,10 @@
+pub mod Frame
+pub mod OneWord
+pub mod TableDiffers
+pub mod TableValid
+pub mod Rows
+pub mod TableRows
+pub mod TableOwn
+pub mod OpenDirect
+pub mod Recounted
+pub mod Repointed

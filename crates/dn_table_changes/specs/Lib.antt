@@ -1,0 +1,5 @@
+pub mod Changes
+pub mod OneWord
+pub mod Keeping
+pub mod CountLaws
+pub mod PointerLaws

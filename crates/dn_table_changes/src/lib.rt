@@ -1,0 +1,5 @@
+//! Laws of single changes of the table of fingerprints.
+#![tactic(auto)]
+
+pub mod counts;
+pub mod one_word;
