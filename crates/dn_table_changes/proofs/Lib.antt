@@ -4,7 +4,11 @@ pub mod TableDiffers
 pub mod TableValid
 pub mod Rows
 pub mod TableRows
+pub mod Slots
+pub mod Put
 pub mod TableOwn
-pub mod OpenDirect
 pub mod Recounted
 pub mod Repointed
+pub mod PutTable
+pub mod Opened
+pub mod Linked

@@ -3,3 +3,4 @@ pub mod OneWord
 pub mod Keeping
 pub mod CountLaws
 pub mod PointerLaws
+pub mod RowLaws

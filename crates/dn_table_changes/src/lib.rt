@@ -3,3 +3,4 @@
 
 pub mod counts;
 pub mod one_word;
+pub mod row_changes;
