@@ -12,3 +12,6 @@ pub mod Repointed
 pub mod PutTable
 pub mod Opened
 pub mod Linked
+pub mod Taken
+pub mod Removed
+pub mod UnusedSlots

@@ -190,7 +190,7 @@ module _ (d : Disk) (prefix : ℕ) (row : Row) (may : MayPut d prefix row) where
       new_valid = table_valid d chain' d.pointer may.valid (is_table d prefix row may chain' same put fits);
       inside = omega (arith, high, may.valid.accepted.room);
       differs = table_differs d may.valid chain' d.pointer at row.slot (slot_word d.geometry row.slot 0) (linked_words row next) low high
-          (chains_differ d may.valid prefix may.direct chain' same prefix 5 (omega arith) (inl refl) row.slot (slot_word d.geometry row.slot 0) (linked_words row next) own_differs)
+          (chains_differ d may.valid prefix may.direct chain' (λ p lt ne. same p ne) prefix 5 (omega arith) (inl refl) row.slot (slot_word d.geometry row.slot 0) (linked_words row next) own_differs)
           (pointers_kept d chain' at row.slot (slot_word d.geometry row.slot 0) (linked_words row next)
           (λ page e. omega (arith, pointer_above d.geometry page prefix 5 (omega (arith, may.direct)) (omega arith), e)))
           (read_before d prefix row may chain' same put);

@@ -104,7 +104,7 @@ module _ (d : Disk) (prefix : ℕ) (row : Row) (may : MayPut d prefix row) where
       new_valid = table_valid d chain' d.pointer may.valid (is_table d prefix row may chain' same put (λ k r is. place k r (subst (λ (rs : List Row). slice_get rs k ≡ Some r) here is)));
       inside = omega (arith, high, may.valid.accepted.room);
       differs = table_differs d may.valid chain' d.pointer (slot_word d.geometry prefix 0) row.page (slot_word d.geometry prefix 1) (opened_words row) low high
-          (chains_differ d may.valid prefix may.direct chain' same prefix 0 (omega arith) (inl refl) row.page (slot_word d.geometry prefix 1) (opened_words row) own_differs)
+          (chains_differ d may.valid prefix may.direct chain' (λ p lt ne. same p ne) prefix 0 (omega arith) (inl refl) row.page (slot_word d.geometry prefix 1) (opened_words row) own_differs)
           (pointers_kept d chain' (slot_word d.geometry prefix 0) row.page (slot_word d.geometry prefix 1) (opened_words row)
           (λ page e. omega (arith, pointer_above d.geometry page prefix 0 (omega (arith, may.direct)) (omega arith), e)))
           (read_before d prefix row may chain' same put);

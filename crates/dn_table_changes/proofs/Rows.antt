@@ -1,5 +1,5 @@
 -- Rows of a table: which there are, at which places, and the row of a page.
-use Rattle.std.proofs.Common.{◌≡◌, ◌≢◌, ◌⊎◌, inl, inr, ⊎_elim, ℕ, zero, suc, ◌+◌, ◌<◌, ◌≤◌, Bool, true, false, List, [], ◌∷◌, length, get_or, map, refl, sym, ◌∙◌, ap, subst, arith}
+use Rattle.std.proofs.Common.{◌≡◌, ◌≢◌, ◌⊎◌, inl, inr, ⊎_elim, ℕ, zero, suc, ◌+◌, ◌<◌, ◌≤◌, Bool, true, false, List, [], ◌∷◌, ◌++◌, length, get_or, map, refl, sym, ◌∙◌, ap, subst, arith}
 use Rattle.std.specs.Prelude.{slice_get, if◌then◌else◌, ◌==◌, Option, Some, None, is_some, IsSome, IsNone, All, Contains}
 use Rattle.std.proofs.lemmas.Bool.{cases_eq}
 use Rattle.std.proofs.lemmas.Bool.Decides.{nat_tests}
@@ -108,6 +108,9 @@ none_found rs page other = ⊎_elim (λ (some : IsSome (row_of rs page)). let fo
 abbrev pub IsDistinct : {X : Type 0} → (Row → X) → List Row → Type 0
 IsDistinct f rs = (j k : ℕ) (r s : Row) → slice_get rs j ≡ Some r → slice_get rs k ≡ Some s → f r ≡ f s → j ≡ k
 
+nothing_at : (r : Row) → None ≡ Some r → ⊥
+nothing_at r is = cc
+
 module _ {X : Type 0} (f : Row → X) where
   pub distinct_cons : (x : Row) (rs : List Row) → IsDistinct f rs → ((r : Row) → Contains rs r → f r ≢ f x) → IsDistinct f (x ∷ rs)
   distinct_cons x rs apart other zero zero r s at_j at_k e = refl
@@ -134,3 +137,19 @@ module _ {X : Type 0} (f : Row → X) where
     where
       one : (x y : Row) → Some x ≡ Some y → x ≡ y
       one x y e = cc
+
+  pub distinct_left : (xs ys : List Row) → IsDistinct f (xs ++ ys) → IsDistinct f xs
+  distinct_left [] ys apart = λ j k r s at_j at_k e. absurd (nothing_at r at_j)
+  distinct_left (x ∷ xs) ys apart = distinct_cons x xs (distinct_left xs ys (distinct_tail x (xs ++ ys) apart)) (λ r has. distinct_head x (xs ++ ys) apart r (Contains-append_left xs ys r has))
+
+  pub distinct_right : (xs ys : List Row) → IsDistinct f (xs ++ ys) → IsDistinct f ys
+  distinct_right [] ys apart = apart
+  distinct_right (x ∷ xs) ys apart = distinct_right xs ys (distinct_tail x (xs ++ ys) apart)
+
+  -- rows of one chain are apart, if those of the table are
+  pub distinct_chain : (chain : ℕ → List Row) (s n p : ℕ) → s ≤ p → p < s + n → IsDistinct f (rows_from chain s n) → IsDistinct f (chain p)
+  distinct_chain chain s zero p low high apart = absurd (omega arith)
+  distinct_chain chain s (suc n) p low high apart = elim (cases_eq p s) [
+    | inl e ↦ subst (λ (q : ℕ). IsDistinct f (chain q)) (sym e) (distinct_left (chain s) (rows_from chain (s + 1) n) apart)
+    | inr ne ↦ distinct_chain chain (s + 1) n p (omega arith) (omega arith) (distinct_right (chain s) (rows_from chain (s + 1) n) apart)
+  ]

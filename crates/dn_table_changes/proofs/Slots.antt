@@ -93,7 +93,7 @@ module _ (d : Disk) (valid : IsValid d) where
           (valid.table prefix (suc has.0) r lt (ap (λ (xs : List Row). slice_get xs (suc has.0)) is ∙ at_listed rs r has)).place
 
 -- Only the chain of one prefix differs, at a word of a slot that it has.
-module _ (d : Disk) (valid : IsValid d) (prefix : ℕ) (direct : prefix < directs d.geometry) (chain : ℕ → List Row) (same : (p : ℕ) → p ≢ prefix → chain p ≡ d.chain p)
+module _ (d : Disk) (valid : IsValid d) (prefix : ℕ) (direct : prefix < directs d.geometry) (chain : ℕ → List Row) (same : (p : ℕ) → p < directs d.geometry → p ≢ prefix → chain p ≡ d.chain p)
     (s i : ℕ) (small : i < 8) (owned : (s ≡ prefix) ⊎ HasSlot (d.chain prefix) s) (value first : ℕ) (fresh : List ℕ) where
   abbrev at : ℕ
   at = slot_word d.geometry s i
@@ -115,6 +115,6 @@ module _ (d : Disk) (valid : IsValid d) (prefix : ℕ) (direct : prefix < direct
         ))
         (own a v (subst (λ (p : ℕ). ChainSays d.geometry p (chain p) a v) e told.says))
     | inr ne ↦
-        let says : ChainSays d.geometry told.prefix (d.chain told.prefix) a v = subst (λ (rs : List Row). ChainSays d.geometry told.prefix rs a v) (same told.prefix ne) told.says in
+        let says : ChainSays d.geometry told.prefix (d.chain told.prefix) a v = subst (λ (rs : List Row). ChainSays d.geometry told.prefix rs a v) (same told.prefix told.direct ne) told.says in
         inr (other_chain told.prefix a v told.direct ne says, inl (of_chains (record { prefix = told.prefix; direct = told.direct; says = says })))
   ]

@@ -18,7 +18,7 @@ use Rattle.dn_table_changes.specs.OneWord.{IsWordOf}
 use Rattle.dn_table_changes.proofs.Frame.{mapped_only}
 
 -- a log says nothing of the words from the table's first to the data area
-log_apart : (g : Geometry) (ino : ℕ) (log : Log) (at a v : ℕ) → 512 * direct_page g ≤ at → at < 512 * first_data g → ino < g.inodes → IsPaged g log → LogSays ino log a v → a ≢ at
+pub log_apart : (g : Geometry) (ino : ℕ) (log : Log) (at a v : ℕ) → 512 * direct_page g ≤ at → at < 512 * first_data g → ino < g.inodes → IsPaged g log → LogSays ino log a v → a ≢ at
 log_apart g ino log at a v low high in_table paged (at_tail place value) = λ e. omega arith
 log_apart g ino log at a v low high in_table paged (at_head some place value) = λ e. omega arith
 log_apart g ino log at a v low high in_table paged (at_footer k lt place value) = λ e. let page = paged.in_data k (omega arith) in omega (arith, page.low)

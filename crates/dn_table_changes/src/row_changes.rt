@@ -1,7 +1,7 @@
 //! Laws of rows that come into the table and go.
 //!
 //! Each function states laws of all disks; it does nothing.
-ghost use Rattle.dn_table_changes.specs.RowLaws.{OpenIsOneWord, OpenPutsRow, OpenStaysExact, OpenStaysOwn, LinkIsOneWord, LinkPutsRow, LinkStaysExact, LinkStaysOwn};
+ghost use Rattle.dn_table_changes.specs.RowLaws.{OpenIsOneWord, OpenPutsRow, OpenStaysExact, OpenStaysOwn, LinkIsOneWord, LinkPutsRow, LinkStaysExact, LinkStaysOwn, UnusedSlotsAreUnread, ClosedSlotsAreUnread, CloseIsOneWord, UnlinkIsOneWord, RemoveTakesRow, RemoveMakesExact, RemoveStaysOwn};
 
 /// A row comes into a direct slot: its page word decides between two valid disks, and the rows are those of before
 /// and this one.
@@ -19,4 +19,21 @@ pub fn row_is_linked()
     ensures one_row { LinkPutsRow }
     ensures exact { LinkStaysExact }
     ensures own { LinkStaysOwn }
+{}
+
+/// Nothing is said of the words of an indirect slot that no row has, and of a direct one only by its page and next
+/// words: a row's words can be stored there before it comes in.
+pub fn unused_slots_are_unread()
+    ensures indirect { UnusedSlotsAreUnread }
+    ensures direct { ClosedSlotsAreUnread }
+{}
+
+/// A row goes: the page word of its direct slot, or the next word of the slot before, decides between two valid
+/// disks, and the other rows stay.
+pub fn row_is_removed()
+    ensures closed { CloseIsOneWord }
+    ensures unlinked { UnlinkIsOneWord }
+    ensures one_row { RemoveTakesRow }
+    ensures exact { RemoveMakesExact }
+    ensures own { RemoveStaysOwn }
 {}
