@@ -15,3 +15,4 @@ pub mod Linked
 pub mod Taken
 pub mod Removed
 pub mod UnusedSlots
+pub mod Mappings

@@ -4,3 +4,4 @@ pub mod Keeping
 pub mod CountLaws
 pub mod PointerLaws
 pub mod RowLaws
+pub mod MappingLaws
