@@ -6,15 +6,17 @@ use Rattle.std.proofs.lemmas.List.Elements.{All-contains, All-head, All-cons}
 use Rattle.pm_layout.specs.declared.Geometry.{Geometry}
 use Rattle.pm_layout.specs.Geometry.{slot_word, directs, slots, direct_page, first_data}
 use Rattle.dn_model.specs.Table.{Row, RowsSay, at_field, at_next, at_later, ChainSays, at_direct_page, at_direct_next, at_row, row_word, first_slot, chained}
-use Rattle.dn_model.specs.Disk.{Disk, rows}
+use Rattle.dn_model.specs.Disk.{Disk, of_chains, rows}
 use Rattle.dn_model.specs.Counts.{Exact}
 use Rattle.dn_model.specs.Valid.{IsRow}
 use Rattle.dn_model.specs.Own.{Print, page_bytes, IsOwn}
 use Rattle.dn_changes.proofs.Unread.{slot_word_low}
 use Rattle.dn_table_changes.specs.Changes.{link, linked}
-use Rattle.dn_table_changes.specs.OneWord.{IsWordOf, IsOneWord}
+use Rattle.pm_device.specs.Pages.{SaysRun}
+use Rattle.dn_table_changes.specs.OneWord.{IsOneWord}
 use Rattle.dn_table_changes.specs.RowLaws.{MayPut, PutsRow, linked_words}
 use Rattle.dn_table_changes.proofs.Rows.{same_test, other_test, listed_at}
+use Rattle.dn_table_changes.proofs.OneWord.{says_run}
 use Rattle.dn_table_changes.proofs.Slots.{AreElsewhere, slot_word_one, rows_elsewhere, chained_none, chained_row, direct_page_row, direct_page_none, behind_first, chains_differ}
 use Rattle.dn_table_changes.proofs.Put.{IsPut, put_here, put_later}
 use Rattle.dn_table_changes.proofs.PutTable.{fits_at, puts_row, is_table, read_before, put_exact, put_own}
@@ -39,13 +41,13 @@ link_put p row (first ∷ rs) = by_test (first.slot == p)
 -- the row comes before these rows, none of which has the direct slot p
 module _ (g : Geometry) (p : ℕ) (row : Row) (behind : List Row) (indirect : row.slot ≢ p) (others : AreElsewhere p behind) where
   abbrev Differs : List Row → ℕ → ℕ → Type 0
-  Differs olds a v = ((a ≡ slot_word g p 5) × (v ≡ row.slot)) ⊎ ((a ≢ slot_word g p 5) × (ChainSays g p olds a v ⊎ IsWordOf (slot_word g row.slot 0) (linked_words row (first_slot behind)) a v))
+  Differs olds a v = ((a ≡ slot_word g p 5) × (v ≡ row.slot)) ⊎ ((a ≢ slot_word g p 5) × (ChainSays g p olds a v ⊎ SaysRun (slot_word g row.slot 0) (linked_words row (first_slot behind)) a v))
 
   apart : (j a : ℕ) → j < 8 → a ≡ slot_word g row.slot j → a ≢ slot_word g p 5
   apart j a small place e = indirect (slot_word_one g row.slot p j 5 small (omega arith) (sym place ∙ e)).0
 
-  field_fresh : (j a v : ℕ) → j < 5 → a ≡ slot_word g row.slot j → v ≡ row_word row j → IsWordOf (slot_word g row.slot 0) (linked_words row (first_slot behind)) a v
-  field_fresh j a v lt place value = record { k = j; below = omega arith; place = omega (arith, place); value = value ∙ read j lt }
+  field_fresh : (j a v : ℕ) → j < 5 → a ≡ slot_word g row.slot j → v ≡ row_word row j → SaysRun (slot_word g row.slot 0) (linked_words row (first_slot behind)) a v
+  field_fresh j a v lt place value = says_run (slot_word g row.slot 0) (linked_words row (first_slot behind)) a v j (omega arith) (omega (arith, place)) (value ∙ read j lt)
     where
       read : (k : ℕ) → k < 5 → row_word row k ≡ slice_index (linked_words row (first_slot behind)) k
       read zero small = refl
@@ -57,7 +59,7 @@ module _ (g : Geometry) (p : ℕ) (row : Row) (behind : List Row) (indirect : ro
 
   row_part : (olds : List Row) → ((a v : ℕ) → RowsSay g behind a v → RowsSay g olds a v) → (a v : ℕ) → RowsSay g (row ∷ behind) a v → Differs olds a v
   row_part olds was a v (at_field j lt place value) = inr (apart j a (omega arith) place, inr (field_fresh j a v lt place value))
-  row_part olds was a v (at_next place value) = inr (apart 5 a (omega arith) place, inr (record { k = 5; below = omega arith; place = omega (arith, place); value = value }))
+  row_part olds was a v (at_next place value) = inr (apart 5 a (omega arith) place, inr (says_run (slot_word g row.slot 0) (linked_words row (first_slot behind)) a v 5 (omega arith) (omega (arith, place)) value))
   row_part olds was a v (at_later later) = inr (rows_elsewhere g p 5 behind a v (omega arith) others later, inl (at_row (was a v later)))
 
   -- behind the row of the direct slot
@@ -87,7 +89,7 @@ chain_cases p (first ∷ rest) behind = elim (cases_eq first.slot p) [
 module _ (g : Geometry) (p : ℕ) (row : Row) (indirect : row.slot ≢ p) (a v : ℕ) where
   -- what is said of a word, where the chain was this and went on so behind the direct slot
   abbrev LinkDiffers : List Row → List Row → Type 0
-  LinkDiffers olds behind = ((a ≡ slot_word g p 5) × (v ≡ row.slot)) ⊎ ((a ≢ slot_word g p 5) × (ChainSays g p olds a v ⊎ IsWordOf (slot_word g row.slot 0) (linked_words row (first_slot behind)) a v))
+  LinkDiffers olds behind = ((a ≡ slot_word g p 5) × (v ≡ row.slot)) ⊎ ((a ≢ slot_word g p 5) × (ChainSays g p olds a v ⊎ SaysRun (slot_word g row.slot 0) (linked_words row (first_slot behind)) a v))
 
   link_behind : (first : Row) (rest : List Row) → first.slot ≡ p → AreElsewhere p rest → ChainSays g p (link p row (first ∷ rest)) a v → LinkDiffers (first ∷ rest) (chained p (first ∷ rest))
   link_behind first rest here others says =
@@ -180,7 +182,7 @@ module _ (d : Disk) (prefix : ℕ) (row : Row) (may : MayPut d prefix row) where
     low = omega arith
 
     own_differs : (a v : ℕ) → ChainSays d.geometry prefix (chain' prefix) a v
-        → ((a ≡ at) × (v ≡ row.slot)) ⊎ ((a ≢ at) × (ChainSays d.geometry prefix (d.chain prefix) a v ⊎ IsWordOf (slot_word d.geometry row.slot 0) (linked_words row next) a v))
+        → ((a ≡ at) × (v ≡ row.slot)) ⊎ ((a ≢ at) × (ChainSays d.geometry prefix (d.chain prefix) a v ⊎ SaysRun (slot_word d.geometry row.slot 0) (linked_words row next) a v))
     own_differs a v says = linked_differs d.geometry prefix row (λ e. omega (arith, e, above, may.direct)) a v (d.chain prefix) behind (subst (λ (rs : List Row). ChainSays d.geometry prefix rs a v) here says)
 
     pub link_one_word : IsOneWord d (linked d prefix row) (slot_word d.geometry row.slot 0) (linked_words row next) at row.slot
@@ -189,6 +191,7 @@ module _ (d : Disk) (prefix : ℕ) (row : Row) (may : MayPut d prefix row) where
       old_valid = may.valid;
       new_valid = table_valid d chain' d.pointer may.valid (is_table d prefix row may chain' same put fits);
       inside = omega (arith, high, may.valid.accepted.room);
+      said = record { value = next; told = of_chains (record { prefix = prefix; direct = may.direct; says = at_direct_next refl refl }) };
       differs = table_differs d may.valid chain' d.pointer at row.slot (slot_word d.geometry row.slot 0) (linked_words row next) low high
           (chains_differ d may.valid prefix may.direct chain' (λ p lt ne. same p ne) prefix 5 (omega arith) (inl refl) row.slot (slot_word d.geometry row.slot 0) (linked_words row next) own_differs)
           (pointers_kept d chain' at row.slot (slot_word d.geometry row.slot 0) (linked_words row next)

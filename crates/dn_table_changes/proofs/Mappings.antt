@@ -1,16 +1,16 @@
 -- The number of mappings of a page, and how it moves.
-use Rattle.std.proofs.Common.{◌≡◌, ◌≢◌, ◌⊎◌, inl, inr, ⊎_elim, ℕ, ◌+◌, ◌<◌, ◌≤◌, Bool, refl, sym, ◌∙◌, ap, subst, arith}
-use Rattle.std.specs.Prelude.{if◌then◌else◌, ◌==◌, List, All, Contains, Option, Some, None, IsNone, option_map}
+use Rattle.std.proofs.Common.{◌≡◌, ◌≢◌, ◌⊎◌, inl, inr, ⊎_elim, ℕ, ◌+◌, ◌<◌, ◌≤◌, refl, sym, ◌∙◌, ap, subst, arith}
+use Rattle.std.specs.Prelude.{if◌then◌else◌, ◌==◌, All, Contains, Option, Some, None, IsNone, option_map}
 use Rattle.std.proofs.lemmas.Bool.{cases_eq}
 use Rattle.std.proofs.lemmas.List.Elements.{All-contains}
 use Rattle.dn_model.specs.Maps.{Mapping}
 use Rattle.dn_model.specs.Table.{Row, row_of}
 use Rattle.dn_model.specs.Disk.{Disk, MapsTo, IsMapped, maps, rows}
-use Rattle.dn_model.specs.Counts.{total, hit, mappings, IsLogPage, IsFree, IsNear, Near}
+use Rattle.dn_model.specs.Counts.{total, hit, mappings, IsFree, IsNear, Near}
 use Rattle.dn_model.specs.Valid.{IsValid}
 use Rattle.dn_changes.proofs.Counting.{total-same, total-change, total-some, term-le, terms-le}
 use Rattle.dn_changes.proofs.Unread.{read_in_data}
-use Rattle.dn_changes.proofs.WriteCounts.{hit_here, hit_other, places-le}
+use Rattle.dn_changes.proofs.WriteCounts.{hit_here, hit_other}
 use Rattle.dn_changes.proofs.WriteValid.{mapped_counts}
 use Rattle.dn_table_changes.specs.MappingLaws.{places, RemapsInode, RemapsPlace, AddsMapping, MovesMapping, CountsTell}
 use Rattle.dn_table_changes.proofs.Rows.{all_listed, none_or_some, row_found}

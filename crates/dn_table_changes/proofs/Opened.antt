@@ -4,17 +4,19 @@ use Rattle.std.specs.Prelude.{slice_get, slice_index, if◌then◌else◌, ◌==
 use Rattle.std.proofs.lemmas.List.Elements.{All-contains}
 use Rattle.pm_layout.specs.declared.Geometry.{Geometry}
 use Rattle.pm_layout.specs.Geometry.{slot_word, direct_page, first_data}
-use Rattle.dn_model.specs.Table.{Row, at_field, at_next, at_later, ChainSays, at_direct_page, at_direct_next, at_row, row_word, first_slot}
-use Rattle.dn_model.specs.Disk.{Disk, rows}
+use Rattle.dn_model.specs.Table.{Row, at_field, at_next, at_later, ChainSays, at_direct_page, at_direct_next, at_row, row_word, first_slot, direct_page_word}
+use Rattle.dn_model.specs.Disk.{Disk, of_chains, rows}
 use Rattle.dn_model.specs.Counts.{Exact}
 use Rattle.dn_model.specs.Valid.{IsRow}
 use Rattle.dn_model.specs.Own.{Print, page_bytes, IsOwn}
 use Rattle.dn_changes.proofs.Unread.{slot_word_low}
 use Rattle.dn_table_changes.specs.Changes.{opened}
-use Rattle.dn_table_changes.specs.OneWord.{IsWordOf, IsOneWord}
+use Rattle.pm_device.specs.Pages.{SaysRun}
+use Rattle.dn_table_changes.specs.OneWord.{IsOneWord}
 use Rattle.dn_table_changes.specs.RowLaws.{MayPut, PutsRow, opened_words}
 use Rattle.dn_table_changes.proofs.Rows.{same_test, other_test, all_listed, listed_at}
 use Rattle.dn_table_changes.proofs.TableRows.{in_table}
+use Rattle.dn_table_changes.proofs.OneWord.{says_run}
 use Rattle.dn_table_changes.proofs.Slots.{AreElsewhere, rows_elsewhere, chained_none, chained_row, direct_page_row, chains_differ}
 use Rattle.dn_table_changes.proofs.Put.{IsPut, put_here}
 use Rattle.dn_table_changes.proofs.PutTable.{fits_at, puts_row, is_table, read_before, put_exact, put_own}
@@ -24,11 +26,11 @@ use Rattle.dn_table_changes.proofs.TableValid.{table_valid}
 -- the chain of prefix p gets this row in its direct slot
 module _ (g : Geometry) (p : ℕ) (row : Row) (rows : List Row) (here : row.slot ≡ p) (others : AreElsewhere p rows) where
   abbrev Differs : ℕ → ℕ → Type 0
-  Differs a v = ((a ≡ slot_word g p 0) × (v ≡ row.page)) ⊎ ((a ≢ slot_word g p 0) × (ChainSays g p rows a v ⊎ IsWordOf (slot_word g p 1) (opened_words row) a v))
+  Differs a v = ((a ≡ slot_word g p 0) × (v ≡ row.page)) ⊎ ((a ≢ slot_word g p 0) × (ChainSays g p rows a v ⊎ SaysRun (slot_word g p 1) (opened_words row) a v))
 
   -- words 1 to 4 are fresh
-  field_fresh : (j a v : ℕ) → suc j < 5 → a ≡ slot_word g row.slot (suc j) → v ≡ row_word row (suc j) → IsWordOf (slot_word g p 1) (opened_words row) a v
-  field_fresh j a v lt place value = record { k = j; below = omega arith; place = omega (arith, place, here); value = value ∙ read j (omega arith) }
+  field_fresh : (j a v : ℕ) → suc j < 5 → a ≡ slot_word g row.slot (suc j) → v ≡ row_word row (suc j) → SaysRun (slot_word g p 1) (opened_words row) a v
+  field_fresh j a v lt place value = says_run (slot_word g p 1) (opened_words row) a v j (omega arith) (omega (arith, place, here)) (value ∙ read j (omega arith))
     where
       read : (k : ℕ) → k < 4 → row_word row (suc k) ≡ slice_index (opened_words row) k
       read zero small = refl
@@ -94,7 +96,7 @@ module _ (d : Disk) (prefix : ℕ) (row : Row) (may : MayPut d prefix row) where
     low = omega arith
 
     own_differs : (a v : ℕ) → ChainSays d.geometry prefix (chain' prefix) a v
-        → ((a ≡ slot_word d.geometry prefix 0) × (v ≡ row.page)) ⊎ ((a ≢ slot_word d.geometry prefix 0) × (ChainSays d.geometry prefix (d.chain prefix) a v ⊎ IsWordOf (slot_word d.geometry prefix 1) (opened_words row) a v))
+        → ((a ≡ slot_word d.geometry prefix 0) × (v ≡ row.page)) ⊎ ((a ≢ slot_word d.geometry prefix 0) × (ChainSays d.geometry prefix (d.chain prefix) a v ⊎ SaysRun (slot_word d.geometry prefix 1) (opened_words row) a v))
     own_differs a v says = opened_differs d.geometry prefix row (d.chain prefix) own_slot others a v (subst (λ (rs : List Row). ChainSays d.geometry prefix rs a v) here says)
 
     pub open_one_word : IsOneWord d (opened d prefix row) (slot_word d.geometry prefix 1) (opened_words row) (slot_word d.geometry prefix 0) row.page
@@ -103,6 +105,7 @@ module _ (d : Disk) (prefix : ℕ) (row : Row) (may : MayPut d prefix row) where
       old_valid = may.valid;
       new_valid = table_valid d chain' d.pointer may.valid (is_table d prefix row may chain' same put (λ k r is. place k r (subst (λ (rs : List Row). slice_get rs k ≡ Some r) here is)));
       inside = omega (arith, high, may.valid.accepted.room);
+      said = record { value = direct_page_word prefix (d.chain prefix); told = of_chains (record { prefix = prefix; direct = may.direct; says = at_direct_page refl refl }) };
       differs = table_differs d may.valid chain' d.pointer (slot_word d.geometry prefix 0) row.page (slot_word d.geometry prefix 1) (opened_words row) low high
           (chains_differ d may.valid prefix may.direct chain' (λ p lt ne. same p ne) prefix 0 (omega arith) (inl refl) row.page (slot_word d.geometry prefix 1) (opened_words row) own_differs)
           (pointers_kept d chain' (slot_word d.geometry prefix 0) row.page (slot_word d.geometry prefix 1) (opened_words row)

@@ -14,12 +14,14 @@ use Rattle.dn_model.specs.Valid.{IsRow, IsValid}
 use Rattle.dn_model.specs.Own.{Print, page_bytes, IsOwn}
 use Rattle.dn_table_changes.specs.Changes.{recount, recounted}
 use Rattle.dn_table_changes.specs.CountLaws.{MayRecount, RecountsRows, IsExact, OthersAreExact}
-use Rattle.dn_table_changes.specs.OneWord.{IsWordOf, IsOneWord}
+use Rattle.pm_device.specs.Pages.{SaysRun}
+use Rattle.dn_table_changes.specs.OneWord.{IsOneWord}
 use Rattle.dn_table_changes.proofs.TableDiffers.{table_differs, pointers_kept, pointer_above}
 use Rattle.dn_table_changes.proofs.TableValid.{IsTable, table_valid}
 use Rattle.dn_table_changes.proofs.TableOwn.{own_kept, exact_kept}
 use Rattle.dn_changes.proofs.Unread.{slot_word_low}
-use Rattle.dn_table_changes.proofs.TableRows.{row_slot_small}
+use Rattle.dn_table_changes.proofs.TableRows.{of_chain, row_slot_small}
+use Rattle.dn_table_changes.proofs.Slots.{field_said}
 use Rattle.dn_table_changes.proofs.Rows.{same_test, other_test, all_listed, IsDistinct, mapped_at, map_listed, listed_map, distinct_map, distinct_same}
 
 -- different slots have different words
@@ -187,7 +189,7 @@ module _ (d : Disk) (row : Row) (rfc uc : ℕ) (may : MayRecount d row rfc uc) w
   high = slot_word_low d.geometry row.slot 4 slot_small (omega arith)
 
   chains : (a v : ℕ) → ChainsSay (recounted d row.slot rfc uc) a v
-      → ((a ≡ slot_word d.geometry row.slot 4) × (v ≡ count_word rfc uc)) ⊎ ((a ≢ slot_word d.geometry row.slot 4) × (DiskSays d a v ⊎ IsWordOf 0 [] a v))
+      → ((a ≡ slot_word d.geometry row.slot 4) × (v ≡ count_word rfc uc)) ⊎ ((a ≢ slot_word d.geometry row.slot 4) × (DiskSays d a v ⊎ SaysRun 0 [] a v))
   chains a v told = ⊎_elim (λ here. inl here)
       (λ (there : (a ≢ slot_word d.geometry row.slot 4) × ChainSays d.geometry told.prefix (d.chain told.prefix) a v).
       inr (there.0, inl (of_chains (record { prefix = told.prefix; direct = told.direct; says = there.1 }))))
@@ -199,6 +201,9 @@ module _ (d : Disk) (row : Row) (rfc uc : ℕ) (may : MayRecount d row rfc uc) w
     old_valid = may.valid;
     new_valid = table_valid d chain' d.pointer may.valid is_table;
     inside = omega (arith, high, may.valid.accepted.room);
+    said =
+        let stands = of_chain d row may.has in
+        record { value = count_word row.rfc row.uc; told = of_chains (record { prefix = stands.0; direct = stands.1; says = at_row (field_said d.geometry row (d.chain stands.0) 4 (omega arith) stands.2) }) };
     differs = table_differs d may.valid chain' d.pointer (slot_word d.geometry row.slot 4) (count_word rfc uc) 0 [] low high chains
         (pointers_kept d chain' (slot_word d.geometry row.slot 4) (count_word rfc uc) 0 [] (λ page e. omega (arith, pointer_above d.geometry page row.slot 4 slot_small (omega arith), e)))
         (λ page some. inr (sym (has_row page) ∙ some));
@@ -211,9 +216,13 @@ module _ (d : Disk) (slot rfc uc : ℕ) where
     kept = λ row has. subst (λ (rs : List Row). Contains rs (recount slot rfc uc row)) (sym (rows_recounted slot rfc uc d)) (map_listed (recount slot rfc uc) (rows d) row has);
     only = λ row has. listed_map (recount slot rfc uc) (rows d) row (subst (λ (rs : List Row). Contains rs row) (rows_recounted slot rfc uc d) has);
     found = λ page. ap (λ (rs : List Row). row_of rs page) (rows_recounted slot rfc uc d) ∙ found_map slot rfc uc (rows d) page;
+    this = this;
     others = others;
   }
     where
+      this : (row : Row) → row.slot ≡ slot → recount slot rfc uc row ≡ record { slot = row.slot; print = row.print; page = row.page; rfc = rfc; uc = uc }
+      this row e = ap (λ (b : Bool). record { slot = row.slot; print = row.print; page = row.page; rfc = if b then rfc else row.rfc; uc = if b then uc else row.uc }) (same_test row.slot slot e)
+
       others : (row : Row) → row.slot ≢ slot → recount slot rfc uc row ≡ row
       others row ne = ap (λ (b : Bool). record { slot = row.slot; print = row.print; page = row.page; rfc = if b then rfc else row.rfc; uc = if b then uc else row.uc }) (other_test row.slot slot ne)
 

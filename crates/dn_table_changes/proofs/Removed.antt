@@ -5,20 +5,22 @@ use Rattle.std.proofs.lemmas.Bool.{cases_eq}
 use Rattle.std.proofs.lemmas.List.Elements.{All-contains, All-head, All-tail}
 use Rattle.pm_layout.specs.declared.Geometry.{Geometry}
 use Rattle.pm_layout.specs.Geometry.{slot_word, directs, slots, first_data}
-use Rattle.dn_model.specs.Table.{Row, RowsSay, at_field, at_next, at_later, ChainSays, at_direct_page, at_direct_next, at_row, row_of, first_slot}
-use Rattle.dn_model.specs.Disk.{Disk, rows}
+use Rattle.dn_model.specs.Table.{Row, RowsSay, at_field, at_next, at_later, ChainSays, at_direct_page, at_direct_next, at_row, row_of, first_slot, chained, direct_page_word}
+use Rattle.pm_device.specs.Reading.{Said}
+use Rattle.dn_model.specs.Disk.{Disk, DiskSays, of_chains, rows}
 use Rattle.dn_model.specs.Counts.{mappings, IsNear, Exact}
 use Rattle.dn_model.specs.Valid.{IsRow, IsValid}
 use Rattle.dn_model.specs.Own.{Print, page_bytes, HasRow, IsOwn}
 use Rattle.dn_changes.specs.Events.{IsReadPage}
 use Rattle.dn_changes.proofs.Unread.{slot_word_low}
 use Rattle.dn_table_changes.specs.Changes.{without, removed, slot_before, slot_after}
-use Rattle.dn_table_changes.specs.OneWord.{IsWordOf, IsOneWord}
+use Rattle.pm_device.specs.Pages.{SaysRun}
+use Rattle.dn_table_changes.specs.OneWord.{IsOneWord}
 use Rattle.dn_table_changes.specs.CountLaws.{IsExact, OthersAreExact}
 use Rattle.dn_table_changes.specs.RowLaws.{MayRemove, TakesRow, IsUnshared}
 use Rattle.dn_table_changes.proofs.Rows.{all_listed, listed_at, at_listed, listed_later, listed_cases, none_listed, none_found, row_listed, row_found, IsDistinct, distinct_tail, distinct_head, distinct_chain}
 use Rattle.dn_table_changes.proofs.TableRows.{in_table, one_chain, row_slot_small}
-use Rattle.dn_table_changes.proofs.Slots.{AreElsewhere, HasSlot, slot_word_one, rows_elsewhere, chained_none, chained_row, direct_page_row, direct_page_none, behind_first, chains_differ}
+use Rattle.dn_table_changes.proofs.Slots.{AreElsewhere, HasSlot, next_of, slot_word_one, rows_elsewhere, chained_none, chained_row, direct_page_row, direct_page_none, behind_first, chains_differ}
 use Rattle.dn_table_changes.proofs.Put.{IsPut, put_kept, put_listed, taken_distinct, put_other}
 use Rattle.dn_table_changes.proofs.Taken.{without_here, without_other, without_none, without_at, without_put, rows_removed, before_owned, before_here, before_other, after_here, after_other, taken_found}
 use Rattle.dn_table_changes.proofs.Linked.{chain_cases}
@@ -28,7 +30,7 @@ use Rattle.dn_table_changes.proofs.TableOwn.{own_kept, exact_kept}
 
 -- the row of the direct slot goes
 module _ (g : Geometry) (p : ℕ) (first : Row) (rest : List Row) (here : first.slot ≡ p) (others : AreElsewhere p rest) where
-  closed_differs : (a v : ℕ) → ChainSays g p rest a v → ((a ≡ slot_word g p 0) × (v ≡ 0)) ⊎ ((a ≢ slot_word g p 0) × (ChainSays g p (first ∷ rest) a v ⊎ IsWordOf 0 [] a v))
+  closed_differs : (a v : ℕ) → ChainSays g p rest a v → ((a ≡ slot_word g p 0) × (v ≡ 0)) ⊎ ((a ≢ slot_word g p 0) × (ChainSays g p (first ∷ rest) a v ⊎ SaysRun 0 [] a v))
   closed_differs a v (at_direct_page place value) = inl (place, value ∙ direct_page_none p rest others)
   closed_differs a v (at_direct_next place value) =
       inr (λ e. omega arith, inl (at_direct_next place (value ∙ ap first_slot (chained_none p rest others ∙ sym (chained_row p first rest here)))))
@@ -261,17 +263,18 @@ module _ (d : Disk) (prefix : ℕ) (row : Row) (may : MayRemove d prefix row) wh
       inr (subst (λ (p : ℕ). IsSome (row_of (rows d) p)) found.2 (row_found (rows d) found.0 (still_listed d row may.valid listed found.0 found.1)))
 
   -- a word of slot s of this chain is one of the table, and no pointer
-  one_word : (s i value : ℕ) → i < 8 → s < slots d.geometry → (s ≡ prefix) ⊎ HasSlot (d.chain prefix) s
+  one_word : (s i value : ℕ) → Said (DiskSays d) (slot_word d.geometry s i) → i < 8 → s < slots d.geometry → (s ≡ prefix) ⊎ HasSlot (d.chain prefix) s
       → ((a v : ℕ) → ChainSays d.geometry prefix (chain' prefix) a v
-      → ((a ≡ slot_word d.geometry s i) × (v ≡ value)) ⊎ ((a ≢ slot_word d.geometry s i) × (ChainSays d.geometry prefix (d.chain prefix) a v ⊎ IsWordOf 0 [] a v)))
+      → ((a ≡ slot_word d.geometry s i) × (v ≡ value)) ⊎ ((a ≢ slot_word d.geometry s i) × (ChainSays d.geometry prefix (d.chain prefix) a v ⊎ SaysRun 0 [] a v)))
       → IsOneWord d (removed d row.slot) 0 [] (slot_word d.geometry s i) value
-  one_word s i value small in_slots owned differs =
+  one_word s i value said small in_slots owned differs =
       let high : slot_word d.geometry s i < 512 * first_data d.geometry = slot_word_low d.geometry s i in_slots small in
       record {
         geometry = refl;
         old_valid = may.valid;
         new_valid = table_valid d chain' d.pointer may.valid is_table;
         inside = omega (arith, high, may.valid.accepted.room);
+        said = said;
         differs = table_differs d may.valid chain' d.pointer (slot_word d.geometry s i) value 0 [] (omega arith) high
             (chains_differ d may.valid prefix may.direct chain' same s i small owned value 0 [] differs)
             (pointers_kept d chain' (slot_word d.geometry s i) value 0 [] (λ page e. omega (arith, pointer_above d.geometry page s i in_slots small, e)))
@@ -280,15 +283,18 @@ module _ (d : Disk) (prefix : ℕ) (row : Row) (may : MayRemove d prefix row) wh
 
   module _ (own_slot : row.slot ≡ prefix) where
     closed : (rs : List Row) → (first : Row) (rest : List Row) → rs ≡ first ∷ rest → first.slot ≡ prefix → AreElsewhere prefix rest → (a v : ℕ) → ChainSays d.geometry prefix (without row.slot rs) a v
-        → ((a ≡ slot_word d.geometry prefix 0) × (v ≡ 0)) ⊎ ((a ≢ slot_word d.geometry prefix 0) × (ChainSays d.geometry prefix rs a v ⊎ IsWordOf 0 [] a v))
+        → ((a ≡ slot_word d.geometry prefix 0) × (v ≡ 0)) ⊎ ((a ≢ slot_word d.geometry prefix 0) × (ChainSays d.geometry prefix rs a v ⊎ SaysRun 0 [] a v))
     closed rs first rest is here others a v says =
         let gone : without row.slot rs ≡ rest = ap (without row.slot) is ∙ without_here row.slot first rest (here ∙ sym own_slot)
         ∙ without_none row.slot rest (subst (λ (s : ℕ). AreElsewhere s rest) (sym own_slot) others) in
-        subst (λ (xs : List Row). ((a ≡ slot_word d.geometry prefix 0) × (v ≡ 0)) ⊎ ((a ≢ slot_word d.geometry prefix 0) × (ChainSays d.geometry prefix xs a v ⊎ IsWordOf 0 [] a v))) (sym is)
+        subst (λ (xs : List Row). ((a ≡ slot_word d.geometry prefix 0) × (v ≡ 0)) ⊎ ((a ≢ slot_word d.geometry prefix 0) × (ChainSays d.geometry prefix xs a v ⊎ SaysRun 0 [] a v))) (sym is)
         (closed_differs d.geometry prefix first rest here others a v (subst (λ (xs : List Row). ChainSays d.geometry prefix xs a v) gone says))
 
+    page_said : Said (DiskSays d) (slot_word d.geometry prefix 0)
+    page_said = record { value = direct_page_word prefix (d.chain prefix); told = of_chains (record { prefix = prefix; direct = may.direct; says = at_direct_page refl refl }) }
+
     pub close_one_word : IsOneWord d (removed d row.slot) 0 [] (slot_word d.geometry prefix 0) 0
-    close_one_word = one_word prefix 0 0 (omega arith) (omega (arith, may.direct)) (inl refl) (λ a v says. ⊎_elim
+    close_one_word = one_word prefix 0 0 page_said (omega arith) (omega (arith, may.direct)) (inl refl) (λ a v says. ⊎_elim
         (λ (direct : (x : Row) × (xs : List Row) × (d.chain prefix ≡ x ∷ xs) × (x.slot ≡ prefix) × AreElsewhere prefix xs). closed (d.chain prefix) direct.0 direct.1 direct.2 direct.3 direct.4 a v says)
         (λ (none : AreElsewhere prefix (d.chain prefix)). absurd (All-contains (λ (r : Row). r.slot ≢ prefix) (d.chain prefix) row none may.has own_slot)) (chain_cases prefix (d.chain prefix) behind))
 
@@ -300,11 +306,22 @@ module _ (d : Disk) (prefix : ℕ) (row : Row) (may : MayRemove d prefix row) wh
     before_small = ⊎_elim (λ (own : before ≡ prefix). omega (arith, own, may.direct))
         (λ (has : HasSlot (d.chain prefix) before). omega (arith, row_slot_small d may.valid has.0 (in_table d prefix has.0 may.direct has.1), has.2)) (before_owned row.slot prefix (d.chain prefix))
 
+    next_said : Said (DiskSays d) (slot_word d.geometry before 5)
+    next_said = ⊎_elim
+        (λ (own : before ≡ prefix). record {
+          value = first_slot (chained prefix (d.chain prefix));
+          told = of_chains (record { prefix = prefix; direct = may.direct; says = at_direct_next (ap (λ (s : ℕ). slot_word d.geometry s 5) own) refl });
+        })
+        (λ (has : HasSlot (d.chain prefix) before).
+        let says = next_of d.geometry has.0 (d.chain prefix) has.1 in
+        record { value = says.0; told = of_chains (record { prefix = prefix; direct = may.direct; says = at_row (subst (λ (s : ℕ). RowsSay d.geometry (d.chain prefix) (slot_word d.geometry s 5) says.0) has.2 says.1) }) })
+        (before_owned row.slot prefix (d.chain prefix))
+
     chain_distinct : IsDistinct (λ (r : Row). r.slot) (d.chain prefix)
     unfolding rows
     chain_distinct = distinct_chain (λ (r : Row). r.slot) d.chain 0 (directs d.geometry) prefix (omega arith) (omega (arith, may.direct)) may.valid.rows_apart.slot
 
     pub unlink_one_word : IsOneWord d (removed d row.slot) 0 [] (slot_word d.geometry before 5) (slot_after (d.chain prefix) row.slot)
-    unlink_one_word = one_word before 5 (slot_after (d.chain prefix) row.slot) (omega arith) before_small (before_owned row.slot prefix (d.chain prefix)) (λ a v says. ⊎_elim (λ here. inl here)
+    unlink_one_word = one_word before 5 (slot_after (d.chain prefix) row.slot) next_said (omega arith) before_small (before_owned row.slot prefix (d.chain prefix)) (λ a v says. ⊎_elim (λ here. inl here)
         (λ (there : (a ≢ slot_word d.geometry before 5) × ChainSays d.geometry prefix (d.chain prefix) a v). inr (there.0, inl there.1))
         (unlinked_differs d.geometry prefix row.slot other a v (d.chain prefix) behind (row, may.has, refl) chain_distinct says))

@@ -11,7 +11,8 @@ use Rattle.dn_model.specs.Counts.{Exact}
 use Rattle.dn_model.specs.Own.{Print, IsOwn}
 use Rattle.dn_changes.proofs.Unread.{pointer_word_low}
 use Rattle.dn_table_changes.specs.Changes.{repointed}
-use Rattle.dn_table_changes.specs.OneWord.{IsWordOf, IsOneWord}
+use Rattle.pm_device.specs.Pages.{SaysRun}
+use Rattle.dn_table_changes.specs.OneWord.{IsOneWord}
 use Rattle.dn_table_changes.specs.PointerLaws.{MayRepoint}
 use Rattle.dn_table_changes.proofs.Rows.{same_test, other_test, all_listed}
 use Rattle.dn_table_changes.proofs.TableRows.{row_slot_small, in_table}
@@ -88,7 +89,7 @@ module _ (d : Disk) (page value : ℕ) (may : MayRepoint d page value) where
   high : at < 512 * first_data d.geometry
   high = pointer_word_low d.geometry page may.in_image
 
-  chains : (a v : ℕ) → ChainsSay (repointed d page value) a v → ((a ≡ at) × (v ≡ value)) ⊎ ((a ≢ at) × (DiskSays d a v ⊎ IsWordOf 0 [] a v))
+  chains : (a v : ℕ) → ChainsSay (repointed d page value) a v → ((a ≡ at) × (v ≡ value)) ⊎ ((a ≢ at) × (DiskSays d a v ⊎ SaysRun 0 [] a v))
   chains a v told = inr (
     chain_apart d.geometry page told.prefix (d.chain told.prefix) a v (omega (arith, told.direct))
         (all_listed (λ (row : Row). row.slot < slots d.geometry) (d.chain told.prefix) (λ row has. row_slot_small d may.valid row (in_table d told.prefix row told.direct has))) told.says,
@@ -99,7 +100,7 @@ module _ (d : Disk) (page value : ℕ) (may : MayRepoint d page value) where
   unfolding pointer_word
   word_one g p q e = omega arith
 
-  pointers : (a v : ℕ) → PointersSay (repointed d page value) a v → ((a ≡ at) × (v ≡ value)) ⊎ ((a ≢ at) × (DiskSays d a v ⊎ IsWordOf 0 [] a v))
+  pointers : (a v : ℕ) → PointersSay (repointed d page value) a v → ((a ≡ at) × (v ≡ value)) ⊎ ((a ≢ at) × (DiskSays d a v ⊎ SaysRun 0 [] a v))
   pointers a v told = elim (cases_eq told.page page) [
     | inl e ↦ inl (told.place ∙ ap (pointer_word d.geometry) e, told.value ∙ here d page value told.page e)
     | inr ne ↦ inr (
@@ -115,5 +116,6 @@ module _ (d : Disk) (page value : ℕ) (may : MayRepoint d page value) where
     old_valid = may.valid;
     new_valid = table_valid d d.chain (pointer' d page value) may.valid is_table;
     inside = omega (arith, high, may.valid.accepted.room);
+    said = record { value = d.pointer page; told = of_pointers (record { page = page; in_image = may.in_image; place = refl; value = refl }) };
     differs = table_differs d may.valid d.chain (pointer' d page value) at value 0 [] low high chains pointers (λ p some. inr some);
   }

@@ -6,12 +6,12 @@ use Rattle.std.proofs.lemmas.Bool.Decides.{nat_tests}
 use Rattle.std.proofs.lemmas.List.Elements.{All-head, All-tail}
 use Rattle.pm_layout.specs.declared.Geometry.{Geometry}
 use Rattle.pm_layout.specs.Geometry.{slot_word, directs, slots}
-use Rattle.dn_model.specs.Table.{Row, RowsSay, at_field, at_next, at_later, ChainSays, at_direct_page, at_direct_next, at_row, chained, direct_page_word}
+use Rattle.dn_model.specs.Table.{Row, RowsSay, at_field, at_next, at_later, ChainSays, at_direct_page, at_direct_next, at_row, chained, direct_page_word, first_slot, row_word}
 use Rattle.dn_model.specs.Disk.{Disk, DiskSays, of_chains, ChainsSay}
 use Rattle.dn_model.specs.Valid.{IsValid}
 use Rattle.dn_table_changes.specs.Changes.{with_table}
-use Rattle.dn_table_changes.specs.OneWord.{IsWordOf}
-use Rattle.dn_table_changes.proofs.Rows.{all_listed, at_listed, listed_here, listed_later}
+use Rattle.pm_device.specs.Pages.{SaysRun}
+use Rattle.dn_table_changes.proofs.Rows.{all_listed, at_listed, listed_cases, listed_here, listed_later}
 use Rattle.dn_table_changes.proofs.TableRows.{row_slot, one_chain}
 
 -- different slots have different words
@@ -44,6 +44,19 @@ direct_page_none s (row ∷ rows) others = let ne : row.slot ≢ s = All-head (�
 
 pub direct_page_row : (s : ℕ) (row : Row) (rows : List Row) → row.slot ≡ s → direct_page_word s (row ∷ rows) ≡ row.page
 direct_page_row s row rows e = grind (arith, nat_tests)
+
+-- the words of a row are told, and its next word
+pub field_said : (g : Geometry) (row : Row) (rows : List Row) (j : ℕ) → j < 5 → Contains rows row → RowsSay g rows (slot_word g row.slot j) (row_word row j)
+field_said g row [] j lt has = absurd (omega (arith, has.1))
+field_said g row (x ∷ rows) j lt has = ⊎_elim
+    (λ (e : x ≡ row). at_field j lt (ap (λ (r : Row). slot_word g r.slot j) (sym e)) (ap (λ (r : Row). row_word r j) (sym e)))
+    (λ (later : Contains rows row). at_later (field_said g row rows j lt later)) (listed_cases x rows row has)
+
+pub next_of : (g : Geometry) (row : Row) (rows : List Row) → Contains rows row → (v : ℕ) × RowsSay g rows (slot_word g row.slot 5) v
+next_of g row [] has = absurd (omega (arith, has.1))
+next_of g row (x ∷ rows) has = ⊎_elim
+    (λ (e : x ≡ row). (first_slot rows, at_next (ap (λ (r : Row). slot_word g r.slot 5) (sym e)) refl))
+    (λ (later : Contains rows row). let says = next_of g row rows later in (says.0, at_later says.1)) (listed_cases x rows row has)
 
 -- a row of these has this slot
 abbrev pub HasSlot : List Row → ℕ → Type 0
@@ -105,13 +118,13 @@ module _ (d : Disk) (valid : IsValid d) (prefix : ℕ) (direct : prefix < direct
       ne (slot_one d valid p prefix s lt direct (subst (λ (t : ℕ). (t ≡ p) ⊎ HasSlot (d.chain p) t) slot word.owned) owned)
 
   -- where the chain itself differs so, the chains do
-  pub chains_differ : ((a v : ℕ) → ChainSays d.geometry prefix (chain prefix) a v → ((a ≡ at) × (v ≡ value)) ⊎ ((a ≢ at) × (ChainSays d.geometry prefix (d.chain prefix) a v ⊎ IsWordOf first fresh a v)))
-      → (a v : ℕ) → ChainsSay (with_table d chain d.pointer) a v → ((a ≡ at) × (v ≡ value)) ⊎ ((a ≢ at) × (DiskSays d a v ⊎ IsWordOf first fresh a v))
+  pub chains_differ : ((a v : ℕ) → ChainSays d.geometry prefix (chain prefix) a v → ((a ≡ at) × (v ≡ value)) ⊎ ((a ≢ at) × (ChainSays d.geometry prefix (d.chain prefix) a v ⊎ SaysRun first fresh a v)))
+      → (a v : ℕ) → ChainsSay (with_table d chain d.pointer) a v → ((a ≡ at) × (v ≡ value)) ⊎ ((a ≢ at) × (DiskSays d a v ⊎ SaysRun first fresh a v))
   chains_differ own a v told = elim (cases_eq told.prefix prefix) [
     | inl e ↦ ⊎_elim (λ here. inl here)
-        (λ (there : (a ≢ at) × (ChainSays d.geometry prefix (d.chain prefix) a v ⊎ IsWordOf first fresh a v)). inr (
+        (λ (there : (a ≢ at) × (ChainSays d.geometry prefix (d.chain prefix) a v ⊎ SaysRun first fresh a v)). inr (
           there.0,
-          ⊎_elim (λ (says : ChainSays d.geometry prefix (d.chain prefix) a v). inl (of_chains (record { prefix = prefix; direct = direct; says = says }))) (λ (word : IsWordOf first fresh a v). inr word) there.1,
+          ⊎_elim (λ (says : ChainSays d.geometry prefix (d.chain prefix) a v). inl (of_chains (record { prefix = prefix; direct = direct; says = says }))) (λ (word : SaysRun first fresh a v). inr word) there.1,
         ))
         (own a v (subst (λ (p : ℕ). ChainSays d.geometry p (chain p) a v) e told.says))
     | inr ne ↦

@@ -14,7 +14,7 @@ use Rattle.dn_model.proofs.Append.{log_word_in_data}
 use Rattle.dn_changes.specs.Events.{IsReadPage}
 use Rattle.dn_changes.proofs.Unread.{read_in_data}
 use Rattle.dn_table_changes.specs.Changes.{with_table}
-use Rattle.dn_table_changes.specs.OneWord.{IsWordOf}
+use Rattle.pm_device.specs.Pages.{SaysRun}
 use Rattle.dn_table_changes.proofs.Frame.{mapped_only}
 
 -- a log says nothing of the words from the table's first to the data area
@@ -30,7 +30,7 @@ module _ (d : Disk) (valid : IsValid d) (chain : ℕ → List Row) (pointer : �
   new = with_table d chain pointer
 
   abbrev pub Differs : ℕ → ℕ → Type 0
-  Differs a v = ((a ≡ at) × (v ≡ value)) ⊎ ((a ≢ at) × (DiskSays d a v ⊎ IsWordOf first fresh a v))
+  Differs a v = ((a ≡ at) × (v ≡ value)) ⊎ ((a ≢ at) × (DiskSays d a v ⊎ SaysRun first fresh a v))
 
   head_differs : (a v : ℕ) → HeadSays new a v → Differs a v
   head_differs a v (at_magic place is) = inr (λ e. omega arith, inl (of_head (at_magic place is)))
@@ -57,7 +57,7 @@ module _ (d : Disk) (valid : IsValid d) (chain : ℕ → List Row) (pointer : �
 
   -- where the chains and pointers differ at one word and at fresh words alone, and no page comes to be read
   pub table_differs : ((a v : ℕ) → ChainsSay new a v → Differs a v) → ((a v : ℕ) → PointersSay new a v → Differs a v) → ((page : ℕ) → IsSome (row_of (rows new) page) → IsReadPage d page)
-      → DiffersAt (DiskSays d) (DiskSays new) (IsWordOf first fresh) at value
+      → DiffersAt (DiskSays d) (DiskSays new) (SaysRun first fresh) at value
   table_differs chains pointers read a v (of_head told) = head_differs a v told
   table_differs chains pointers read a v (of_inodes told) = inodes_differ a v told
   table_differs chains pointers read a v (of_logs told) = logs_differ a v told
@@ -79,7 +79,7 @@ pointer_above g page slot field lt small = omega (arith, directs_fill g)
 module _ (d : Disk) (chain : ℕ → List Row) (at value first : ℕ) (fresh : List ℕ) where
   -- the pointers that a change of chains leaves alone
   pub pointers_kept : ((page : ℕ) → at ≢ pointer_word d.geometry page) → (a v : ℕ) → PointersSay (with_table d chain d.pointer) a v
-      → ((a ≡ at) × (v ≡ value)) ⊎ ((a ≢ at) × (DiskSays d a v ⊎ IsWordOf first fresh a v))
+      → ((a ≡ at) × (v ≡ value)) ⊎ ((a ≢ at) × (DiskSays d a v ⊎ SaysRun first fresh a v))
   pointers_kept apart a v told = inr (
     λ e. apart told.page (sym e ∙ told.place),
     inl (of_pointers (record { page = told.page; in_image = told.in_image; place = told.place; value = told.value })),

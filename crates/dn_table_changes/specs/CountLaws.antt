@@ -30,6 +30,7 @@ pub record RecountsRows (slot rfc uc : ℕ) (olds news : List Row) : Type 0 wher
   pub kept : (row : Row) → Contains olds row → Contains news (recount slot rfc uc row)
   pub only : (row : Row) → Contains news row → (was : Row) × Contains olds was × (recount slot rfc uc was ≡ row)
   pub found : (page : ℕ) → row_of news page ≡ option_map (recount slot rfc uc) (row_of olds page)
+  pub this : (row : Row) → row.slot ≡ slot → recount slot rfc uc row ≡ record { slot = row.slot; print = row.print; page = row.page; rfc = rfc; uc = uc }
   pub others : (row : Row) → row.slot ≢ slot → recount slot rfc uc row ≡ row
 
 abbrev pub RecountChangesOneRow : Type 0
