@@ -19,7 +19,7 @@ use Rattle.dn_table_changes.proofs.Rows.{same_test, other_test, listed_at}
 use Rattle.dn_table_changes.proofs.OneWord.{says_run}
 use Rattle.dn_table_changes.proofs.Slots.{AreElsewhere, slot_word_one, rows_elsewhere, chained_none, chained_row, direct_page_row, direct_page_none, behind_first, chains_differ}
 use Rattle.dn_table_changes.proofs.Put.{IsPut, put_here, put_later}
-use Rattle.dn_table_changes.proofs.PutTable.{fits_at, puts_row, is_table, read_before, put_exact, put_own}
+use Rattle.dn_table_changes.proofs.PutTable.{put_direct, fits_at, puts_row, is_table, read_before, put_exact, put_own}
 use Rattle.dn_table_changes.proofs.TableDiffers.{table_differs, pointers_kept, pointer_above}
 use Rattle.dn_table_changes.proofs.TableValid.{table_valid}
 
@@ -163,11 +163,11 @@ module _ (d : Disk) (prefix : ℕ) (row : Row) (may : MayPut d prefix row) where
 
   module _ (above : directs d.geometry ≤ row.slot) (small : row.slot < slots d.geometry) where
     behind : (first : Row) (rest : List Row) → d.chain prefix ≡ first ∷ rest → AreElsewhere prefix rest
-    behind first rest is = behind_first d may.valid prefix first rest may.direct is
+    behind first rest is = behind_first d may.valid prefix first rest (put_direct d prefix row may) is
 
     fits : AllFit d prefix (chain' prefix)
     fits = subst (AllFit d prefix) (sym here)
-        (link_fits d prefix row (λ k. fits_at d prefix row may k (inr (above, small))) (d.chain prefix) behind (λ k r is. may.valid.table prefix k r may.direct is))
+        (link_fits d prefix row (λ k. fits_at d prefix row may k (inr (above, small))) (d.chain prefix) behind (λ k r is. may.valid.table prefix k r (put_direct d prefix row may) is))
 
     abbrev at : ℕ
     at = slot_word d.geometry prefix 5
@@ -176,14 +176,14 @@ module _ (d : Disk) (prefix : ℕ) (row : Row) (may : MayPut d prefix row) where
     next = first_slot (chained prefix (d.chain prefix))
 
     high : at < 512 * first_data d.geometry
-    high = slot_word_low d.geometry prefix 5 (omega (arith, may.direct)) (omega arith)
+    high = slot_word_low d.geometry prefix 5 (omega (arith, put_direct d prefix row may)) (omega arith)
 
     low : 512 * direct_page d.geometry ≤ at
     low = omega arith
 
     own_differs : (a v : ℕ) → ChainSays d.geometry prefix (chain' prefix) a v
         → ((a ≡ at) × (v ≡ row.slot)) ⊎ ((a ≢ at) × (ChainSays d.geometry prefix (d.chain prefix) a v ⊎ SaysRun (slot_word d.geometry row.slot 0) (linked_words row next) a v))
-    own_differs a v says = linked_differs d.geometry prefix row (λ e. omega (arith, e, above, may.direct)) a v (d.chain prefix) behind (subst (λ (rs : List Row). ChainSays d.geometry prefix rs a v) here says)
+    own_differs a v says = linked_differs d.geometry prefix row (λ e. omega (arith, e, above, put_direct d prefix row may)) a v (d.chain prefix) behind (subst (λ (rs : List Row). ChainSays d.geometry prefix rs a v) here says)
 
     pub link_one_word : IsOneWord d (linked d prefix row) (slot_word d.geometry row.slot 0) (linked_words row next) at row.slot
     link_one_word = record {
@@ -191,10 +191,10 @@ module _ (d : Disk) (prefix : ℕ) (row : Row) (may : MayPut d prefix row) where
       old_valid = may.valid;
       new_valid = table_valid d chain' d.pointer may.valid (is_table d prefix row may chain' same put fits);
       inside = omega (arith, high, may.valid.accepted.room);
-      said = record { value = next; told = of_chains (record { prefix = prefix; direct = may.direct; says = at_direct_next refl refl }) };
+      said = record { value = next; told = of_chains (record { prefix = prefix; direct = put_direct d prefix row may; says = at_direct_next refl refl }) };
       differs = table_differs d may.valid chain' d.pointer at row.slot (slot_word d.geometry row.slot 0) (linked_words row next) low high
-          (chains_differ d may.valid prefix may.direct chain' (λ p lt ne. same p ne) prefix 5 (omega arith) (inl refl) row.slot (slot_word d.geometry row.slot 0) (linked_words row next) own_differs)
+          (chains_differ d may.valid prefix (put_direct d prefix row may) chain' (λ p lt ne. same p ne) prefix 5 (omega arith) (inl refl) row.slot (slot_word d.geometry row.slot 0) (linked_words row next) own_differs)
           (pointers_kept d chain' at row.slot (slot_word d.geometry row.slot 0) (linked_words row next)
-          (λ page e. omega (arith, pointer_above d.geometry page prefix 5 (omega (arith, may.direct)) (omega arith), e)))
+          (λ page e. omega (arith, pointer_above d.geometry page prefix 5 (omega (arith, put_direct d prefix row may)) (omega arith), e)))
           (read_before d prefix row may chain' same put);
     }

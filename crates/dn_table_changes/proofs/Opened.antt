@@ -19,7 +19,7 @@ use Rattle.dn_table_changes.proofs.TableRows.{in_table}
 use Rattle.dn_table_changes.proofs.OneWord.{says_run}
 use Rattle.dn_table_changes.proofs.Slots.{AreElsewhere, rows_elsewhere, chained_none, chained_row, direct_page_row, chains_differ}
 use Rattle.dn_table_changes.proofs.Put.{IsPut, put_here}
-use Rattle.dn_table_changes.proofs.PutTable.{fits_at, puts_row, is_table, read_before, put_exact, put_own}
+use Rattle.dn_table_changes.proofs.PutTable.{put_direct, fits_at, puts_row, is_table, read_before, put_exact, put_own}
 use Rattle.dn_table_changes.proofs.TableDiffers.{table_differs, pointers_kept, pointer_above}
 use Rattle.dn_table_changes.proofs.TableValid.{table_valid}
 
@@ -73,12 +73,12 @@ module _ (d : Disk) (prefix : ℕ) (row : Row) (may : MayPut d prefix row) where
 
   module _ (own_slot : row.slot ≡ prefix) where
     others : AreElsewhere prefix (d.chain prefix)
-    others = all_listed (λ (r : Row). r.slot ≢ prefix) (d.chain prefix) (λ r has e. may.new_slot r (in_table d prefix r may.direct has) (e ∙ sym own_slot))
+    others = all_listed (λ (r : Row). r.slot ≢ prefix) (d.chain prefix) (λ r has e. may.new_slot r (in_table d prefix r (put_direct d prefix row may) has) (e ∙ sym own_slot))
 
     place : (k : ℕ) (r : Row) → slice_get (row ∷ d.chain prefix) k ≡ Some r → IsRow d.geometry prefix k r
     place zero r is = let same : row ≡ r = cc in subst (IsRow d.geometry prefix 0) same (fits_at d prefix row may 0 (inl (own_slot, refl)))
     place (suc k) r is =
-        let was : IsRow d.geometry prefix k r = may.valid.table prefix k r may.direct is in
+        let was : IsRow d.geometry prefix k r = may.valid.table prefix k r (put_direct d prefix row may) is in
         record {
           place = ⊎_elim (λ (direct : (r.slot ≡ prefix) × (k ≡ 0)). absurd (All-contains (λ (x : Row). x.slot ≢ prefix) (d.chain prefix) r others (listed_at (d.chain prefix) k r is) direct.0)) (λ high. inr high) was.place;
           data_page = was.data_page;
@@ -90,7 +90,7 @@ module _ (d : Disk) (prefix : ℕ) (row : Row) (may : MayPut d prefix row) where
         }
 
     high : slot_word d.geometry prefix 0 < 512 * first_data d.geometry
-    high = slot_word_low d.geometry prefix 0 (omega (arith, may.direct)) (omega arith)
+    high = slot_word_low d.geometry prefix 0 (omega (arith, put_direct d prefix row may)) (omega arith)
 
     low : 512 * direct_page d.geometry ≤ slot_word d.geometry prefix 0
     low = omega arith
@@ -105,10 +105,10 @@ module _ (d : Disk) (prefix : ℕ) (row : Row) (may : MayPut d prefix row) where
       old_valid = may.valid;
       new_valid = table_valid d chain' d.pointer may.valid (is_table d prefix row may chain' same put (λ k r is. place k r (subst (λ (rs : List Row). slice_get rs k ≡ Some r) here is)));
       inside = omega (arith, high, may.valid.accepted.room);
-      said = record { value = direct_page_word prefix (d.chain prefix); told = of_chains (record { prefix = prefix; direct = may.direct; says = at_direct_page refl refl }) };
+      said = record { value = direct_page_word prefix (d.chain prefix); told = of_chains (record { prefix = prefix; direct = put_direct d prefix row may; says = at_direct_page refl refl }) };
       differs = table_differs d may.valid chain' d.pointer (slot_word d.geometry prefix 0) row.page (slot_word d.geometry prefix 1) (opened_words row) low high
-          (chains_differ d may.valid prefix may.direct chain' (λ p lt ne. same p ne) prefix 0 (omega arith) (inl refl) row.page (slot_word d.geometry prefix 1) (opened_words row) own_differs)
+          (chains_differ d may.valid prefix (put_direct d prefix row may) chain' (λ p lt ne. same p ne) prefix 0 (omega arith) (inl refl) row.page (slot_word d.geometry prefix 1) (opened_words row) own_differs)
           (pointers_kept d chain' (slot_word d.geometry prefix 0) row.page (slot_word d.geometry prefix 1) (opened_words row)
-          (λ page e. omega (arith, pointer_above d.geometry page prefix 0 (omega (arith, may.direct)) (omega arith), e)))
+          (λ page e. omega (arith, pointer_above d.geometry page prefix 0 (omega (arith, put_direct d prefix row may)) (omega arith), e)))
           (read_before d prefix row may chain' same put);
     }

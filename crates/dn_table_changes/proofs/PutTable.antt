@@ -16,11 +16,15 @@ use Rattle.dn_table_changes.specs.Changes.{with_table}
 use Rattle.dn_table_changes.specs.CountLaws.{IsExact}
 use Rattle.dn_table_changes.specs.RowLaws.{MayPut, PutsRow}
 use Rattle.dn_table_changes.proofs.Rows.{all_listed, none_listed, none_found, row_listed, row_found}
+use Rattle.dn_table_changes.proofs.TableRows.{prefix_small}
 use Rattle.dn_table_changes.proofs.Put.{IsPut, put_row, put_kept, put_listed, put_distinct, put_found, put_rows}
 use Rattle.dn_table_changes.proofs.TableValid.{IsTable}
 use Rattle.dn_table_changes.proofs.TableOwn.{own_kept, exact_kept}
 
 module _ (d : Disk) (prefix : ℕ) (row : Row) (may : MayPut d prefix row) where
+  pub put_direct : prefix < directs d.geometry
+  put_direct = subst (λ (p : ℕ). p < directs d.geometry) may.prefix_is (prefix_small d.geometry row.print may.twenty may.bytes)
+
   -- the page has no row, and one mapping
   no_row : IsNone (row_of (rows d) row.page)
   no_row = none_found (rows d) row.page may.new_page
@@ -49,7 +53,7 @@ module _ (d : Disk) (prefix : ℕ) (row : Row) (may : MayPut d prefix row) (chai
 
   pub rows_put : IsPut row (rows d) news
   unfolding rows
-  rows_put = put_rows row d.chain chain prefix same put 0 (directs d.geometry) (omega arith) (omega (arith, may.direct))
+  rows_put = put_rows row d.chain chain prefix same put 0 (directs d.geometry) (omega arith) (omega (arith, put_direct d prefix row may))
 
   pub puts_row : PutsRow row (rows d) news
   puts_row = record {

@@ -1,22 +1,22 @@
 -- Laws of rows that come into the table and go: one word of it each.
 use Rattle.std.specs.Prelude.{◌≡◌, ◌≢◌, ◌⊎◌, ℕ, ◌+◌, ◌^◌, ◌<◌, ◌≤◌, if◌then◌else◌, ◌==◌, List, [], ◌∷◌, length, All, Contains, Some, None}
+use Rattle.pm_layout.specs.declared.Geometry.{Geometry}
 use Rattle.pm_layout.specs.Geometry.{directs, slots, slot_word}
 use Rattle.dn_model.specs.Maps.{Mapping}
 use Rattle.dn_model.specs.Table.{Row, row_of, row_word, first_slot, chained, prefix_of}
-use Rattle.dn_model.specs.Disk.{Disk, DiskSays, IsMapped, rows}
+use Rattle.dn_model.specs.Disk.{Disk, IsMapped, rows}
 use Rattle.dn_model.specs.Counts.{mappings, Exact}
 use Rattle.dn_model.specs.Valid.{IsValid}
 use Rattle.dn_model.specs.Own.{Print, page_bytes, LivePlace, IsAlone, IsOwn}
 use Rattle.log_entry.specs.declared.item.Flag.TheVariants.{Complete}
 use Rattle.dn_table_changes.specs.Changes.{opened, linked, removed, slot_before, slot_after}
-use Rattle.dn_table_changes.specs.OneWord.{IsOneWord}
+use Rattle.dn_table_changes.specs.OneWord.{IsOneWord, IsUnread}
 use Rattle.dn_table_changes.specs.CountLaws.{OthersAreExact}
 
 -- The row may come into the chain of this prefix: its slot, print and page are no other row's, a file maps its
 -- page, the page's pointer leads to it already, and its counts say the one mapping of its page.
 pub record MayPut (d : Disk) (prefix : ℕ) (row : Row) : Type 0 where
   pub valid : IsValid d
-  pub direct : prefix < directs d.geometry
   pub twenty : length row.print ≡ 20
   pub bytes : All (λ b. b < 256) row.print
   pub prefix_is : prefix_of d.geometry row.print ≡ prefix
@@ -78,12 +78,31 @@ LinkStaysOwn = (print : Print) (d : Disk) (prefix : ℕ) (row : Row) → MayPut 
 -- nothing is said of the words of an indirect slot that no row has
 abbrev pub UnusedSlotsAreUnread : Type 0
 UnusedSlotsAreUnread = (d : Disk) → IsValid d → (slot : ℕ) → directs d.geometry ≤ slot → slot < slots d.geometry → ((r : Row) → Contains (rows d) r → r.slot ≢ slot)
-    → (field v : ℕ) → field < 8 → DiskSays d (slot_word d.geometry slot field) v → ⊥
+    → IsUnread d (slot_word d.geometry slot 0) 8
 
--- of a direct slot that no row has, the page and next words are read alone
+-- of a direct slot that no row has, nothing is said of words 1 to 4
 abbrev pub ClosedSlotsAreUnread : Type 0
 ClosedSlotsAreUnread = (d : Disk) → IsValid d → (slot : ℕ) → slot < directs d.geometry → ((r : Row) → Contains (rows d) r → r.slot ≢ slot)
-    → (field v : ℕ) → field < 8 → field ≢ 0 → field ≢ 5 → DiskSays d (slot_word d.geometry slot field) v → ⊥
+    → IsUnread d (slot_word d.geometry slot 1) 4
+
+-- a prefix is the number of a direct slot
+abbrev pub PrefixesAreDirect : Type 0
+PrefixesAreDirect = (g : Geometry) (print : List ℕ) → length print ≡ 20 → All (λ b. b < 256) print → prefix_of g print < directs g
+
+-- a row stands in the chain of its prefix, in the direct slot or an indirect one
+pub record StandsInChain (d : Disk) (prefix : ℕ) (row : Row) : Type 0 where
+  pub direct : prefix < directs d.geometry
+  pub prefix_is : prefix_of d.geometry row.print ≡ prefix
+  pub listed : Contains (d.chain prefix) row
+  pub slot : (row.slot ≡ prefix) ⊎ ((directs d.geometry ≤ row.slot) × (row.slot < slots d.geometry))
+
+abbrev pub RowsStandInChains : Type 0
+RowsStandInChains = (d : Disk) → IsValid d → (row : Row) → Contains (rows d) row → StandsInChain d (prefix_of d.geometry row.print) row
+
+-- and all that stand there are rows
+abbrev pub ChainsHoldRows : Type 0
+ChainsHoldRows = (d : Disk) → IsValid d → (prefix : ℕ) (row : Row) → prefix < directs d.geometry → Contains (d.chain prefix) row
+    → Contains (rows d) row × (prefix_of d.geometry row.print ≡ prefix)
 
 -- the row of this chain may go: its page is mapped once at most
 pub record MayRemove (d : Disk) (prefix : ℕ) (row : Row) : Type 0 where
