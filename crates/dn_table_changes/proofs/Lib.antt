@@ -16,3 +16,5 @@ pub mod Taken
 pub mod Removed
 pub mod UnusedSlots
 pub mod Mappings
+pub mod PutPointers
+pub mod Balanced

@@ -73,7 +73,7 @@ module _ (d : Disk) (prefix : ℕ) (row : Row) (may : MayPut d prefix row) where
 
   module _ (own_slot : row.slot ≡ prefix) where
     others : AreElsewhere prefix (d.chain prefix)
-    others = all_listed (λ (r : Row). r.slot ≢ prefix) (d.chain prefix) (λ r has e. may.new_slot r (in_table d prefix r (put_direct d prefix row may) has) (e ∙ sym own_slot))
+    others = all_listed (λ (r : Row). r.slot ≢ prefix) (d.chain prefix) (λ r has e. may.new_row.new_slot r (in_table d prefix r (put_direct d prefix row may) has) (e ∙ sym own_slot))
 
     place : (k : ℕ) (r : Row) → slice_get (row ∷ d.chain prefix) k ≡ Some r → IsRow d.geometry prefix k r
     place zero r is = let same : row ≡ r = cc in subst (IsRow d.geometry prefix 0) same (fits_at d prefix row may 0 (inl (own_slot, refl)))

@@ -23,28 +23,28 @@ use Rattle.dn_table_changes.proofs.TableOwn.{own_kept, exact_kept}
 
 module _ (d : Disk) (prefix : ℕ) (row : Row) (may : MayPut d prefix row) where
   pub put_direct : prefix < directs d.geometry
-  put_direct = subst (λ (p : ℕ). p < directs d.geometry) may.prefix_is (prefix_small d.geometry row.print may.twenty may.bytes)
+  put_direct = subst (λ (p : ℕ). p < directs d.geometry) may.new_row.prefix_is (prefix_small d.geometry row.print may.new_row.twenty may.new_row.bytes)
 
   -- the page has no row, and one mapping
   no_row : IsNone (row_of (rows d) row.page)
-  no_row = none_found (rows d) row.page may.new_page
+  no_row = none_found (rows d) row.page may.new_row.new_page
 
   mapped_once : mappings d row.page ≡ 1
-  mapped_once = omega (arith, mapped_counts d row.page may.mapped, may.valid.single.unshared row.page no_row)
+  mapped_once = omega (arith, mapped_counts d row.page may.new_row.mapped, may.valid.single.unshared row.page no_row)
 
   near_row : IsNear d row
-  near_row = (omega (arith, mapped_once, may.some), omega (arith, mapped_once, may.few))
+  near_row = (omega (arith, mapped_once, may.new_row.some), omega (arith, mapped_once, may.new_row.few))
 
   -- the row may stand at each place of its chain that fits its slot
   pub fits_at : (k : ℕ) → ((row.slot ≡ prefix) × (k ≡ 0)) ⊎ ((directs d.geometry ≤ row.slot) × (row.slot < slots d.geometry)) → IsRow d.geometry prefix k row
   fits_at k place = record {
     place = place;
-    data_page = read_in_data d may.valid row.page (inl may.mapped);
-    twenty = may.twenty;
-    bytes = may.bytes;
-    prefix = may.prefix_is;
-    rfc = may.rfc_fits;
-    uc = may.uc_fits;
+    data_page = read_in_data d may.valid row.page (inl may.new_row.mapped);
+    twenty = may.new_row.twenty;
+    bytes = may.new_row.bytes;
+    prefix = may.new_row.prefix_is;
+    rfc = may.new_row.rfc_fits;
+    uc = may.new_row.uc_fits;
   }
 
 module _ (d : Disk) (prefix : ℕ) (row : Row) (may : MayPut d prefix row) (chain : ℕ → List Row) (same : (p : ℕ) → p ≢ prefix → chain p ≡ d.chain p) (put : IsPut row (d.chain prefix) (chain prefix)) where
@@ -60,7 +60,7 @@ module _ (d : Disk) (prefix : ℕ) (row : Row) (may : MayPut d prefix row) (chai
     here = put_row row (rows d) news rows_put;
     kept = put_kept row (rows d) news rows_put;
     only = put_listed row (rows d) news rows_put;
-    found = put_found row (rows d) news rows_put may.new_page;
+    found = put_found row (rows d) news rows_put may.new_row.new_page;
   }
 
   each : (P : Row → Type 0) → P row → All P (rows d) → All P news
@@ -72,16 +72,16 @@ module _ (d : Disk) (prefix : ℕ) (row : Row) (may : MayPut d prefix row) (chai
 
   log_no_row : (page : ℕ) → IsLogPage d page → IsNone (row_of news page)
   log_no_row page p = none_found news page (λ r has e. ⊎_elim
-      (λ (at_row : r ≡ row). may.valid.single.log_unmapped page p (subst (IsMapped d) (sym (ap (λ (x : Row). x.page) at_row) ∙ e) may.mapped))
+      (λ (at_row : r ≡ row). may.valid.single.log_unmapped page p (subst (IsMapped d) (sym (ap (λ (x : Row). x.page) at_row) ∙ e) may.new_row.mapped))
       (λ (old : Contains (rows d) r). none_listed (rows d) page (may.valid.single.log_no_row page p) r old e) (put_listed row (rows d) news rows_put r has))
 
   pub is_table : ((k : ℕ) (r : Row) → slice_get (chain prefix) k ≡ Some r → IsRow d.geometry prefix k r) → IsTable d chain d.pointer
   is_table own = record {
     table = table;
     rows_apart = record {
-      slot = put_distinct (λ (r : Row). r.slot) row (rows d) news rows_put may.valid.rows_apart.slot may.new_slot;
-      print = put_distinct (λ (r : Row). r.print) row (rows d) news rows_put may.valid.rows_apart.print may.new_print;
-      page = put_distinct (λ (r : Row). r.page) row (rows d) news rows_put may.valid.rows_apart.page may.new_page;
+      slot = put_distinct (λ (r : Row). r.slot) row (rows d) news rows_put may.valid.rows_apart.slot may.new_row.new_slot;
+      print = put_distinct (λ (r : Row). r.print) row (rows d) news rows_put may.valid.rows_apart.print may.new_row.new_print;
+      page = put_distinct (λ (r : Row). r.page) row (rows d) news rows_put may.valid.rows_apart.page may.new_row.new_page;
     };
     pointers = may.valid.pointers;
     leads = each (λ (r : Row). d.pointer r.page ≡ r.slot + 1) may.leads may.valid.leads;
@@ -100,7 +100,7 @@ module _ (d : Disk) (prefix : ℕ) (row : Row) (may : MayPut d prefix row) (chai
   pub read_before : (page : ℕ) → IsSome (row_of news page) → IsReadPage d page
   read_before page some =
       let found = row_listed news page some in
-      ⊎_elim (λ (e : found.0 ≡ row). inl (subst (IsMapped d) (sym (ap (λ (x : Row). x.page) e) ∙ found.2) may.mapped))
+      ⊎_elim (λ (e : found.0 ≡ row). inl (subst (IsMapped d) (sym (ap (λ (x : Row). x.page) e) ∙ found.2) may.new_row.mapped))
       (λ (old : Contains (rows d) found.0). inr (subst (λ (p : ℕ). IsSome (row_of (rows d) p)) found.2 (row_found (rows d) found.0 old))) (put_listed row (rows d) news rows_put found.0 found.1)
 
   pub put_exact : row.rfc ≡ 1 → row.uc ≡ 0 → Exact d → Exact (with_table d chain d.pointer)

@@ -245,6 +245,9 @@ module _ (d : Disk) (prefix : ℕ) (row : Row) (may : MayRemove d prefix row) wh
         near = left d row may.valid listed (IsNear d) may.valid.near;
       }
 
+  pub remove_valid : IsValid (removed d row.slot)
+  remove_valid = table_valid d chain' d.pointer may.valid is_table
+
   pub remove_exact : OthersAreExact d row.slot → Exact (removed d row.slot)
   remove_exact others = exact_kept d chain' d.pointer
       (all_listed (IsExact d) (rows (removed d row.slot)) (λ r has. ⊎_elim (λ (e : r.slot ≡ row.slot). absurd (other_slot d row may.valid listed r has e)) (λ exact. exact)
@@ -272,7 +275,7 @@ module _ (d : Disk) (prefix : ℕ) (row : Row) (may : MayRemove d prefix row) wh
       record {
         geometry = refl;
         old_valid = may.valid;
-        new_valid = table_valid d chain' d.pointer may.valid is_table;
+        new_valid = remove_valid;
         inside = omega (arith, high, may.valid.accepted.room);
         said = said;
         differs = table_differs d may.valid chain' d.pointer (slot_word d.geometry s i) value 0 [] (omega arith) high

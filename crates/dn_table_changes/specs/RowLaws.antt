@@ -1,5 +1,5 @@
 -- Laws of rows that come into the table and go: one word of it each.
-use Rattle.std.specs.Prelude.{◌≡◌, ◌≢◌, ◌⊎◌, ℕ, ◌+◌, ◌^◌, ◌<◌, ◌≤◌, if◌then◌else◌, ◌==◌, List, [], ◌∷◌, length, All, Contains, Some, None}
+use Rattle.std.specs.Prelude.{◌≡◌, ◌≢◌, ◌⊎◌, ℕ, ◌+◌, ◌^◌, ◌<◌, ◌≤◌, if◌then◌else◌, ◌==◌, List, [], ◌∷◌, length, All, Contains, Some, None, IsNone}
 use Rattle.pm_layout.specs.declared.Geometry.{Geometry}
 use Rattle.pm_layout.specs.Geometry.{directs, slots, slot_word}
 use Rattle.dn_model.specs.Maps.{Mapping}
@@ -9,14 +9,14 @@ use Rattle.dn_model.specs.Counts.{mappings, Exact}
 use Rattle.dn_model.specs.Valid.{IsValid}
 use Rattle.dn_model.specs.Own.{Print, page_bytes, LivePlace, IsAlone, IsOwn}
 use Rattle.log_entry.specs.declared.item.Flag.TheVariants.{Complete}
-use Rattle.dn_table_changes.specs.Changes.{opened, linked, removed, slot_before, slot_after}
+use Rattle.dn_table_changes.specs.Changes.{repointed, opened, linked, removed, slot_before, slot_after}
 use Rattle.dn_table_changes.specs.OneWord.{IsOneWord, IsUnread}
+use Rattle.dn_table_changes.specs.PointerLaws.{MayRepoint}
 use Rattle.dn_table_changes.specs.CountLaws.{OthersAreExact}
 
--- The row may come into the chain of this prefix: its slot, print and page are no other row's, a file maps its
--- page, the page's pointer leads to it already, and its counts say the one mapping of its page.
-pub record MayPut (d : Disk) (prefix : ℕ) (row : Row) : Type 0 where
-  pub valid : IsValid d
+-- A row that may come into the table: its slot, print and page are no other row's, a file maps its page, and its
+-- counts tell that one mapping.
+pub record IsNewRow (d : Disk) (prefix : ℕ) (row : Row) : Type 0 where
   pub twenty : length row.print ≡ 20
   pub bytes : All (λ b. b < 256) row.print
   pub prefix_is : prefix_of d.geometry row.print ≡ prefix
@@ -25,10 +25,23 @@ pub record MayPut (d : Disk) (prefix : ℕ) (row : Row) : Type 0 where
   pub some : 1 ≤ row.rfc + row.uc
   pub few : row.rfc ≤ 1 + row.uc
   pub mapped : IsMapped d row.page
-  pub leads : d.pointer row.page ≡ row.slot + 1
   pub new_slot : (r : Row) → Contains (rows d) r → r.slot ≢ row.slot
   pub new_print : (r : Row) → Contains (rows d) r → r.print ≢ row.print
   pub new_page : (r : Row) → Contains (rows d) r → r.page ≢ row.page
+
+-- it comes in once the page's pointer leads to it
+pub record MayPut (d : Disk) (prefix : ℕ) (row : Row) : Type 0 where
+  pub valid : IsValid d
+  pub new_row : IsNewRow d prefix row
+  pub leads : d.pointer row.page ≡ row.slot + 1
+
+-- the pointer may lead to the slot of a row that isn't there yet, and then the row may come in
+abbrev pub NewRowMayPoint : Type 0
+NewRowMayPoint = (d : Disk) (prefix : ℕ) (row : Row) → IsValid d → IsNewRow d prefix row → row.slot < slots d.geometry → MayRepoint d row.page (row.slot + 1)
+
+abbrev pub PointedRowMayPut : Type 0
+PointedRowMayPut = (d : Disk) (prefix : ℕ) (row : Row) → IsValid d → IsNewRow d prefix row → row.slot < slots d.geometry
+    → MayPut (repointed d row.page (row.slot + 1)) prefix row
 
 -- words 1 to 4 of a slot, which stand before the page word opens it
 abbrev pub opened_words : Row → List ℕ
@@ -120,6 +133,13 @@ CloseIsOneWord = (d : Disk) (prefix : ℕ) (row : Row) → MayRemove d prefix ro
 abbrev pub UnlinkIsOneWord : Type 0
 UnlinkIsOneWord = (d : Disk) (prefix : ℕ) (row : Row) → MayRemove d prefix row → row.slot ≢ prefix
     → IsOneWord d (removed d row.slot) 0 [] (slot_word d.geometry (slot_before prefix (d.chain prefix) row.slot) 5) (slot_after (d.chain prefix) row.slot)
+
+-- the pointer of its page may be cleared then, as that of each page without a row
+abbrev pub RemovedRowMayClear : Type 0
+RemovedRowMayClear = (d : Disk) (prefix : ℕ) (row : Row) → MayRemove d prefix row → MayRepoint (removed d row.slot) row.page 0
+
+abbrev pub StalePointersMayClear : Type 0
+StalePointersMayClear = (d : Disk) (page : ℕ) → IsValid d → page < d.geometry.pages → IsNone (row_of (rows d) page) → MayRepoint d page 0
 
 -- the rows are those of before without this one
 pub record TakesRow (row : Row) (olds news : List Row) : Type 0 where

@@ -1,6 +1,7 @@
 //! Laws of single changes of the table of fingerprints.
 #![tactic(auto)]
 
+pub mod balance;
 pub mod counted;
 pub mod counts;
 pub mod one_word;

@@ -1,7 +1,7 @@
 //! Laws of rows that come into the table and go.
 //!
 //! Each function states laws of all disks; it does nothing.
-ghost use Rattle.dn_table_changes.specs.RowLaws.{OpenIsOneWord, OpenPutsRow, OpenStaysExact, OpenStaysOwn, LinkIsOneWord, LinkPutsRow, LinkStaysExact, LinkStaysOwn, UnusedSlotsAreUnread, ClosedSlotsAreUnread, PrefixesAreDirect, RowsStandInChains, ChainsHoldRows, CloseIsOneWord, UnlinkIsOneWord, RemoveTakesRow, RemoveMakesExact, RemoveStaysOwn};
+ghost use Rattle.dn_table_changes.specs.RowLaws.{OpenIsOneWord, OpenPutsRow, OpenStaysExact, OpenStaysOwn, LinkIsOneWord, LinkPutsRow, LinkStaysExact, LinkStaysOwn, UnusedSlotsAreUnread, ClosedSlotsAreUnread, PrefixesAreDirect, RowsStandInChains, ChainsHoldRows, NewRowMayPoint, PointedRowMayPut, RemovedRowMayClear, StalePointersMayClear, CloseIsOneWord, UnlinkIsOneWord, RemoveTakesRow, RemoveMakesExact, RemoveStaysOwn};
 
 /// A row comes into a direct slot: its page word decides between two valid disks, and the rows are those of before
 /// and this one.
@@ -44,4 +44,13 @@ pub fn rows_stand_in_chains()
     ensures prefixes { PrefixesAreDirect }
     ensures listed { RowsStandInChains }
     ensures held { ChainsHoldRows }
+{}
+
+/// The pointer of a page may lead to the slot of a new row before the row comes in, and the row may come in then. It
+/// may be cleared once the row is gone, as that of each page without a row.
+pub fn pointers_go_with_rows()
+    ensures led { NewRowMayPoint }
+    ensures put { PointedRowMayPut }
+    ensures cleared { RemovedRowMayClear }
+    ensures stale { StalePointersMayClear }
 {}
