@@ -1,13 +1,11 @@
 -- Counts and mappings while updates are under way.
-use Rattle.std.proofs.Common.{◌≡◌, ℕ, ◌+◌, ◌-◌, ◌^◌, ◌<◌, ◌≤◌, Bool, true, List, refl, sym, ◌∙◌, ap, subst, arith}
-use Rattle.std.specs.Prelude.{if◌then◌else◌, ◌==◌, map, Contains, All}
-use Rattle.std.proofs.lemmas.List.Elements.{All-contains}
+use Rattle.std.proofs.Common.{◌≡◌, ℕ, ◌+◌, ◌-◌, ◌^◌, ◌<◌, ◌≤◌, Bool, true, refl, sym, ◌∙◌, ap, arith}
+use Rattle.std.specs.Prelude.{if◌then◌else◌, ◌==◌, map, Contains}
 use Rattle.dn_model.specs.Table.{Row}
 use Rattle.dn_model.specs.Disk.{Disk, rows}
 use Rattle.dn_model.specs.Counts.{mappings, IsNear}
 use Rattle.dn_model.specs.Valid.{IsValid, IsRow}
-use Rattle.dn_table_changes.specs.Changes.{recount, recounted}
-use Rattle.dn_table_changes.specs.CountLaws.{MayRecount}
+use Rattle.dn_table_changes.specs.Changes.{recount}
 use Rattle.dn_table_changes.specs.RowLaws.{IsNewRow}
 use Rattle.dn_table_changes.specs.MappingLaws.{AddsMapping}
 use Rattle.dn_table_changes.specs.BalanceLaws.{IsBalanced, RecountsBalanced}

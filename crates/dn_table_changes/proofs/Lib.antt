@@ -18,3 +18,4 @@ pub mod UnusedSlots
 pub mod Mappings
 pub mod PutPointers
 pub mod Balanced
+pub mod Remaps

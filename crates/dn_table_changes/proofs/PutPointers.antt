@@ -1,13 +1,12 @@
 -- Pointers around the coming and going of a row.
-use Rattle.std.proofs.Common.{◌≡◌, ◌≢◌, ◌⊎◌, inl, inr, ⊎_elim, ℕ, ◌+◌, ◌<◌, ◌≤◌, Bool, List, refl, sym, ◌∙◌, ap, subst, arith}
-use Rattle.std.specs.Prelude.{if◌then◌else◌, ◌==◌, IsNone, Contains}
+use Rattle.std.proofs.Common.{inl, inr, ℕ, ◌+◌, ◌<◌, Bool, List, refl, ap, subst, arith}
+use Rattle.std.specs.Prelude.{if◌then◌else◌, IsNone, Contains}
 use Rattle.pm_layout.specs.Geometry.{slots}
 use Rattle.dn_model.specs.Table.{Row, row_of}
 use Rattle.dn_model.specs.Disk.{Disk, rows}
 use Rattle.dn_model.specs.Valid.{IsValid}
 use Rattle.dn_changes.proofs.Unread.{read_in_data}
 use Rattle.dn_table_changes.specs.Changes.{repointed, removed}
-use Rattle.dn_table_changes.specs.OneWord.{IsOneWord}
 use Rattle.dn_table_changes.specs.PointerLaws.{MayRepoint}
 use Rattle.dn_table_changes.specs.RowLaws.{IsNewRow, MayPut, MayRemove}
 use Rattle.dn_table_changes.proofs.Rows.{same_test, none_listed, none_found, row_found}

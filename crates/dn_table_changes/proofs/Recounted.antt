@@ -21,12 +21,8 @@ use Rattle.dn_table_changes.proofs.TableValid.{IsTable, table_valid}
 use Rattle.dn_table_changes.proofs.TableOwn.{own_kept, exact_kept}
 use Rattle.dn_changes.proofs.Unread.{slot_word_low}
 use Rattle.dn_table_changes.proofs.TableRows.{of_chain, row_slot_small}
-use Rattle.dn_table_changes.proofs.Slots.{field_said}
+use Rattle.dn_table_changes.proofs.Slots.{slot_word_one, field_said}
 use Rattle.dn_table_changes.proofs.Rows.{same_test, other_test, all_listed, IsDistinct, mapped_at, map_listed, listed_map, distinct_map, distinct_same}
-
--- different slots have different words
-slot_word_one : (g : Geometry) (s t i j : ℕ) → i < 8 → j < 8 → slot_word g s i ≡ slot_word g t j → (s ≡ t) × (i ≡ j)
-slot_word_one g s t i j il jl e = (omega arith, omega arith)
 
 module _ (slot rfc uc : ℕ) where
   abbrev f : Row → Row

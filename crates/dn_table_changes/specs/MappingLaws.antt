@@ -1,10 +1,11 @@
 -- Laws of the number of mappings of a page, and how it moves when places of a file are mapped otherwise.
 use Rattle.std.specs.Prelude.{◌≡◌, ◌≢◌, ◌⊎◌, ℕ, ◌+◌, ◌<◌, ◌≤◌, Contains, Some, None, IsNone, option_map}
-use Rattle.dn_model.specs.Maps.{Mapping}
+use Rattle.dn_model.specs.Maps.{Mapping, size_of}
 use Rattle.dn_model.specs.Table.{Row, row_of}
-use Rattle.dn_model.specs.Disk.{Disk, MapsTo, IsMapped, maps, rows}
+use Rattle.dn_model.specs.Disk.{Disk, Dying, MapsTo, IsMapped, maps, rows}
 use Rattle.dn_model.specs.Counts.{total, hit, mappings, IsFree, IsNear, Near}
 use Rattle.dn_model.specs.Valid.{IsValid}
+use Rattle.dn_changes.specs.Writing.{Writes}
 
 -- the places of an inode that are mapped to the page
 abbrev pub places : Disk → ℕ → ℕ → ℕ
@@ -87,3 +88,31 @@ UnmappedRowPageIsFree = (d : Disk) (row : Row) → IsValid d → Contains (rows 
 -- a mapped page without a row has one mapping
 abbrev pub PageWithoutRowIsMappedOnce : Type 0
 PageWithoutRowIsMappedOnce = (d : Disk) (page : ℕ) → IsValid d → IsNone (row_of (rows d) page) → IsMapped d page → mappings d page ≡ 1
+
+-- a write maps places of its inode alone
+abbrev pub WritesRemapTheirInode : Type 0
+WritesRemapTheirInode = (ino : ℕ) (old new : Disk) → Writes ino old new → RemapsInode ino old new
+
+-- and of one place that place alone, where the size doesn't fall
+abbrev pub OnePlaceWritesRemapIt : Type 0
+OnePlaceWritesRemapIt = (ino : ℕ) (old new : Disk) (w : Writes ino old new) → w.n ≡ 1 → w.first < 4096 → size_of (old.inode ino).log ≤ w.size → RemapsPlace ino w.first old new
+
+-- The cut of a dying inode falls from k to c, the greatest place that was mapped.
+pub record LowersCut (ino c k : ℕ) (old new : Disk) : Type 0 where
+  pub inodes : new.geometry.inodes ≡ old.geometry.inodes
+  pub in_table : ino < old.geometry.inodes
+  pub others : (i : ℕ) → i ≢ ino → new.inode i ≡ old.inode i
+  pub same_log : (new.inode ino).log ≡ (old.inode ino).log
+  pub was : (old.inode ino).use_of ≡ Dying k
+  pub now : (new.inode ino).use_of ≡ Dying c
+  pub below : c < k
+  pub in_file : c < 4096
+  pub greatest : (j : ℕ) → c < j → maps old ino j ≡ None
+
+-- that place is no more mapped, and no other differs
+pub record UnmapsPlace (ino idx : ℕ) (old new : Disk) : Type 0 where
+  pub remaps : RemapsPlace ino idx old new
+  pub gone : maps new ino idx ≡ None
+
+abbrev pub LoweredCutsUnmap : Type 0
+LoweredCutsUnmap = (ino c k : ℕ) (old new : Disk) → LowersCut ino c k old new → UnmapsPlace ino c old new

@@ -1,7 +1,7 @@
 //! Laws of the number of mappings of a page.
 //!
 //! Each function states laws of all disks; it does nothing.
-ghost use Rattle.dn_table_changes.specs.MappingLaws.{MappedPagesCount, OneMappingIsOnePlace, InodeMovesMappings, PlaceMovesMappings, PlaceIsMapped, PlaceIsUnmapped, PlaceIsMappedOver, BlocksTellMappings, NearStays, RowCountsTell, UnmappedRowPageIsFree, PageWithoutRowIsMappedOnce};
+ghost use Rattle.dn_table_changes.specs.MappingLaws.{MappedPagesCount, OneMappingIsOnePlace, InodeMovesMappings, PlaceMovesMappings, PlaceIsMapped, PlaceIsUnmapped, PlaceIsMappedOver, BlocksTellMappings, NearStays, RowCountsTell, UnmappedRowPageIsFree, PageWithoutRowIsMappedOnce, WritesRemapTheirInode, OnePlaceWritesRemapIt, LoweredCutsUnmap};
 
 /// A page is mapped exactly if it has a mapping; where it has one alone, one place is on it. Where each place stays
 /// on its page no number moves.
@@ -27,4 +27,12 @@ pub fn rows_tell_mappings()
     ensures counts { RowCountsTell }
     ensures freed { UnmappedRowPageIsFree }
     ensures unshared { PageWithoutRowIsMappedOnce }
+{}
+
+/// Which places change: those of its inode at a write, the one place at a write of one, and the greatest that is
+/// mapped where the cut of a dying inode falls to it.
+pub fn changes_remap_places()
+    ensures written { WritesRemapTheirInode }
+    ensures one_place { OnePlaceWritesRemapIt }
+    ensures cut { LoweredCutsUnmap }
 {}
