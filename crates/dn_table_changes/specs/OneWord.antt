@@ -1,5 +1,5 @@
 -- A change of a disk that one store decides.
-use Rattle.std.specs.Prelude.{◌≡◌, ◌⊎◌, ℕ, ◌+◌, ◌*◌, ◌/◌, ◌<◌, ◌≤◌, List, [], ◌++◌, length}
+use Rattle.std.specs.Prelude.{◌≡◌, ◌≢◌, ◌⊎◌, ℕ, ◌+◌, ◌*◌, ◌/◌, ◌<◌, ◌≤◌, List, [], ◌++◌, length, slice_index}
 use Rattle.pm_device.specs.State.{State, Agree}
 use Rattle.pm_device.specs.Settled.{IsSettled, LeavesOnly, StoresOnly}
 use Rattle.pm_device.specs.Reading.{Said, Stands, IsReady, DiffersAt}
@@ -25,6 +25,17 @@ abbrev pub OneWordLeavesOldOrNew : Type 0
 OneWordLeavesOldOrNew = (old new : Disk) (first : ℕ) (fresh : List ℕ) (at value : ℕ) → IsOneWord old new first fresh at value
     → (who : ℕ) (s t : State) → Agree t.now t.past → length t.now ≡ 512 * old.geometry.pages → Stands (DiskSays old) s → IsReady who (SaysRun first fresh) s
     → LeavesOnly s t (IsCommitted who at value s) → LeavesOnly s t (λ c. StandsFor c old ⊎ StandsFor c new)
+
+-- a stop leaves the word old or new, and what was settled as it was, whatever becomes of what was flushed
+pub record LeavesOneWord (at value : ℕ) (s : State) (c : List ℕ) : Type 0 where
+  pub word : (slice_index c at ≡ slice_index s.now at) ⊎ (slice_index c at ≡ value)
+  pub others : (a : ℕ) → a < length s.now → IsSettled s a → a ≢ at → slice_index c a ≡ slice_index s.now a
+
+-- where no word is fresh that is enough, so that the word needs no fence before its store
+abbrev pub OneWordInAnyOrder : Type 0
+OneWordInAnyOrder = (old new : Disk) (first at value : ℕ) → IsOneWord old new first [] at value
+    → (s t : State) → Agree t.now t.past → length t.now ≡ 512 * old.geometry.pages → Stands (DiskSays old) s
+    → LeavesOnly s t (LeavesOneWord at value s) → LeavesOnly s t (λ c. StandsFor c old ⊎ StandsFor c new)
 
 -- once it is stored, flushed and fenced, the device stands for the disk of after
 abbrev pub OneWordStands : Type 0

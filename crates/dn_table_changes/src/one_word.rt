@@ -1,13 +1,15 @@
 //! What one store decides, and what no change of the table touches.
 //!
 //! Each function states a law of all disks; it does nothing.
-ghost use Rattle.dn_table_changes.specs.OneWord.{OneWordLeavesOldOrNew, OneWordStands, OneWordMayCommit, HeldRunIsReady, StoredRunIsReady, FrontIsReady, ReadyThroughCommit, NothingIsReady, UnreadStoresStand, UnreadStoresLeaveSame};
+ghost use Rattle.dn_table_changes.specs.OneWord.{OneWordLeavesOldOrNew, OneWordStands, OneWordInAnyOrder, OneWordMayCommit, HeldRunIsReady, StoredRunIsReady, FrontIsReady, ReadyThroughCommit, NothingIsReady, UnreadStoresStand, UnreadStoresLeaveSame};
 ghost use Rattle.dn_table_changes.specs.Keeping.{TableChangesKeepFiles};
 
 /// Where one word decides between two valid disks, each image that a stop may leave while it is stored stands for
 /// one of them, and the device stands for the new one once it is fenced. Before it is stored the word is settled.
+/// Where no other word is new, images stand for one of them whatever becomes of what was flushed before.
 pub fn one_word_decides()
     ensures images { OneWordLeavesOldOrNew }
+    ensures any_order { OneWordInAnyOrder }
     ensures stands { OneWordStands }
     ensures may_commit { OneWordMayCommit }
 {}
