@@ -9,10 +9,8 @@ pub mod WriteCounts
 pub mod WriteValid
 pub mod WriteFree
 pub mod WrittenDisk
-pub mod OpenDirect
 pub mod WriteBytes
 pub mod WriteFiles
 pub mod WriteOwn
 pub mod WriteEvent
-pub mod Recount
 pub mod Unread

@@ -1,0 +1,14 @@
+use Rattle.dn_table_changes.proofs.OneWord.{one_word_images, one_word_any_order, one_word_stands, one_word_may_commit}
+use Rattle.dn_table_changes.proofs.one_word.one_word_decides.Goals as goal
+
+pub returns-clause-images : goal.returns-clause-images
+returns-clause-images c = one_word_images
+
+pub returns-clause-any_order : goal.returns-clause-any_order
+returns-clause-any_order c = λ old new first at value is s t agree size stands. one_word_any_order old new first at value is s stands t agree size
+
+pub returns-clause-stands : goal.returns-clause-stands
+returns-clause-stands c = one_word_stands
+
+pub returns-clause-may_commit : goal.returns-clause-may_commit
+returns-clause-may_commit c = one_word_may_commit

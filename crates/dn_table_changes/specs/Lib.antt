@@ -1,0 +1,8 @@
+pub mod Changes
+pub mod OneWord
+pub mod Keeping
+pub mod CountLaws
+pub mod PointerLaws
+pub mod RowLaws
+pub mod MappingLaws
+pub mod BalanceLaws

@@ -1,0 +1,8 @@
+//! Laws of single changes of the table of fingerprints.
+#![tactic(auto)]
+
+pub mod balance;
+pub mod counted;
+pub mod counts;
+pub mod one_word;
+pub mod row_changes;
