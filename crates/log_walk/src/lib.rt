@@ -2,6 +2,7 @@
 #![tactic(auto)]
 
 pub mod items;
+pub mod laws;
 pub mod log;
 pub mod pages;
 pub mod slots;
