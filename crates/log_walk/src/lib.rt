@@ -9,3 +9,6 @@ pub mod slots;
 
 pub use items::Placed;
 pub use log::{WalkFault, walk};
+
+#[cfg(test)]
+mod tests;
