@@ -7,3 +7,6 @@ pub mod prepare;
 
 pub use flag::{set_flag, set_mask};
 pub use log::commit_log;
+
+#[cfg(test)]
+mod tests;
