@@ -1,9 +1,10 @@
--- Runs of pages of the image lie in the image, and those of places of a file in the file.
+-- Runs of pages of the image lie in the image, and those of places of a file in the file; so their items are spelled.
 use Rattle.std.proofs.Common.{ℕ, ◌+◌, ◌-◌, ◌<◌, ◌≤◌, List, [], ◌∷◌, length, sym, subst, arith}
 use Rattle.std.specs.Prelude.{All}
 use Rattle.std.proofs.lemmas.List.Elements.{All-nil, All-cons}
-use Rattle.dn_changes.specs.Runs.{places_in, block_at, IsChained}
-use Rattle.dn_changes.proofs.RunItems.{block_at-here, block_at-later}
+use Rattle.log_entry.specs.Spelling.{IsSpelled, pages_of}
+use Rattle.dn_changes.specs.Runs.{run_items, places_in, block_at, IsChained}
+use Rattle.dn_changes.proofs.RunItems.{block_at-here, block_at-later, runs-spelled}
 use Rattle.file_content.specs.declared.runs.Run.{Run}
 use Rattle.file_content.specs.Runs.{seen, all_seen}
 use Rattle.file_content.specs.Slots.{IsCutInto}
@@ -32,3 +33,7 @@ module _ (first n : ℕ) (pages : List ℕ) (runs : List Run) (cut : IsCutInto f
   pub cut-in_image : All (λ page. page < n) pages → All (λ run. run.block + run.count ≤ n) runs
   cut-in_image all = blocks_below n first runs cut.chained
       (λ i lt. let within : i < length pages = omega (arith, lt, cut.places) in subst (λ (b : ℕ). b < n) (sym (cut.blocks i within)) (all i 0 within))
+
+  -- their items are within the ranges of their spelling
+  pub cut-spelled : (size : ℕ) → first + length pages ≤ pages_of size → size ≤ 16777216 → All IsSpelled (run_items (all_seen runs) size)
+  cut-spelled size inside small = runs-spelled size (all_seen runs) first cut.chained (omega (arith, inside, cut.places)) small
