@@ -17,3 +17,6 @@ use std::alloc::AllocError;
 
 /// Memory is wanting.
 pub type NoMemory = AllocError;
+
+#[cfg(test)]
+mod tests;
