@@ -1,8 +1,8 @@
 // Pages cut into runs, and a small file on a device of 64 pages, with all bytes and slots written down by hand.
-ghost use Rattle.std.specs.Prelude.{◌≡◌, IfOk};
+ghost use Rattle.std.specs.Prelude.{◌≡◌, ◌≤◌, length, IfOk};
 ghost use Rattle.file_content.specs.Content.{AreBlocksIn};
 
-use crate::{FILL_UNITS, fill_places, read_bytes, write_slots};
+use crate::{FILL_UNITS, cut_into_runs, fill_places, read_bytes, run_slots};
 use file_index::{Mapping, PageMap};
 use pm_device::{MemPm, Pm};
 use pm_layout::Geometry;
@@ -10,11 +10,20 @@ use std::alloc::{AllocError, Global};
 use std::test::Fail;
 
 // The first place of a run, its number of pages, and its first page.
-type Run = (u64, u64, u64);
+type Cut = (u64, u64, u64);
+
+// The slots of the runs that these pages are cut into, from place 7 of a file of 16 pages on.
+fn slots_of(alloc: Global, pages: &[u64]) -> Result<Vec<[u64; 8]>, AllocError>
+    requires some { 1 ≤ length pages.now }
+    requires few { length pages.now ≤ 9 }
+{
+    let runs = cut_into_runs(alloc, 7, pages)?;
+    run_slots(alloc, &runs, 65536)
+}
 
 #[test]
 fn cuts_pages_into_runs(rt: HostRuntime) -> Result<(), Fail> {
-    let rows: [(&[u64], &[Run]); 5] = [
+    let rows: [(&[u64], &[Cut]); 5] = [
         (&[40], &[(7, 1, 40)]),
         (&[40, 41, 42], &[(7, 3, 40)]),
         (&[41, 40], &[(7, 1, 41), (8, 1, 40)]),
@@ -23,7 +32,7 @@ fn cuts_pages_into_runs(rt: HostRuntime) -> Result<(), Fail> {
     ];
     for (pages, runs) in rows {
         assert!(rt; !pages.is_empty() && pages.len() <= 9);
-        let slots = write_slots(rt.alloc(), 7, pages, 65536)?;
+        let slots = slots_of(rt.alloc(), pages)?;
         assert_eq!(rt; slots.len(), runs.len());
         for (slot, run) in slots.iter().zip(runs) {
             assert_eq!(rt; *slot, [1, run.0, run.1, run.2, 65536, 1, 0, 0]);
