@@ -40,7 +40,7 @@ filled-stores s t block page old place at text differ only filled = record {
 
 module _ (g : Geometry) (who : ℕ) (map : FinMap nat_cmp Mapping) (size first at : ℕ) (text pages : List ℕ) where
   -- a disk that uses none of the pages stands while they are stored to
-  still_stands : (d : Disk) → IsValid d → ((i : ℕ) → i < length pages → IsUnused d (slice_index pages i)) → (s t : State) → StoresOnly (IsInPages pages) s t → Stands (DiskSays d) s → Stands (DiskSays d) t
+  pub still_stands : (d : Disk) → IsValid d → ((i : ℕ) → i < length pages → IsUnused d (slice_index pages i)) → (s t : State) → StoresOnly (IsInPages pages) s t → Stands (DiskSays d) s → Stands (DiskSays d) t
   still_stands d valid unused s t only stands =
       stands-stores (IsInPages pages) s t only (DiskSays d) (λ a v says here. unused_unsaid d valid (slice_index pages here.i) (unused here.i here.below) a v here.in_page says) stands
 

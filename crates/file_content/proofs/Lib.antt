@@ -3,7 +3,8 @@ pub mod FileBytes
 pub mod Filling
 pub mod Appending
 pub mod FillSteps
+pub mod Blocks
 pub mod Remapping
 pub mod Spelling
 pub mod Freeing
-pub mod Blocks
+pub mod RunBounds

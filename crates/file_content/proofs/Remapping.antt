@@ -8,6 +8,7 @@ use Rattle.std.proofs.lemmas.Bool.{cases_lt}
 use Rattle.std.proofs.lemmas.Bool.Decides.{nat_tests}
 use Rattle.std.proofs.lemmas.List.{drop_more, drop_all}
 use Rattle.log_entry.specs.Spelling.{spelling, pages_of}
+use Rattle.log_entry.specs.declared.item.Flag.TheVariants.{Needed}
 use Rattle.pm_layout.specs.declared.Geometry.{Geometry}
 use Rattle.dn_model.specs.Log.{Log, IsPaged, count, tail_at, slot_name, Placed, placed_from}
 use Rattle.dn_model.specs.Maps.{Mapping as DiskMapping, mapping, mapped_after, remapped}
@@ -40,7 +41,7 @@ module _ (size slot : ℕ) (run : Run) (idx : ℕ) (m : Option DiskMapping) wher
   here = record { slot = slot; item = run_item size (seen run) }
 
   abbrev set_here : DiskMapping
-  set_here = record { block = run.block + (idx - run.first); slot = slot; bit = idx - run.first; flag = Rattle.log_entry.specs.declared.item.Flag.TheVariants.Needed; mask = 0 }
+  set_here = record { block = run.block + (idx - run.first); slot = slot; bit = idx - run.first; flag = Needed; mask = 0 }
 
   past_size : pages_of size ≤ idx → remapped idx m here ≡ None
   past_size le = ap (λ (b : Bool). if b then (if nat_le run.first idx && nat_lt idx (run.first + run.count) then Some set_here else m) else None) (past_test idx (pages_of size) le)

@@ -45,10 +45,10 @@ fn put_text(page: &mut [u8], start: u64, at: u64, text: &[u8])
 }
 
 /// Fills a page with the bytes of a place of a file, and with the part of a text that falls there once it is written
-/// from byte `at` on; flushes and fences. So what is read of the file must be read before. It takes no memory.
+/// from byte `at` on; flushes and fences. It stores to this page alone, takes no memory and `FILL_UNITS` of the device.
 ///
 /// # Errors
-/// `Failed` where the fence failed. The page is stored, and a stop may leave each word of it or the one before.
+/// `Failed` where the fence failed. The page is stored then, but a stop may leave each of its words as it was before.
 pub fn fill_place<D: Pm>(
     device: &mut D,
     g: &Geometry,
@@ -86,8 +86,8 @@ pub fn fill_place<D: Pm>(
 /// memory, and `FILL_UNITS` of the device for each page.
 ///
 /// # Errors
-/// `Failed` where a fence failed. Some of the pages are stored then, and a stop may leave each word of them or the one
-/// before.
+/// `Failed` where a fence failed. Some of the pages are stored then, but a stop may leave each word of the last of them
+/// as it was before.
 pub fn fill_places<D: Pm>(
     device: &mut D,
     g: &Geometry,

@@ -19,3 +19,6 @@ use std::alloc::AllocError;
 
 /// Memory is wanting.
 pub type NoMemory = AllocError;
+
+#[cfg(test)]
+mod tests;

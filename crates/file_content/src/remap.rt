@@ -71,7 +71,7 @@ fn map_run(map: &mut PageMap, run: &Run, slot: u64)
 
 /// Maps the places of runs to their pages, once the Write items of the runs stand in the log past this tail, one after
 /// another, where its page has room and then on the fresh pages. It takes no memory: the map has room for all places
-/// of the runs.
+/// of the runs. Each run lies within the 4,096 places that a file has and the 65,536 pages that an image has at most.
 pub fn map_runs(map: &mut PageMap, runs: &[Run], tail: u64, fresh: &[u64])
     requires room { places_in (all_seen runs.now) ≤ map.old.room }
     requires places { All (λ run. run.first + run.count ≤ 4096) runs.now }
