@@ -1,0 +1,8 @@
+use Rattle.dn_laws.proofs.Answered.{commute, answered_alike}
+use Rattle.dn_laws.proofs.replies.other_names.Goals as goal
+
+pub returns-clause-files : goal.returns-clause-files
+returns-clause-files c = commute
+
+pub returns-clause-replies : goal.returns-clause-replies
+returns-clause-replies c = answered_alike
