@@ -1,1 +1,3 @@
 pub mod Operations
+pub mod SameDisk
+pub mod Images

@@ -3,4 +3,5 @@
 //! Each function states a law; it does nothing.
 #![tactic(auto)]
 
+pub mod images;
 pub mod replies;

@@ -1,0 +1,9 @@
+use Rattle.dn_laws.proofs.SameMeaning.{means_the_same}
+use Rattle.dn_laws.proofs.OneImage.{map_one}
+use Rattle.dn_laws.proofs.images.one_meaning.Goals as goal
+
+pub returns-clause-disks : goal.returns-clause-disks
+returns-clause-disks c = means_the_same
+
+pub returns-clause-files : goal.returns-clause-files
+returns-clause-files c = map_one
