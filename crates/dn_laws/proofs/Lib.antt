@@ -1,6 +1,7 @@
 pub mod Listings
 pub mod Answered
 pub mod Sums
+pub mod Counted
 pub mod Ranges
 pub mod SameChain
 pub mod SameParts

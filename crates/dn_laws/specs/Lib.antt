@@ -1,3 +1,4 @@
 pub mod Operations
 pub mod SameDisk
 pub mod Images
+pub mod Counting

@@ -3,5 +3,6 @@
 //! Each function states a law; it does nothing.
 #![tactic(auto)]
 
+pub mod counts;
 pub mod images;
 pub mod replies;
