@@ -7,3 +7,5 @@ pub mod SameChain
 pub mod SameParts
 pub mod SameMeaning
 pub mod OneImage
+pub mod Parsing
+pub mod LogFaults
