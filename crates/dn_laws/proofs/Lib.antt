@@ -9,3 +9,5 @@ pub mod SameMeaning
 pub mod OneImage
 pub mod Parsing
 pub mod LogFaults
+pub mod TableWalks
+pub mod TableStops

@@ -11,7 +11,7 @@ use Rattle.dn_model.specs.Table.{Row, RowsSay, at_field, at_next, at_later, Chai
 use Rattle.dn_model.specs.Valid.{IsRow}
 use Rattle.dn_laws.specs.Images.{HasOneChain, AreRows}
 
-first_data_some : (g : Geometry) → 1 ≤ first_data g
+pub first_data_some : (g : Geometry) → 1 ≤ first_data g
 unfolding first_data
 first_data_some g = omega arith
 

@@ -82,7 +82,7 @@ module _ (c : List ℕ) (d e : Disk) where
         ∙ ap (λ (g : Geometry). slice_index c (pointer_word g page)) geometry
         ∙ re (pointer_word e.geometry page) (e.pointer page) (record { page = page; in_image = lt'; place = refl; value = refl })
 
-rows_from-same : (f g : ℕ → List Row) (p n : ℕ) → ((q : ℕ) → p ≤ q → q < p + n → f q ≡ g q) → rows_from f p n ≡ rows_from g p n
+pub rows_from-same : (f g : ℕ → List Row) (p n : ℕ) → ((q : ℕ) → p ≤ q → q < p + n → f q ≡ g q) → rows_from f p n ≡ rows_from g p n
 rows_from-same f g p zero same = refl
 rows_from-same f g p (suc n) same =
     let here : f p ≡ g p = same p (omega arith) (omega arith) in
