@@ -11,3 +11,5 @@ pub mod Parsing
 pub mod LogFaults
 pub mod TableWalks
 pub mod TableStops
+pub mod Stages
+pub mod OneFault

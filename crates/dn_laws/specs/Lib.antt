@@ -3,3 +3,4 @@ pub mod SameDisk
 pub mod Images
 pub mod Counting
 pub mod TableFaults
+pub mod FirstFaults

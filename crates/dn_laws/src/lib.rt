@@ -4,5 +4,6 @@
 #![tactic(auto)]
 
 pub mod counts;
+pub mod faults;
 pub mod images;
 pub mod replies;
