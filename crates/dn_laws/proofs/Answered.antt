@@ -1,11 +1,11 @@
 -- An operation has one reply, a history one end, and operations on other names may be done in either order.
-use Rattle.std.proofs.Common.{◌≡◌, ◌≢◌, ◌⊎◌, ◌↔◌, inl, inr, ⊎_elim, ℕ, zero, suc, ◌+◌, ◌<◌, ◌≤◌, Bool, true, false, List, [], ◌∷◌, ◌++◌, length, take, drop, refl, sym, ◌∙◌, ap, subst, arith, Option, Some, None}
+use Rattle.std.proofs.Common.{◌≡◌, ◌≢◌, ◌⊎◌, inl, inr, ⊎_elim, ℕ, Bool, true, false, List, [], ◌∷◌, ◌++◌, length, take, drop, refl, sym, ◌∙◌, ap, subst, Option, Some, None}
 use Rattle.std.specs.Prelude.{Contains, IsSome, if◌then◌else◌}
 use Rattle.std.proofs.lemmas.Bool.{cases_Bool}
 use Rattle.log_entry.specs.Name.{same_name}
 use Rattle.log_entry.proofs.SameName.{same_name-true, same_name-same}
 use Rattle.dn_model.specs.Files.{Files, IsSameFiles}
-use Rattle.dn_model.specs.Apply.{Replies, grants, bad_name, missed, too_long, too_big, Grants, IsGranted, IsListing, Finds, after_op, with_file, written, resized, bytes_or_none, names_of}
+use Rattle.dn_model.specs.Apply.{Replies, grants, bad_name, missed, too_long, too_big, Grants, IsGranted, Finds, after_op, with_file, written, resized, bytes_or_none, names_of}
 use Rattle.dn_model.specs.History.{Step, done, refused, no_inode, no_space, Legal}
 use Rattle.dn_model.specs.declared.op.Op.{Op}
 use Rattle.dn_model.specs.declared.op.Op.TheVariants.{Create, Write, Read, Cut, Remove, Rename, Size, List as ListAll}
@@ -15,7 +15,7 @@ use Rattle.dn_model.specs.declared.op.Reply.TheVariants.{Done, Bytes, Number, Na
 use Rattle.dn_model.specs.declared.op.Refusal.{Refusal}
 use Rattle.dn_model.specs.declared.op.Refusal.TheVariants.{BadName, TooLong, TooBig, NoInode, NoSpace}
 use Rattle.dn_model.specs.Apply.{miss}
-use Rattle.dn_laws.specs.Operations.{HasOneReply, IsGrantedOrRefused, IsOfFiles, HasOneEnd, IsLegalInParts, Commute, IsAnsweredAlike, IsRefusal, AreApart}
+use Rattle.dn_laws.specs.Operations.{HasOneReply, IsGrantedOrRefused, IsOfFiles, HasOneEnd, IsLegalInParts, Commute, IsAnsweredAlike, IsGrantedAlike, IsRefusal}
 use Rattle.dn_laws.proofs.Listings.{listing_one, here, later, none_listed, cons_cases}
 
 -- Replies.
@@ -229,3 +229,10 @@ pub answered_alike : IsAnsweredAlike
 answered_alike f p q apart ne reply =
     let same : AgreeOn (names_of q) (after_op f p) f = λ n in_q. frame f p n (λ in_p. apart n in_p in_q) in
     (replies_local f (after_op f p) q reply ne (back (names_of q) (after_op f p) f same), replies_local (after_op f p) f q reply ne same)
+
+pub granted_alike : IsGrantedAlike
+granted_alike f p q apart =
+    let same : AgreeOn (names_of q) (after_op f p) f = λ n in_q. frame f p n (λ in_p. apart n in_p in_q) in (
+      (λ gr. record { legal = gr.legal; finds = finds_local f (after_op f p) q (back (names_of q) (after_op f p) f same) gr.finds; short = gr.short; fits = gr.fits }),
+      (λ gr. record { legal = gr.legal; finds = finds_local (after_op f p) f q same gr.finds; short = gr.short; fits = gr.fits }),
+    )

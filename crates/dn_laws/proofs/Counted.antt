@@ -1,12 +1,12 @@
 -- Counts of mappings and of free pages.
-use Rattle.std.proofs.Common.{◌≡◌, ◌≢◌, ◌⊎◌, ◌↔◌, inl, inr, ⊎_elim, ℕ, zero, suc, ◌+◌, ◌<◌, ◌≤◌, Bool, true, false, eqb, List, [], ◌∷◌, length, refl, sym, ◌∙◌, ap, subst, arith}
-use Rattle.std.specs.Prelude.{if◌then◌else◌, ◌==◌, Option, Some, None, AllPairs, Contains}
-use Rattle.std.proofs.lemmas.Bool.{cases_eq, eq-eqb, ne_eqb, cases_Bool, eqb-true}
+use Rattle.std.proofs.Common.{◌≡◌, ◌≢◌, inl, inr, ℕ, ◌≤◌, Bool, List, length, refl, ◌∙◌, ap, arith}
+use Rattle.std.specs.Prelude.{if◌then◌else◌, Option, Some, None, AllPairs, Contains}
+use Rattle.std.proofs.lemmas.Bool.{cases_eq, eq-eqb, ne_eqb}
 use Rattle.std.proofs.lemmas.Bool.Decides.{Decides-eqb}
 use Rattle.std.proofs.lemmas.Cmp.{nat_eq_equiv}
 use Rattle.std.proofs.lemmas.Map.Made.{length-le_from_is_member, IsDistinct-from_AllPairs, is_member-Decides}
 use Rattle.dn_model.specs.Maps.{Mapping}
-use Rattle.dn_model.specs.Disk.{Disk, maps, MapsTo, IsMapped}
+use Rattle.dn_model.specs.Disk.{Disk, maps, IsMapped}
 use Rattle.dn_model.specs.Counts.{hit, total, mappings, IsFree}
 use Rattle.dn_laws.specs.Counting.{CountsMappings, FreeIsUnused, HasOneFreeCount}
 use Rattle.dn_laws.proofs.Sums.{term-le, total-some}

@@ -7,6 +7,7 @@ pub mod SameChain
 pub mod SameParts
 pub mod SameMeaning
 pub mod OneImage
+pub mod SameValid
 pub mod Parsing
 pub mod LogFaults
 pub mod TableWalks

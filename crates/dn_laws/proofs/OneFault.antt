@@ -1,5 +1,5 @@
 -- An image has one first fault at most, and none where it stands for a state.
-use Rattle.std.proofs.Common.{◌≡◌, ◌≢◌, ◌⊎◌, inl, inr, ⊎_elim, ℕ, zero, suc, ◌+◌, ◌*◌, ◌<◌, ◌≤◌, List, [], ◌∷◌, ◌++◌, length, refl, sym, ◌∙◌, ap, subst, arith}
+use Rattle.std.proofs.Common.{◌≡◌, ◌≢◌, ◌⊎◌, inl, inr, ℕ, ◌+◌, ◌*◌, ◌<◌, ◌≤◌, List, ◌∷◌, ◌++◌, length, refl, sym, ◌∙◌, ap}
 use Rattle.std.specs.Prelude.{slice_index, All, Contains}
 use Rattle.pm_device.specs.Reading.{Reads}
 use Rattle.pm_layout.specs.Geometry.{IsAccepted, slots}
@@ -7,9 +7,9 @@ use Rattle.dn_model.specs.Rolled.{rolled, IsGate}
 use Rattle.dn_model.specs.LogFault.{LogFault}
 use Rattle.dn_model.specs.Table.{Row}
 use Rattle.dn_model.specs.Disk.{Disk, IsUsed, PointersSay, rows}
-use Rattle.dn_model.specs.Counts.{IsFree, IsNear, Near}
+use Rattle.dn_model.specs.Counts.{IsFree, IsNear}
 use Rattle.dn_model.specs.Valid.{IsLinked}
-use Rattle.dn_model.specs.Image.{StandsFor, HasNoFault}
+use Rattle.dn_model.specs.Image.{StandsFor}
 use Rattle.dn_model.specs.Faults.{IsLeast, geometry_of, IsImage, HasGeometry, HasGate, IsBadInode, HasInodes, HasLogs, HasLinks, HasTable, HasPointers, IsDouble, HasFree, FaultOf, not_an_image, wrong_version, bad_geometry, bad_journal, bad_inode, bad_log, bad_link, bad_table, bad_pointer, double_mapped, bad_count, crowded}
 use Rattle.dn_model.specs.declared.fault.ImageFault.{ImageFault}
 use Rattle.dn_model.specs.declared.fault.ImageFault.TheVariants.{NotAnImage, WrongVersion, BadGeometry, BadJournal, BadInode, BadLog, BadLink, BadTable, BadPointer, DoubleMapped, BadCount, Crowded}

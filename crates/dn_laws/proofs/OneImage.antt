@@ -1,11 +1,9 @@
 -- An image stands for one disk, and has the files of one map.
-use Rattle.std.proofs.Common.{◌≡◌, ◌⊎◌, inl, inr, ⊎_elim, ℕ, ◌+◌, ◌*◌, ◌<◌, List, refl, sym, ◌∙◌, ap, subst}
-use Rattle.std.specs.Prelude.{slice_index, IsSome}
-use Rattle.pm_device.specs.Reading.{Reads}
+use Rattle.std.proofs.Common.{◌≡◌, inl, inr, ⊎_elim, ℕ, ◌+◌, ◌*◌, List, refl, sym, ◌∙◌, subst}
+use Rattle.std.specs.Prelude.{IsSome}
 use Rattle.dn_model.specs.Rolled.{rolled}
 use Rattle.dn_model.specs.Table.{Row, row_of}
 use Rattle.dn_model.specs.Disk.{Disk, IsMapped, rows, of_head, of_inodes, of_logs, of_chains, of_pointers, of_pages}
-use Rattle.dn_model.specs.Image.{StandsFor}
 use Rattle.dn_laws.specs.SameDisk.{IsRead, HasSameLogs}
 use Rattle.dn_laws.specs.Images.{HasOneDisk, HasOneMap}
 use Rattle.dn_laws.proofs.SameParts.{geometry_one, uses_one, same_logs, chains_one, pointers_one, mapped-same, rows-same}

@@ -1,6 +1,6 @@
 -- Where names lead, where places are mapped, and how long files are.
-use Rattle.std.proofs.Common.{◌≡◌, ◌≢◌, ◌⊎◌, inl, inr, ⊎_elim, ℕ, zero, suc, ◌+◌, ◌-◌, ◌*◌, ◌/◌, ◌%◌, ◌^◌, ◌<◌, ◌≤◌, Bool, true, false, List, [], ◌∷◌, length, map, refl, sym, ◌∙◌, ap, subst, arith}
-use Rattle.std.specs.Prelude.{slice_index, if◌then◌else◌, nat_lt, nat_le, ◌&&◌, ◌==◌, Option, Some, None, IsSome, All, Contains}
+use Rattle.std.proofs.Common.{◌≡◌, inl, inr, ℕ, zero, ◌+◌, ◌<◌, ◌≤◌, Bool, true, false, List, [], ◌∷◌, length, map, refl, sym, ◌∙◌, ap, subst, arith}
+use Rattle.std.specs.Prelude.{if◌then◌else◌, nat_lt, Option, Some, None, All}
 use Rattle.std.specs.List.{range_with_len}
 use Rattle.std.proofs.lemmas.Bool.{cases_lt, le-ltb}
 use Rattle.std.proofs.lemmas.Grind.{same_number_lists}
@@ -11,7 +11,7 @@ use Rattle.log_entry.specs.Name.{same_name}
 use Rattle.log_entry.specs.Spelling.{spelling, IsSpelled, pages_of}
 use Rattle.log_entry.specs.declared.item.LogItem.{LogItem}
 use Rattle.log_entry.specs.declared.item.LogItem.TheVariants.{Write, Size, Add, Forget}
-use Rattle.dn_model.specs.Log.{Log, placed_from, slot_name}
+use Rattle.dn_model.specs.Log.{Log, placed_from}
 use Rattle.dn_model.specs.Maps.{Mapping, mapping, mapped_after, cut_to, size_after, size_of}
 use Rattle.dn_model.specs.Disk.{Disk, Use, Free, Live, Dying, IsUsed, maps, maps_by_use}
 use Rattle.dn_model.specs.Files.{named, named_after}

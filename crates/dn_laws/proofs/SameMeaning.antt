@@ -1,25 +1,25 @@
 -- What two disks that are the same where they are read have in common.
-use Rattle.std.proofs.Common.{◌≡◌, ◌≢◌, ◌⊎◌, ◌↔◌, inl, inr, ⊎_elim, ℕ, zero, suc, ◌+◌, ◌*◌, ◌/◌, ◌%◌, ◌^◌, ◌<◌, ◌≤◌, Bool, true, false, List, [], ◌∷◌, length, get_or, map, refl, sym, ◌∙◌, ap, subst, arith}
-use Rattle.std.specs.Prelude.{slice_index, if◌then◌else◌, ◌==◌, Option, Some, None, IsSome, All, Contains}
+use Rattle.std.proofs.Common.{◌≡◌, ◌≢◌, inl, inr, ⊎_elim, ℕ, zero, suc, ◌/◌, ◌%◌, ◌^◌, ◌<◌, ◌≤◌, Bool, true, false, List, [], ◌∷◌, length, get_or, map, refl, sym, ◌∙◌, ap, subst, arith}
+use Rattle.std.specs.Prelude.{if◌then◌else◌, ◌==◌, Option, Some, None, IsSome, IsNone, All, Contains}
 use Rattle.std.specs.Option.{option_map}
 use Rattle.std.specs.List.{range_with_len}
 use Rattle.std.proofs.lemmas.Bool.{eq-eqb}
 use Rattle.pm_layout.specs.declared.Geometry.{Geometry}
 use Rattle.pm_layout.specs.Geometry.{InData}
-use Rattle.pm_device.specs.Reading.{Reads}
 use Rattle.dn_model.specs.Log.{Log}
 use Rattle.dn_model.specs.Maps.{Mapping, size_of}
 use Rattle.dn_model.specs.Table.{Row, row_of}
-use Rattle.dn_model.specs.Disk.{Disk, Live, IsUsed, maps, IsMapped, rows}
-use Rattle.dn_model.specs.Counts.{hit, total, mappings, IsLogPage, IsFree}
-use Rattle.dn_model.specs.Files.{Files, byte_of, mapped_byte, bytes, named, named_after, files, IsSameFiles}
-use Rattle.dn_model.specs.Own.{Print, page_bytes, LivePlace, IsAlone, HasRow, IsOwn}
-use Rattle.dn_model.specs.Valid.{IsValid}
-use Rattle.dn_laws.specs.SameDisk.{IsRead, HasSameLogs, IsSameDisk, MeansTheSame}
+use Rattle.dn_model.specs.Disk.{Disk, Use, Free, Live, Dying, IsUsed, maps, rows}
+use Rattle.dn_model.specs.Counts.{hit, total, mappings, IsLogPage, IsFree, Exact}
+use Rattle.dn_model.specs.Files.{byte_of, mapped_byte, bytes, named, named_after, files, IsSameFiles}
+use Rattle.dn_model.specs.Own.{Print, page_bytes, LivePlace, IsAlone, HasRow, IsOwn, Settled}
+use Rattle.dn_model.specs.Faults.{HasFree}
+use Rattle.dn_model.specs.Valid.{IsValid, IsLinked}
+use Rattle.dn_laws.specs.SameDisk.{IsRead, HasSameLogs, IsSameDisk}
 use Rattle.dn_laws.specs.Images.{SameDisksMeanTheSame}
 use Rattle.dn_laws.proofs.Sums.{total-same}
-use Rattle.dn_laws.proofs.Ranges.{map_range-same, size_of-le, root_in_table, root_used, named-in_table, named-live, maps-in_file}
-use Rattle.dn_laws.proofs.SameParts.{back, maps-same, mapped-same, rows-same}
+use Rattle.dn_laws.proofs.Ranges.{map_range-same, root_in_table, root_used, named-in_table, named-live, maps-in_file}
+use Rattle.dn_laws.proofs.SameParts.{back, maps-same, rows-same}
 
 row_there : (rs : List Row) (k : ℕ) (d : Row) → k < length rs → IsSome (row_of rs (get_or rs k d).page)
 row_there [] k d lt = absurd (omega arith)
@@ -64,6 +64,23 @@ free-same d e same page free = record {
   in_no_log = λ at. free.in_no_log (log_page-same e d (back d e same) page at);
   unmapped = sym (mappings-same d e same page) ∙ free.unmapped;
 }
+
+pub free_count-same : (d e : Disk) → HasSameLogs d e → (n : ℕ) → HasFree d n → HasFree e n
+free_count-same d e same n free =
+    (free.0, (λ page. ((λ at. free-same d e same page ((free.1 page).0 at)), (λ at. (free.1 page).1 (free-same e d (back d e same) page at)))), free.2, free.3)
+
+pub exact-same : (d e : Disk) → HasSameLogs d e → rows d ≡ rows e → Exact d → Exact e
+exact-same d e same same_rows exact = record {
+  counts = subst (All (λ row. (row.uc ≡ 0) × (row.rfc ≡ mappings e row.page) × (row.rfc ≢ 0))) same_rows (λ k row lt.
+      let one = exact.counts k row lt in (one.0, one.1 ∙ mappings-same d e same (get_or (rows d) k row).page, one.2));
+  unshared = λ page none. subst (λ (n : ℕ). n ≤ 1) (mappings-same d e same page) (exact.unshared page (subst (λ (rs : List Row). IsNone (row_of rs page)) (sym same_rows) none));
+}
+
+-- With the same names.
+pub linked-same : (d e : Disk) → ((name : List ℕ) → named d name ≡ named e name) → (i : ℕ) (u : Use) → IsLinked d i u → IsLinked e i u
+linked-same d e same i Free linked = λ name at. linked name (same name ∙ at)
+linked-same d e same i Live linked = record { name = linked.name; leads = sym (same linked.name) ∙ linked.leads; alone = λ other at. linked.alone other (same other ∙ at) }
+linked-same d e same i (Dying cut) linked = λ name at. linked name (same name ∙ at)
 
 -- With the same bytes of pages that are read.
 abbrev HasSameBytes : Disk → Disk → Type 0
@@ -134,6 +151,38 @@ module _ (d e : Disk) (valid : IsValid d) (same : HasSameLogs d e) (same_rows : 
         (own.complete ino idx m (live_place-same d e same ino idx m at) complete);
   }
 
+  row-to : (page : ℕ) → HasRow d page → HasRow e page
+  row-to page = subst (λ (rs : List Row). IsSome (row_of rs page)) same_rows
+
+  row-from : (page : ℕ) → HasRow e page → HasRow d page
+  row-from page = subst (λ (rs : List Row). IsSome (row_of rs page)) (sym same_rows)
+
+  place-from : (ino idx : ℕ) (m : Mapping) → LivePlace e ino idx m → LivePlace d ino idx m
+  place-from = live_place-same e d (back d e same)
+
+  place-to : (ino idx : ℕ) (m : Mapping) → LivePlace d ino idx m → LivePlace e ino idx m
+  place-to = live_place-same d e same
+
+  place_bytes : (ino idx : ℕ) (m : Mapping) → LivePlace d ino idx m → page_bytes d m.block ≡ page_bytes e m.block
+  place_bytes ino idx m at = page_bytes-same d e same_bytes m.block (place_read ino idx m at)
+
+  pub settled_to : Settled d → Settled e
+  settled_to s = record {
+    complete = λ ino idx m at. s.complete ino idx m (place-from ino idx m at);
+    done = λ ino idx m at. ⊎_elim (λ (alone : IsAlone m). inl alone) (λ (row : HasRow d m.block). inr (row-to m.block row)) (s.done ino idx m (place-from ino idx m at));
+    shared = λ i j idx jdx m n at at' e'.
+        let here = place-from i idx m at in let there = place-from j jdx n at' in
+        s.shared i j idx jdx m n here there (place_bytes i idx m here ∙ e' ∙ sym (place_bytes j jdx n there));
+  }
+
+  pub settled_from : Settled e → Settled d
+  settled_from s = record {
+    complete = λ ino idx m at. s.complete ino idx m (place-to ino idx m at);
+    done = λ ino idx m at. ⊎_elim (λ (alone : IsAlone m). inl alone) (λ (row : HasRow e m.block). inr (row-from m.block row)) (s.done ino idx m (place-to ino idx m at));
+    shared = λ i j idx jdx m n at at' e'.
+        s.shared i j idx jdx m n (place-to i idx m at) (place-to j jdx n at') (sym (place_bytes i idx m at) ∙ e' ∙ place_bytes j jdx n at');
+  }
+
 pub same_bytes_from_words : (d e : Disk) → IsSameDisk d e → HasSameBytes d e
 same_bytes_from_words d e same page k lt read = ap (λ (w : ℕ). w / 256 ^ (k % 8) % 256) (same.words page (k / 8) (omega arith) read)
 
@@ -148,5 +197,8 @@ means_the_same d e valid same =
       names = names-same d e same.inodes (root_in_table d valid) (root_used d valid);
       files = files-same d e valid same.inodes same_rows same_bytes;
       free = λ page. (free-same d e same.inodes page, free-same e d (back d e same.inodes) page);
+      free_count = λ n. (free_count-same d e same.inodes n, free_count-same e d (back d e same.inodes) n);
+      exact = (exact-same d e same.inodes same_rows, exact-same e d (back d e same.inodes) (sym same_rows));
+      settled = (settled_to d e valid same.inodes same_rows same_bytes, settled_from d e valid same.inodes same_rows same_bytes);
       own = λ print. (own_to d e valid same.inodes same_rows same_bytes print, own_from d e valid same.inodes same_rows same_bytes print);
     }

@@ -1,13 +1,13 @@
 -- Two disks that the same words tell have the same parts.
-use Rattle.std.proofs.Common.{◌≡◌, ◌≢◌, ◌⊎◌, inl, inr, ⊎_elim, ℕ, zero, suc, ◌+◌, ◌*◌, ◌<◌, ◌≤◌, List, [], ◌∷◌, ◌++◌, length, refl, sym, ◌∙◌, ap, subst, arith}
-use Rattle.std.specs.Prelude.{slice_index, slice_get, Some, Option}
+use Rattle.std.proofs.Common.{◌≡◌, ℕ, zero, suc, ◌+◌, ◌<◌, ◌≤◌, List, ◌++◌, refl, sym, ◌∙◌, ap, subst, arith}
+use Rattle.std.specs.Prelude.{slice_index, slice_get, Some}
 use Rattle.pm_device.specs.Reading.{Reads}
 use Rattle.pm_layout.specs.declared.Geometry.{Geometry}
 use Rattle.pm_layout.specs.Geometry.{directs, inode_word, pointer_word}
-use Rattle.dn_model.specs.Log.{Log, LogSays}
-use Rattle.dn_model.specs.Maps.{Mapping, mapping}
+use Rattle.dn_model.specs.Log.{Log}
+use Rattle.dn_model.specs.Maps.{mapping}
 use Rattle.dn_model.specs.Table.{Row, ChainSays, rows_from}
-use Rattle.dn_model.specs.Disk.{Disk, Use, Free, Live, Dying, IsUsed, state_number, maps, maps_by_use, MapsTo, IsMapped, rows, HeadSays, at_pages, at_inodes, InodesSay, at_state, at_cut, LogsSay, ChainsSay, PointersSay}
+use Rattle.dn_model.specs.Disk.{Disk, Use, Free, Live, Dying, IsUsed, state_number, maps, maps_by_use, IsMapped, rows, HeadSays, at_pages, at_inodes, InodesSay, at_state, at_cut, LogsSay, ChainsSay, PointersSay}
 use Rattle.dn_model.specs.Valid.{IsLog, IsRow}
 use Rattle.dn_model.proofs.OneLog.{pages_one, items_one}
 use Rattle.dn_laws.specs.SameDisk.{HasSameLogs}

@@ -1,27 +1,26 @@
 -- The stages of an image that is asked for its first fault.
-use Rattle.std.proofs.Common.{◌≡◌, ◌≢◌, ◌⊎◌, inl, inr, ⊎_elim, ℕ, zero, suc, ◌+◌, ◌-◌, ◌*◌, ◌^◌, ◌<◌, ◌≤◌, List, [], ◌∷◌, ◌++◌, length, get_or, refl, sym, ◌∙◌, ap, subst, arith, length-append, get_or-set_other}
-use Rattle.std.specs.Prelude.{slice_index, slice_get, Some, None, Option, IsSome, IsNone, All, AllPairs, Contains}
-use Rattle.std.proofs.lemmas.Bool.{cases_eq, cases_lt}
+use Rattle.std.proofs.Common.{◌≡◌, ◌≢◌, ◌⊎◌, inl, inr, ℕ, ◌+◌, ◌*◌, ◌<◌, ◌≤◌, List, [], ◌∷◌, ◌++◌, get_or, refl, sym, ◌∙◌, ap, subst, arith, get_or-set_other}
+use Rattle.std.specs.Prelude.{slice_index, Option, IsSome, IsNone, All, Contains}
+use Rattle.std.proofs.lemmas.Bool.{cases_lt}
 use Rattle.std.proofs.lemmas.List.{get_or_default}
 use Rattle.std.proofs.lemmas.List.Elements.{All-head, All-tail}
 use Rattle.pm_device.specs.Reading.{Reads}
 use Rattle.pm_layout.specs.declared.Geometry.{Geometry}
-use Rattle.pm_layout.specs.Geometry.{IsAccepted, directs, slots, inode_word, gate_word}
-use Rattle.dn_model.specs.Rolled.{rolled, put_back, pair_address, IsGate}
+use Rattle.pm_layout.specs.Geometry.{IsAccepted, slots, inode_word, gate_word}
+use Rattle.dn_model.specs.Rolled.{rolled, put_back, IsGate}
 use Rattle.dn_model.proofs.RollBack.{put_back_other}
 use Rattle.dn_model.specs.LogFault.{LogFault}
-use Rattle.dn_model.specs.Log.{Log, LogSays}
-use Rattle.dn_model.specs.Table.{Row, row_of, ChainSays, rows_from}
-use Rattle.dn_model.specs.Disk.{Disk, Use, Free, Live, Dying, IsUsed, state_number, IsMapped, rows, HeadSays, at_magic, at_version, at_pages, at_inodes, InodesSay, at_state, at_cut, LogsSay, ChainsSay, PointersSay, of_head, of_inodes, of_logs, of_chains, of_pointers}
-use Rattle.dn_model.specs.Counts.{mappings, IsLogPage, IsFree, IsNear}
-use Rattle.dn_model.specs.Files.{named}
-use Rattle.dn_model.specs.Valid.{IsCut, IsLog, HasOneName, IsLinked, IsRow, AreApart, IsValid}
+use Rattle.dn_model.specs.Log.{Log}
+use Rattle.dn_model.specs.Table.{Row, row_of}
+use Rattle.dn_model.specs.Disk.{Disk, Use, Free, Live, Dying, IsUsed, state_number, rows, HeadSays, at_magic, at_version, at_pages, at_inodes, at_state, at_cut, PointersSay, of_head, of_inodes, of_logs, of_chains, of_pointers}
+use Rattle.dn_model.specs.Counts.{mappings, IsFree, IsNear}
+use Rattle.dn_model.specs.Valid.{IsCut, IsLinked}
 use Rattle.dn_model.specs.Image.{StandsFor}
-use Rattle.dn_model.specs.Faults.{IsLeast, geometry_of, IsImage, HasGeometry, HasGate, IsBadInode, HasInodes, HasLogs, HasLinks, HasTable, HasPointers, IsDouble, HasFree}
+use Rattle.dn_model.specs.Faults.{IsLeast, geometry_of, HasGeometry, IsBadInode, HasInodes, HasLogs, HasLinks, HasTable, HasPointers, IsDouble, HasFree}
 use Rattle.dn_laws.specs.SameDisk.{HasSameLogs}
 use Rattle.dn_laws.specs.TableFaults.{FirstTableFault}
-use Rattle.dn_laws.proofs.SameParts.{uses_one, same_logs, chains_one, pointers_one, back, rows-same, mapped-same}
-use Rattle.dn_laws.proofs.SameMeaning.{mappings-same, names-same, log_page-same, free-same}
+use Rattle.dn_laws.proofs.SameParts.{uses_one, same_logs, chains_one, pointers_one, rows-same, mapped-same}
+use Rattle.dn_laws.proofs.SameMeaning.{mappings-same, names-same, log_page-same, free_count-same, linked-same}
 use Rattle.dn_laws.proofs.LogFaults.{log_fault_one, log_fault_none}
 use Rattle.dn_laws.proofs.TableStops.{table_fault_one, table_fault_none}
 
@@ -120,11 +119,6 @@ module _ (c : List ℕ) where
   place_one d e i j p q x y same a b = log_fault_one d.geometry r i p q a (subst (λ (k : ℕ). LogFault d.geometry r k q) (sym same) (subst (λ (g : Geometry). LogFault g r j q) (sym (geometry-same d e x y)) b))
 
   -- Names.
-  linked-same : (d e : Disk) → ((name : List ℕ) → named d name ≡ named e name) → (i : ℕ) (u : Use) → IsLinked d i u → IsLinked e i u
-  linked-same d e same i Free linked = λ name at. linked name (same name ∙ at)
-  linked-same d e same i Live linked = record { name = linked.name; leads = sym (same linked.name) ∙ linked.leads; alone = λ other at. linked.alone other (same other ∙ at) }
-  linked-same d e same i (Dying cut) linked = λ name at. linked name (same name ∙ at)
-
   linked-to : (d e : Disk) → HasLogs c d → HasLogs c e → (i : ℕ) → i < d.geometry.inodes → IsLinked d i (d.inode i).use_of → IsLinked e i (e.inode i).use_of
   linked-to d e x y i lt linked =
       let same = logs-same d e x y in
@@ -241,9 +235,7 @@ module _ (c : List ℕ) where
 
   -- Free pages.
   pub free-to : (d e : Disk) → HasPointers c d → HasPointers c e → (n : ℕ) → HasFree d n → HasFree e n
-  free-to d e x y n free =
-      let same = logs-same d e x.table.links.logs y.table.links.logs in
-      (free.0, (λ page. ((λ at. free-same d e same page ((free.1 page).0 at)), (λ at. (free.1 page).1 (free-same e d (back d e same) page at)))), free.2, free.3)
+  free-to d e x y n free = free_count-same d e (logs-same d e x.table.links.logs y.table.links.logs) n free
 
   pub not_crowded : (d : Disk) (n p q : ℕ) → HasFree d n → n < 2 → p ≢ q → IsFree d p → IsFree d q → ⊥
   not_crowded d n p q free few ne fp fq =

@@ -1,20 +1,19 @@
 -- The table has its first fault at one slot, and none where it may be read.
-use Rattle.std.proofs.Common.{◌≡◌, ◌≢◌, ◌⊎◌, inl, inr, ⊎_elim, ℕ, zero, suc, ◌+◌, ◌-◌, ◌*◌, ◌^◌, ◌<◌, ◌≤◌, List, [], ◌∷◌, ◌++◌, length, get_or, refl, sym, ◌∙◌, ap, subst, arith, length-append, append_assoc, append-nil}
-use Rattle.std.specs.Prelude.{slice_index, slice_get, Some, None, Option}
-use Rattle.std.proofs.lemmas.Bool.{cases_eq, cases_lt}
+use Rattle.std.proofs.Common.{◌≡◌, ◌≢◌, ◌⊎◌, inl, inr, ⊎_elim, ℕ, suc, ◌+◌, ◌-◌, ◌<◌, ◌≤◌, List, [], ◌∷◌, ◌++◌, length, sym, ◌∙◌, ap, subst, arith, length-append, append_assoc, append-nil}
+use Rattle.std.specs.Prelude.{slice_index, slice_get, Some}
+use Rattle.std.proofs.lemmas.Bool.{cases_lt}
 use Rattle.std.proofs.lemmas.List.{nil_from_length}
-use Rattle.std.proofs.lemmas.Option.{slice_get_within}
 use Rattle.pm_device.specs.Reading.{Reads}
 use Rattle.pm_layout.specs.declared.Geometry.{Geometry}
-use Rattle.pm_layout.specs.Geometry.{directs, slots, slot_word}
+use Rattle.pm_layout.specs.Geometry.{directs, slot_word}
 use Rattle.dn_model.specs.Table.{Row, ChainSays, rows_from}
 use Rattle.dn_model.specs.Valid.{IsRow, AreApart}
-use Rattle.dn_model.specs.Faults.{IsTableFront, ComesNext, direct_row, first_chained, after_row, RowStands}
+use Rattle.dn_model.specs.Faults.{ComesNext, direct_row, first_chained, after_row, RowStands}
 use Rattle.dn_laws.specs.Images.{AreRows}
-use Rattle.dn_laws.specs.TableFaults.{IsDirectNext, IsIndirect, StartsAt, starts_direct, starts_chained, IsReached, FirstTableFault, no_row, no_next}
+use Rattle.dn_laws.specs.TableFaults.{IsDirectNext, IsIndirect, starts_direct, starts_chained, IsReached, FirstTableFault, no_row, no_next}
 use Rattle.dn_laws.proofs.SameChain.{chain_one, first_data_some}
 use Rattle.dn_laws.proofs.SameParts.{rows_from-same}
-use Rattle.dn_laws.proofs.TableWalks.{slice_get-behind, apart_front, rows_from-split, Walk, IsFull, walk_front, full_longest, starts_one, first_some, chain_walk, chain_full}
+use Rattle.dn_laws.proofs.TableWalks.{slice_get-behind, apart_front, rows_from-split, Walk, IsFull, walk_front, full_longest, starts_one, chain_walk, chain_full}
 
 -- the last of rows
 last_one : (xs ys : List Row) (x y : Row) → xs ++ x ∷ [] ≡ ys ++ y ∷ [] → x ≡ y

@@ -1,17 +1,16 @@
 -- Rows that are read from the direct slot on, one after another.
-use Rattle.std.proofs.Common.{◌≡◌, ◌≢◌, ◌⊎◌, inl, inr, ⊎_elim, ℕ, zero, suc, ◌+◌, ◌*◌, ◌^◌, ◌<◌, ◌≤◌, Bool, true, false, List, [], ◌∷◌, ◌++◌, length, get_or, refl, sym, ◌∙◌, ap, subst, arith, length-append, append_assoc}
-use Rattle.std.specs.Prelude.{slice_index, slice_get, Some, None, Option}
-use Rattle.std.proofs.lemmas.Bool.{cases_eq, cases_lt}
+use Rattle.std.proofs.Common.{◌≡◌, ◌≢◌, ⊎_elim, ℕ, zero, suc, ◌+◌, ◌<◌, ◌≤◌, List, [], ◌∷◌, ◌++◌, length, get_or, refl, sym, ◌∙◌, ap, subst, arith, append_assoc}
+use Rattle.std.specs.Prelude.{slice_index, slice_get, Some}
 use Rattle.std.proofs.lemmas.Option.{slice_get_within, slice_get-get_or}
 use Rattle.pm_device.specs.Reading.{Reads}
 use Rattle.pm_layout.specs.declared.Geometry.{Geometry}
-use Rattle.pm_layout.specs.Geometry.{InData, first_data, directs, slots, slot_word}
+use Rattle.pm_layout.specs.Geometry.{directs, slots, slot_word}
 use Rattle.dn_model.specs.Table.{Row, RowsSay, at_field, at_next, at_later, ChainSays, at_direct_page, at_direct_next, at_row, row_word, first_slot, chained, direct_page_word, rows_from}
 use Rattle.dn_model.specs.Valid.{IsRow, AreApart}
 use Rattle.dn_model.specs.Faults.{RowStands}
 use Rattle.dn_laws.specs.Images.{AreRows}
-use Rattle.dn_laws.specs.TableFaults.{StartsAt, starts_direct, starts_chained, IsIndirect}
-use Rattle.dn_laws.proofs.SameChain.{row_one, slot_far, first_data_some, Shape, shape, at_own, at_others, page_direct, page_indirect}
+use Rattle.dn_laws.specs.TableFaults.{StartsAt, starts_direct, starts_chained}
+use Rattle.dn_laws.proofs.SameChain.{row_one, slot_far, first_data_some, Shape, shape, at_own, at_others}
 
 module _ {X : Type 0} where
   pub slice_get-append_left : (xs ys : List X) (k : ℕ) (x : X) → slice_get xs k ≡ Some x → slice_get (xs ++ ys) k ≡ Some x

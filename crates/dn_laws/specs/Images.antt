@@ -28,6 +28,13 @@ HasOneChain = (g : Geometry) (prefix : ℕ) (c : List ℕ) (xs ys : List Row) �
 abbrev pub HasOneDisk : Type 0
 HasOneDisk = (c : List ℕ) (d e : Disk) → StandsFor c d → StandsFor c e → IsSameDisk d e
 
+-- and for each disk that is the same where it is read
+abbrev pub StandsForTheSame : Type 0
+StandsForTheSame = (c : List ℕ) (d e : Disk) → StandsFor c d → IsSameDisk d e → StandsFor c e
+
+abbrev pub SameDisksAreValid : Type 0
+SameDisksAreValid = (d e : Disk) → IsValid d → IsSameDisk d e → IsValid e
+
 abbrev pub SameDisksMeanTheSame : Type 0
 SameDisksMeanTheSame = (d e : Disk) → IsValid d → IsSameDisk d e → MeansTheSame d e
 

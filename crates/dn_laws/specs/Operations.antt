@@ -1,7 +1,7 @@
 -- Laws of what an operation answers and makes of files.
 use Rattle.std.specs.Prelude.{◌≡◌, ◌≢◌, ◌⊎◌, ◌↔◌, ℕ, List, ◌++◌, Contains}
 use Rattle.dn_model.specs.Files.{Files, IsSameFiles}
-use Rattle.dn_model.specs.Apply.{Replies, Grants, IsGranted, after_op, names_of}
+use Rattle.dn_model.specs.Apply.{Replies, Grants, IsGranted, IsListing, after_op, names_of}
 use Rattle.dn_model.specs.History.{Step, Legal}
 use Rattle.dn_model.specs.declared.op.Op.{Op}
 use Rattle.dn_model.specs.declared.op.Op.TheVariants.{List as ListAll}
@@ -9,6 +9,10 @@ use Rattle.dn_model.specs.declared.op.Entry.{Entry}
 use Rattle.dn_model.specs.declared.op.Reply.{Reply}
 use Rattle.dn_model.specs.declared.op.Reply.TheVariants.{Refused}
 use Rattle.dn_model.specs.declared.op.Refusal.{Refusal}
+
+-- the same files have one listing
+abbrev pub HasOneListing : Type 0
+HasOneListing = (f : Files) (xs ys : List (List ℕ)) → IsListing f xs → IsListing f ys → xs ≡ ys
 
 -- one reply at most
 abbrev pub HasOneReply : Type 0
@@ -62,3 +66,7 @@ Commute = (f : Files) (p q : Op) → AreApart p q → IsSameFiles (after_op (aft
 -- an operation that lists no files is answered the same before and after another
 abbrev pub IsAnsweredAlike : Type 0
 IsAnsweredAlike = (f : Files) (p q : Op) → AreApart p q → q ≢ ListAll → (reply : Reply) → Replies f q reply ↔ Replies (after_op f p) q reply
+
+-- nor does another stand in its way
+abbrev pub IsGrantedAlike : Type 0
+IsGrantedAlike = (f : Files) (p q : Op) → AreApart p q → IsGranted f q ↔ IsGranted (after_op f p) q

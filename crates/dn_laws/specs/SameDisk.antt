@@ -1,11 +1,12 @@
 -- Two disks that differ at most where nothing is read.
 use Rattle.std.specs.Prelude.{◌≡◌, ◌⊎◌, ◌↔◌, ℕ, ◌<◌, List, IsSome}
 use Rattle.pm_layout.specs.Geometry.{directs}
-use Rattle.dn_model.specs.Table.{Row, row_of}
+use Rattle.dn_model.specs.Table.{row_of}
 use Rattle.dn_model.specs.Disk.{Disk, IsUsed, IsMapped, maps, rows}
-use Rattle.dn_model.specs.Counts.{mappings, IsFree}
+use Rattle.dn_model.specs.Counts.{mappings, IsFree, Exact}
 use Rattle.dn_model.specs.Files.{named, files, IsSameFiles}
-use Rattle.dn_model.specs.Own.{Print, IsOwn}
+use Rattle.dn_model.specs.Own.{Print, IsOwn, Settled}
+use Rattle.dn_model.specs.Faults.{HasFree}
 
 -- the words of a page are read: a place is mapped to it, or it has a row
 abbrev pub IsRead : Disk → ℕ → Type 0
@@ -32,4 +33,7 @@ pub record MeansTheSame (d e : Disk) : Type 0 where
   pub names : (name : List ℕ) → named d name ≡ named e name
   pub files : IsSameFiles (files d) (files e)
   pub free : (page : ℕ) → IsFree d page ↔ IsFree e page
+  pub free_count : (n : ℕ) → HasFree d n ↔ HasFree e n
+  pub exact : Exact d ↔ Exact e
+  pub settled : Settled d ↔ Settled e
   pub own : (print : Print) → IsOwn print d ↔ IsOwn print e

@@ -1,5 +1,5 @@
 //! What an image stands for.
-ghost use Rattle.dn_laws.specs.Images.{HasOneLog, HasOneChain, HasOneDisk, SameDisksMeanTheSame, HasOneMap, IsKnownByWordsRead};
+ghost use Rattle.dn_laws.specs.Images.{HasOneLog, HasOneChain, HasOneDisk, StandsForTheSame, SameDisksAreValid, SameDisksMeanTheSame, HasOneMap, IsKnownByWordsRead};
 
 /// Words hold one log of an inode at most, and one chain of a prefix.
 pub fn one_reading()
@@ -8,15 +8,17 @@ pub fn one_reading()
 {}
 
 /// An image stands for one state at most: the same geometry, inodes, logs, chains and pointers, and
-/// the same words of pages that are read.
+/// the same words of pages that are read. It stands for each state that is the same there.
 pub fn one_disk()
-    ensures { HasOneDisk }
+    ensures one { HasOneDisk }
+    ensures same { StandsForTheSame }
 {}
 
-/// Two states that agree there have the same files, names, rows, maps, counts of mappings and free
-/// pages, and have what every image of this program has both or neither. So an image has the files
-/// of one map.
+/// Two states that agree there are valid both or neither, and have the same files, names, rows, maps,
+/// counts of mappings and free pages. Both or neither are exact, settled, and have what every image
+/// of this program has. So an image has the files of one map.
 pub fn one_meaning()
+    ensures valid { SameDisksAreValid }
     ensures disks { SameDisksMeanTheSame }
     ensures files { HasOneMap }
 {}

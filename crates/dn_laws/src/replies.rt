@@ -1,9 +1,10 @@
 //! What an operation answers and makes of the files.
-ghost use Rattle.dn_laws.specs.Operations.{HasOneReply, IsGrantedOrRefused, IsOfFiles, HasOneEnd, IsLegalInParts, Commute, IsAnsweredAlike};
+ghost use Rattle.dn_laws.specs.Operations.{HasOneListing, HasOneReply, IsGrantedOrRefused, IsOfFiles, HasOneEnd, IsLegalInParts, Commute, IsAnsweredAlike, IsGrantedAlike};
 
 /// An operation has one reply at most, without want of room: two listings of the same files are the
 /// same list, and the refusals exclude one another.
 pub fn one_reply()
+    ensures listing { HasOneListing }
     ensures one { HasOneReply }
     ensures either { IsGrantedOrRefused }
 {}
@@ -26,4 +27,5 @@ pub fn one_end()
 pub fn other_names()
     ensures files { Commute }
     ensures replies { IsAnsweredAlike }
+    ensures granted { IsGrantedAlike }
 {}

@@ -1,4 +1,3 @@
-use Rattle.std.proofs.Common.{ℕ, List}
 use Rattle.dn_model.proofs.L1.{agreeing_stands_for}
 use Rattle.dn_laws.proofs.images.known_by_words_read.Goals as goal
 
