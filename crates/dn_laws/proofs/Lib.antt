@@ -14,3 +14,4 @@ pub mod TableWalks
 pub mod TableStops
 pub mod Stages
 pub mod OneFault
+pub mod RolledSame

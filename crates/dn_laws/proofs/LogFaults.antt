@@ -151,7 +151,7 @@ module _ (g : Geometry) (c : List ℕ) (ino : ℕ) where
 
   -- Why a walk stops: at slots that begin nothing, at an item that may not stand there, or at the end of all pages.
   data Halt (x : Log) (m : ℕ) : Type 0 where
-    stuck : count x < m → (BeginsItem (rest_of x m) → ⊥) → ((item : LogItem) → BeginsWith item (rest_of x m) → ⊥) → Halt x m
+    nothing_follows : count x < m → (BeginsItem (rest_of x m) → ⊥) → ((item : LogItem) → BeginsWith item (rest_of x m) → ⊥) → Halt x m
     out_of_place : (item : LogItem) → BeginsWith item (rest_of x m) → (MayStand g ino item → ⊥) → Halt x m
     ended : IsLast x.pages m → (rest_of x m ≡ []) ⊎ BeginsItem (rest_of x m) → Halt x m
 
@@ -170,7 +170,7 @@ module _ (g : Geometry) (c : List ℕ) (ino : ℕ) where
 
   -- a walk does not stop before an item that may stand there
   next_not_halted : (x : Log) (m : ℕ) → Halt x m → (items : List LogItem) → All (MayStand g ino) items → NextItem items (rest_of x m) → ⊥
-  next_not_halted x m (stuck lt no_part no_whole) items standing n = no_whole n.item (begins_with items (rest_of x m) n)
+  next_not_halted x m (nothing_follows lt no_part no_whole) items standing n = no_whole n.item (begins_with items (rest_of x m) n)
   next_not_halted x m (out_of_place item w bad) items standing n =
       let same = spelling_one item n.item w.rest n.rest w.spelled n.spelled (sym w.is ∙ n.is) in
       bad (subst (MayStand g ino) (sym same.item) (All-contains (MayStand g ino) items n.item standing n.listed))
@@ -179,7 +179,7 @@ module _ (g : Geometry) (c : List ℕ) (ino : ℕ) where
 
   -- nor where the slots are the beginning of such an item, if more come
   part_not_halted : (x : Log) (m : ℕ) → Halt x m → (IsLast x.pages m → ⊥) → BeginsItem (rest_of x m) → ⊥
-  part_not_halted x m (stuck lt no_part no_whole) more part = no_part part
+  part_not_halted x m (nothing_follows lt no_part no_whole) more part = no_part part
   part_not_halted x m (out_of_place item w bad) more part = part_no_whole (rest_of x m) part item w
   part_not_halted x m (ended last end) more part = more last
 
@@ -249,7 +249,7 @@ module _ (g : Geometry) (c : List ℕ) (ino : ℕ) where
   find place (misplaced x m item front ends e w bad) = found_item x m front ends (by_item item (at_place x m place (BeginsWith item) e w) bad) e
 
   halt_of : (x : Log) (m : ℕ) → AtItem x m → Halt x m
-  halt_of x m (by_nothing lt no_part no_whole) = stuck lt no_part no_whole
+  halt_of x m (by_nothing lt no_part no_whole) = nothing_follows lt no_part no_whole
   halt_of x m (by_item item w bad) = out_of_place item w bad
   halt_of x m (by_tail ends more part) = ended (last_at_tail ends) part
 

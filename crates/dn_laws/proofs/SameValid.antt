@@ -12,7 +12,7 @@ use Rattle.dn_model.specs.Disk.{Disk, IsUsed, state_number, rows, DiskSays, of_h
 use Rattle.dn_model.specs.Counts.{IsNear}
 use Rattle.dn_model.specs.Valid.{IsCut, IsLog, IsLinked, IsRow, AreApart, IsSingle, IsValid}
 use Rattle.dn_laws.specs.SameDisk.{IsRead, HasSameLogs, IsSameDisk}
-use Rattle.dn_laws.specs.Images.{SameDisksAreValid, StandsForTheSame}
+use Rattle.dn_laws.specs.Images.{IsSameBothWays, SameDisksAreValid, StandsForTheSame}
 use Rattle.dn_laws.proofs.Ranges.{root_in_table, root_used}
 use Rattle.dn_laws.proofs.SameParts.{back, mapped-same, rows-same}
 use Rattle.dn_laws.proofs.SameMeaning.{mappings-same, names-same, log_page-same, free-same, linked-same}
@@ -149,3 +149,14 @@ stands_same c d e stands same = record {
   reads = λ a v says. stands.reads a v (says_too d e stands.valid same a v says);
   valid = valid_too d e stands.valid same;
 }
+
+pub same_both_ways : IsSameBothWays
+same_both_ways d e same =
+    let from = back d e same.inodes in
+    let same_rows : rows d ≡ rows e = rows-same d e same.inodes.geometry same.chains in
+    record {
+      inodes = from;
+      chains = λ prefix lt. sym (same.chains prefix (subst (λ (g : Geometry). prefix < directs g) (sym same.inodes.geometry) lt));
+      pointers = λ page lt. sym (same.pointers page (subst (λ (g : Geometry). page < g.pages) (sym same.inodes.geometry) lt));
+      words = λ page k lt read. sym (same.words page k lt (read-same e d from (sym same_rows) page read));
+    }

@@ -1,8 +1,9 @@
 -- Laws of what an image stands for.
-use Rattle.std.specs.Prelude.{◌≡◌, ℕ, ◌<◌, List, length, slice_index, slice_get, Some}
+use Rattle.std.specs.Prelude.{◌≡◌, ◌↔◌, ℕ, ◌<◌, List, length, slice_index, slice_get, Some}
 use Rattle.pm_device.specs.Reading.{Reads}
 use Rattle.pm_layout.specs.declared.Geometry.{Geometry}
 use Rattle.pm_layout.specs.Geometry.{directs, gate_word}
+use Rattle.dn_model.specs.Rolled.{rolled, IsGate}
 use Rattle.dn_model.specs.Log.{Log, LogSays}
 use Rattle.dn_model.specs.Table.{Row, ChainSays}
 use Rattle.dn_model.specs.Disk.{Disk, DiskSays}
@@ -32,6 +33,10 @@ HasOneDisk = (c : List ℕ) (d e : Disk) → StandsFor c d → StandsFor c e →
 abbrev pub StandsForTheSame : Type 0
 StandsForTheSame = (c : List ℕ) (d e : Disk) → StandsFor c d → IsSameDisk d e → StandsFor c e
 
+-- two disks are the same both ways
+abbrev pub IsSameBothWays : Type 0
+IsSameBothWays = (d e : Disk) → IsSameDisk d e → IsSameDisk e d
+
 abbrev pub SameDisksAreValid : Type 0
 SameDisksAreValid = (d e : Disk) → IsValid d → IsSameDisk d e → IsValid e
 
@@ -46,3 +51,12 @@ HasOneMap = (c : List ℕ) (f g : Files) → HasFiles c f → HasFiles c g → I
 abbrev pub IsKnownByWordsRead : Type 0
 IsKnownByWordsRead = (c c' : List ℕ) (d : Disk) → StandsFor c d → slice_index c gate_word ≡ 0 → length c' ≡ length c
     → ((a v : ℕ) → DiskSays d a v → slice_index c' a ≡ slice_index c a) → StandsFor c' d
+
+-- the same with gates that may be open, of the words that rolling them back leaves
+abbrev pub IsKnownByWordsRolled : Type 0
+IsKnownByWordsRolled = (c c' : List ℕ) (d : Disk) → StandsFor c d → IsGate d.geometry.inodes c' → length c' ≡ length c
+    → ((a v : ℕ) → DiskSays d a v → slice_index (rolled c') a ≡ slice_index (rolled c) a) → StandsFor c' d
+
+-- an image whose gate may be open stands for what it stands for once it is rolled back
+abbrev pub RollingKeeps : Type 0
+RollingKeeps = (c : List ℕ) (d : Disk) → IsGate d.geometry.inodes c → StandsFor c d ↔ StandsFor (rolled c) d

@@ -1,5 +1,5 @@
 //! What an image stands for.
-ghost use Rattle.dn_laws.specs.Images.{HasOneLog, HasOneChain, HasOneDisk, StandsForTheSame, SameDisksAreValid, SameDisksMeanTheSame, HasOneMap, IsKnownByWordsRead};
+ghost use Rattle.dn_laws.specs.Images.{HasOneLog, HasOneChain, HasOneDisk, StandsForTheSame, IsSameBothWays, SameDisksAreValid, SameDisksMeanTheSame, HasOneMap, IsKnownByWordsRead, IsKnownByWordsRolled, RollingKeeps};
 
 /// Words hold one log of an inode at most, and one chain of a prefix.
 pub fn one_reading()
@@ -18,12 +18,20 @@ pub fn one_disk()
 /// counts of mappings and free pages. Both or neither are exact, settled, and have what every image
 /// of this program has. So an image has the files of one map.
 pub fn one_meaning()
+    ensures both_ways { IsSameBothWays }
     ensures valid { SameDisksAreValid }
     ensures disks { SameDisksMeanTheSame }
     ensures files { HasOneMap }
 {}
 
-/// An image is known by the words that are read.
+/// An image is known by the words that are read: as they stand where the gate is closed, and in
+/// general as they stand once the journal is rolled back.
 pub fn known_by_words_read()
-    ensures { IsKnownByWordsRead }
+    ensures closed { IsKnownByWordsRead }
+    ensures open { IsKnownByWordsRolled }
+{}
+
+/// Rolling the journal back changes nothing of what an image stands for.
+pub fn rolling_keeps()
+    ensures { RollingKeeps }
 {}
