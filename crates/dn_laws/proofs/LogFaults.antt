@@ -19,7 +19,8 @@ use Rattle.log_entry.proofs.Fronts.{part_no_whole}
 use Rattle.dn_model.specs.Log.{Log, LogSays, at_tail, at_head, at_footer, at_slot, count, tail_at, log_word, footer_word, spelled_word}
 use Rattle.dn_model.specs.Valid.{MayStand, IsLog}
 use Rattle.dn_model.specs.LogFault.{LogFault, bad_page, no_slot, cut_off, no_item, misplaced, slots_between, page_after, IsFront, EndsAtTail, EndsBeforeTail}
-use Rattle.dn_laws.proofs.Parsing.{spelled_width, front_of, same_rest, map_split, map_range-alike, NextItem, parse_next}
+use Rattle.dn_model.proofs.OneLog.{spelled_width}
+use Rattle.dn_laws.proofs.Parsing.{front_of, same_rest, map_split, map_range-alike, NextItem, parse_next}
 
 module _ (g : Geometry) (c : List ℕ) (ino : ℕ) where
   abbrev tail : ℕ

@@ -10,11 +10,10 @@ use Rattle.dn_model.specs.Disk.{Disk, IsUsed, PointersSay, rows}
 use Rattle.dn_model.specs.Counts.{IsFree, IsNear}
 use Rattle.dn_model.specs.Valid.{IsLinked}
 use Rattle.dn_model.specs.Image.{StandsFor}
-use Rattle.dn_model.specs.Faults.{IsLeast, geometry_of, IsImage, HasGeometry, HasGate, IsBadInode, HasInodes, HasLogs, HasLinks, HasTable, HasPointers, IsDouble, HasFree, FaultOf, not_an_image, wrong_version, bad_geometry, bad_journal, bad_inode, bad_log, bad_link, bad_table, bad_pointer, double_mapped, bad_count, crowded}
+use Rattle.dn_model.specs.Faults.{IsLeast, geometry_of, IsImage, HasGeometry, HasGate, IsBadInode, HasInodes, HasLogs, HasLinks, HasTable, HasPointers, IsDouble, HasFree, TableFault, FaultOf, not_an_image, wrong_version, bad_geometry, bad_journal, bad_inode, bad_log, bad_link, bad_table, bad_pointer, double_mapped, bad_count, crowded}
 use Rattle.dn_model.specs.declared.fault.ImageFault.{ImageFault}
 use Rattle.dn_model.specs.declared.fault.ImageFault.TheVariants.{NotAnImage, WrongVersion, BadGeometry, BadJournal, BadInode, BadLog, BadLink, BadTable, BadPointer, DoubleMapped, BadCount, Crowded}
-use Rattle.dn_laws.specs.TableFaults.{FirstTableFault}
-use Rattle.dn_laws.specs.FirstFaults.{FirstFault, not_of_table, of_table, HasOneFault, StandingHasNoFault}
+use Rattle.dn_laws.specs.FirstFaults.{HasOneFault, StandingHasNoFault}
 use Rattle.dn_laws.proofs.Counted.{free_one}
 use Rattle.dn_laws.proofs.Stages.{least_one, no_bad_inode, no_bad_log, bad_log_one, place_one, bad_link_one, no_bad_link, bad_table_one, no_bad_table, bad_pointer_one, no_bad_pointer, double_one, double-between, bad_count_one, no_bad_count, free-to, not_crowded, stands_pointers, stands_single}
 
@@ -96,7 +95,7 @@ module _ (c : List ℕ) where
     pub d : Disk
     pub slot : ℕ
     pub links : HasLinks c d
-    pub fault : FirstTableFault d.geometry r slot
+    pub fault : TableFault d.geometry r slot
     pub is : x ≡ BadTable slot
 
   record AtPointer (x : ImageFault) : Type 0 where
@@ -212,26 +211,22 @@ module _ (c : List ℕ) where
   to11 : (x : ImageFault) (d : Disk) → HasPointers c d → ((p : ℕ) → IsDouble d p → ⊥) → From11 x → From1 x
   to11 x d p single f = to10 x d p (inr ((d, p, single), f))
 
-  staged_of : (x : ImageFault) → FaultOf c x → ((slot : ℕ) → x ≢ BadTable slot) → From1 x
-  staged_of x (not_an_image bad) other = inl (bad, refl)
-  staged_of x (wrong_version image bad) other = to2 _ image (inl (bad, refl))
-  staged_of x (bad_geometry image version bad) other = to3 _ (image, version) (inl (bad, refl))
-  staged_of x (bad_journal geometry bad) other = to4 _ geometry (inl (bad, refl))
-  staged_of x (bad_inode ino gate least) other = to5 _ gate (inl (ino, least, refl))
-  staged_of x (bad_log d ino place inodes used fault least) other =
+  staged : (x : ImageFault) → FaultOf c x → From1 x
+  staged x (not_an_image bad) = inl (bad, refl)
+  staged x (wrong_version image bad) = to2 _ image (inl (bad, refl))
+  staged x (bad_geometry image version bad) = to3 _ (image, version) (inl (bad, refl))
+  staged x (bad_journal geometry bad) = to4 _ geometry (inl (bad, refl))
+  staged x (bad_inode ino gate least) = to5 _ gate (inl (ino, least, refl))
+  staged x (bad_log d ino place inodes used fault least) =
       to6 _ d inodes (inl (record { d = d; ino = ino; place = place; inodes = inodes; used = used; fault = fault; least = least; is = refl }))
-  staged_of x (bad_link d ino logs least) other = to7 _ d logs (inl (record { d = d; ino = ino; logs = logs; least = least; is = refl }))
-  staged_of x (bad_table d slot links fault) other = absurd (other slot refl)
-  staged_of x (bad_pointer d page table reads least) other = to9 _ d table (inl (record { d = d; page = page; table = table; reads = reads; least = least; is = refl }))
-  staged_of x (double_mapped d page pointers least) other = to10 _ d pointers (inl (record { d = d; page = page; pointers = pointers; least = least; is = refl }))
-  staged_of x (bad_count d before after row pointers single rows_are near far) other =
+  staged x (bad_link d ino logs least) = to7 _ d logs (inl (record { d = d; ino = ino; logs = logs; least = least; is = refl }))
+  staged x (bad_table d slot links fault) = to8 _ d links (inl (record { d = d; slot = slot; links = links; fault = fault; is = refl }))
+  staged x (bad_pointer d page table reads least) = to9 _ d table (inl (record { d = d; page = page; table = table; reads = reads; least = least; is = refl }))
+  staged x (double_mapped d page pointers least) = to10 _ d pointers (inl (record { d = d; page = page; pointers = pointers; least = least; is = refl }))
+  staged x (bad_count d before after row pointers single rows_are near far) =
       to11 _ d pointers single (inl (record { d = d; before = before; after = after; row = row; pointers = pointers; rows_are = rows_are; near = near; far = far; is = refl }))
-  staged_of x (crowded d free pointers single near has few) other =
+  staged x (crowded d free pointers single near has few) =
       to11 _ d pointers single (inr ((d, pointers, single, near), record { d = d; free = free; pointers = pointers; has = has; few = few; is = refl }))
-
-  staged : (x : ImageFault) → FirstFault c x → From1 x
-  staged x (not_of_table fault other) = staged_of x fault other
-  staged x (of_table d slot links fault is) = to8 x d links (inl (record { d = d; slot = slot; links = links; fault = fault; is = is }))
 
   -- A fault and what is passed exclude one another.
   apart_image : Excludes AtImage (IsImage c)

@@ -16,9 +16,8 @@ use Rattle.dn_model.specs.Disk.{Disk, Use, Free, Live, Dying, IsUsed, state_numb
 use Rattle.dn_model.specs.Counts.{mappings, IsFree, IsNear}
 use Rattle.dn_model.specs.Valid.{IsCut, IsLinked}
 use Rattle.dn_model.specs.Image.{StandsFor}
-use Rattle.dn_model.specs.Faults.{IsLeast, geometry_of, HasGeometry, IsBadInode, HasInodes, HasLogs, HasLinks, HasTable, HasPointers, IsDouble, HasFree}
+use Rattle.dn_model.specs.Faults.{IsLeast, geometry_of, HasGeometry, IsBadInode, HasInodes, HasLogs, HasLinks, HasTable, HasPointers, IsDouble, HasFree, TableFault}
 use Rattle.dn_laws.specs.SameDisk.{HasSameLogs}
-use Rattle.dn_laws.specs.TableFaults.{FirstTableFault}
 use Rattle.dn_laws.proofs.SameParts.{uses_one, same_logs, chains_one, pointers_one, rows-same, mapped-same}
 use Rattle.dn_laws.proofs.SameMeaning.{mappings-same, names-same, log_page-same, free_count-same, linked-same}
 use Rattle.dn_laws.proofs.LogFaults.{log_fault_one, log_fault_none}
@@ -142,14 +141,14 @@ module _ (c : List ℕ) where
       bad.1 (linked-to e d y.logs x i lt' (y.links i bad.0 lt'))
 
   -- The table.
-  pub bad_table_one : (d e : Disk) (s t : ℕ) → HasLinks c d → HasLinks c e → FirstTableFault d.geometry r s → FirstTableFault e.geometry r t → s ≡ t
-  bad_table_one d e s t x y a b = table_fault_one d.geometry r s t a (subst (λ (g : Geometry). FirstTableFault g r t) (sym (geometry-same d e x.logs.inodes y.logs.inodes)) b)
+  pub bad_table_one : (d e : Disk) (s t : ℕ) → HasLinks c d → HasLinks c e → TableFault d.geometry r s → TableFault e.geometry r t → s ≡ t
+  bad_table_one d e s t x y a b = table_fault_one d.geometry r s t a (subst (λ (g : Geometry). TableFault g r t) (sym (geometry-same d e x.logs.inodes y.logs.inodes)) b)
 
-  pub no_bad_table : (d e : Disk) (s : ℕ) → HasLinks c d → HasTable c e → FirstTableFault d.geometry r s → ⊥
+  pub no_bad_table : (d e : Disk) (s : ℕ) → HasLinks c d → HasTable c e → TableFault d.geometry r s → ⊥
   unfolding rows
   no_bad_table d e s x y fault =
       table_fault_none e.geometry r e.chain (λ q lt k row at. y.table q k row lt at) (λ q lt a v says. y.reads a v (record { prefix = q; direct = lt; says = says })) y.rows_apart s
-      (subst (λ (g : Geometry). FirstTableFault g r s) (geometry-same d e x.logs.inodes y.links.logs.inodes) fault)
+      (subst (λ (g : Geometry). TableFault g r s) (geometry-same d e x.logs.inodes y.links.logs.inodes) fault)
 
   -- Pointers.
   abbrev BadPointerAt : Disk → ℕ → Type 0

@@ -8,9 +8,8 @@ use Rattle.pm_layout.specs.declared.Geometry.{Geometry}
 use Rattle.pm_layout.specs.Geometry.{directs, slot_word}
 use Rattle.dn_model.specs.Table.{Row, ChainSays, rows_from}
 use Rattle.dn_model.specs.Valid.{IsRow, AreApart}
-use Rattle.dn_model.specs.Faults.{ComesNext, direct_row, first_chained, after_row, RowStands}
+use Rattle.dn_model.specs.Faults.{ComesNext, direct_row, first_chained, after_row, RowStands, IsDirectNext, IsIndirect, starts_direct, starts_chained, IsReached, TableFault, no_row, no_next}
 use Rattle.dn_laws.specs.Images.{AreRows}
-use Rattle.dn_laws.specs.TableFaults.{IsDirectNext, IsIndirect, starts_direct, starts_chained, IsReached, FirstTableFault, no_row, no_next}
 use Rattle.dn_laws.proofs.SameChain.{chain_one, first_data_some}
 use Rattle.dn_laws.proofs.SameParts.{rows_from-same}
 use Rattle.dn_laws.proofs.TableWalks.{slice_get-behind, apart_front, rows_from-split, Walk, IsFull, walk_front, full_longest, starts_one, chain_walk, chain_full}
@@ -46,7 +45,7 @@ module _ (g : Geometry) (r : List ℕ) where
     pub reached : IsReached g r chain prefix so_far
     pub why : Why chain prefix so_far slot
 
-  find : (slot : ℕ) → FirstTableFault g r slot → Found slot
+  find : (slot : ℕ) → TableFault g r slot → Found slot
   find slot (no_row chain prefix so_far holder reached next place bad) = record { chain = chain; prefix = prefix; so_far = so_far; reached = reached; why = by_row holder next place bad }
   find slot (no_next chain prefix so_far next reached comes direct some far) = record { chain = chain; prefix = prefix; so_far = so_far; reached = reached; why = by_next next comes direct some far }
 
@@ -234,11 +233,11 @@ module _ (g : Geometry) (r : List ℕ) where
     ]
   ]
 
-  pub table_fault_one : (s s' : ℕ) → FirstTableFault g r s → FirstTableFault g r s' → s ≡ s'
+  pub table_fault_one : (s s' : ℕ) → TableFault g r s → TableFault g r s' → s ≡ s'
   table_fault_one s s' x y = found_one s s' (find s x) (find s' y)
 
   pub table_fault_none : (chain : ℕ → List Row) → ((q : ℕ) → q < directs g → AreRows g q (chain q)) → ((q : ℕ) → q < directs g → Reads (ChainSays g q (chain q)) r)
-      → AreApart (rows_from chain 0 (directs g)) → (s : ℕ) → FirstTableFault g r s → ⊥
+      → AreApart (rows_from chain 0 (directs g)) → (s : ℕ) → TableFault g r s → ⊥
   table_fault_none chain are reads apart s fault =
       let x = find s fault in
       beyond s x chain (directs g) x.reached.front.direct (λ q lt. (are q lt, reads q lt)) [] (subst AreApart (sym (append-nil (rows_from chain 0 (directs g)))) apart)

@@ -7,9 +7,8 @@ use Rattle.pm_layout.specs.declared.Geometry.{Geometry}
 use Rattle.pm_layout.specs.Geometry.{directs, slots, slot_word}
 use Rattle.dn_model.specs.Table.{Row, RowsSay, at_field, at_next, at_later, ChainSays, at_direct_page, at_direct_next, at_row, row_word, first_slot, chained, direct_page_word, rows_from}
 use Rattle.dn_model.specs.Valid.{IsRow, AreApart}
-use Rattle.dn_model.specs.Faults.{RowStands}
+use Rattle.dn_model.specs.Faults.{RowStands, StartsAt, starts_direct, starts_chained}
 use Rattle.dn_laws.specs.Images.{AreRows}
-use Rattle.dn_laws.specs.TableFaults.{StartsAt, starts_direct, starts_chained}
 use Rattle.dn_laws.proofs.SameChain.{row_one, slot_far, first_data_some, Shape, shape, at_own, at_others}
 
 module _ {X : Type 0} where

@@ -2,5 +2,4 @@ pub mod Operations
 pub mod SameDisk
 pub mod Images
 pub mod Counting
-pub mod TableFaults
 pub mod FirstFaults
