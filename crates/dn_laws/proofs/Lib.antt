@@ -1,0 +1,17 @@
+pub mod Listings
+pub mod Answered
+pub mod Sums
+pub mod Counted
+pub mod Ranges
+pub mod SameChain
+pub mod SameParts
+pub mod SameMeaning
+pub mod OneImage
+pub mod SameValid
+pub mod Parsing
+pub mod LogFaults
+pub mod TableWalks
+pub mod TableStops
+pub mod Stages
+pub mod OneFault
+pub mod RolledSame
