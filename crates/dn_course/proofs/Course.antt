@@ -78,9 +78,9 @@ begins print f s now = record {
     rising = λ i j le lt. omega (arith, lt);
     bounds = λ i lt. omega (arith, lt);
     images = λ m k c late left count.
-      let here : m ≡ moment s.past = omega (arith, late, left-moment s.past m c left) in
-      let none : k ≡ 0 = omega (arith, count.few) in
-      of-image print f (moment s.past) [] None k f c (now c (subst (λ (n : ℕ). Left s.past n c) here left))
+        let here : m ≡ moment s.past = omega (arith, late, left-moment s.past m c left) in
+        let none : k ≡ 0 = omega (arith, count.few) in
+        of-image print f (moment s.past) [] None k f c (now c (subst (λ (n : ℕ). Left s.past n c) here left))
         (λ g same. after_k (record { some = omega (arith, none); legal = subst (λ (n : ℕ). Legal f (take n []) g) (sym none) same }));
   };
   leads = λ more g legal. legal;
@@ -154,7 +154,7 @@ module _ (print : Print) (old : Files) (start : ℕ) (history : List Entry) (f g
   -- the files of before, or of after
   old_at : (k : ℕ) (h : Files) → k ≡ length history → IsSameFiles h f → IsFilesAt old next None k h
   old_at k h is same = after_k (subst (λ (n : ℕ). IsAfter old next n h) (sym is)
-    (after-append old history (entry ∷ []) (length history) h (same-after old history (length history) f h same (after-all old history f (legal-told print old start history f s on)))))
+      (after-append old history (entry ∷ []) (length history) h (same-after old history (length history) f h same (after-all old history f (legal-told print old start history f s on)))))
 
   new_after : (n : ℕ) (h : Files) → n ≡ length history + 1 → IsSameFiles h g → IsAfter old next n h
   new_after n h is same = subst (λ (n : ℕ). IsAfter old next n h) (long-next ∙ sym is) (same-after old next (length next) g h same (after-all old next g legal-next))
@@ -163,16 +163,16 @@ module _ (print : Print) (old : Files) (start : ℕ) (history : List Entry) (f g
   images m k c late left count = elim (cases_lt m (moment s.past)) [
     | inl early ↦
         let d = on.course.images m k c late (left-extends s.past t.past m c leaves.extends (omega (arith, early)) left)
-          (count-append on.course.moments (moment t.past) m k (omega (arith, early, later)) (λ i lt. omega (arith, later, (on.course.bounds i lt).1)) count) in
+        (count-append on.course.moments (moment t.past) m k (omega (arith, early, later)) (λ i lt. omega (arith, later, (on.course.bounds i lt).1)) count) in
         (d.0, d.1, d.2, at-append old history (entry ∷ []) None k (files d.0) d.3)
     | inr here ↦ elim (cases_lt m (moment t.past)) [
       | inl before ↦
           let inner = count-append on.course.moments (moment t.past) m k before (λ i lt. omega (arith, later, (on.course.bounds i lt).1)) count in
           let k_is : k ≡ length history = counted inner here in
           ⊎_elim
-            (λ (image : IsImageOf print f c). of-image print old start next None k f c image (λ h same. old_at k h k_is same))
-            (λ (image : IsImageOf print g c). of-image print old start next None k g c image (λ h same. one_more (new_after (k + 1) h (ap (λ n. n + 1) k_is) same)))
-            (leaves.each m c here left)
+          (λ (image : IsImageOf print f c). of-image print old start next None k f c image (λ h same. old_at k h k_is same))
+          (λ (image : IsImageOf print g c). of-image print old start next None k g c image (λ h same. one_more (new_after (k + 1) h (ap (λ n. n + 1) k_is) same)))
+          (leaves.each m c here left)
       | inr end ↦
           let m_is : m ≡ moment t.past = omega (arith, end, left-moment t.past m c left) in
           let k_is : k ≡ length history + 1 = elim (cases_lt k (length history + 1)) [
@@ -233,7 +233,7 @@ at-end print old start history f s flying h on same = after_k (same-after old hi
 pub stays : (print : Print) (old : Files) (start : ℕ) (history : List Entry) (f : Files) (s t : State) → IsOnCourse print old start history f s → LeavesOnly s t (IsImageOf print f) → IsOnCourse print old start history f t
 stays print old start history f s t on leaves = record {
   course = stays_course print old start history f None s t on (IsImageOf print f) leaves
-    (λ c image. of-image print old start history None (length history) f c image (λ h same. at-end print old start history f s None h on same));
+      (λ c image. of-image print old start history None (length history) f c image (λ h same. at-end print old start history f s None h on same));
   leads = on.leads;
   now = λ c left. leaves.each (moment t.past) c (moment-extends s.past t.past leaves.extends) left;
   begun = omega (arith, on.begun, moment-extends s.past t.past leaves.extends);
@@ -242,7 +242,7 @@ stays print old start history f s t on leaves = record {
 pub stops : (print : Print) (old : Files) (start : ℕ) (history : List Entry) (f : Files) (op : Op) (s t : State) → IsOnCourse print old start history f s → IsGranted f op
     → LeavesOneOf print f (after_op f op) s t → Course print old start history (Some op) t
 stops print old start history f op s t on granted leaves = stays_course print old start history f (Some op) s t on _ leaves
-  (λ c. ⊎_elim
+    (λ c. ⊎_elim
     (λ (image : IsImageOf print f c). of-image print old start history (Some op) (length history) f c image (λ h same. at-end print old start history f s (Some op) h on same))
     (λ (image : IsImageOf print (after_op f op) c). of-image print old start history (Some op) (length history) (after_op f op) c image
-      (λ h same. in_flight f op refl refl (legal-told print old start history f s on) granted same)))
+    (λ h same. in_flight f op refl refl (legal-told print old start history f s on) granted same)))
