@@ -1,0 +1,5 @@
+pub mod Cutting
+pub mod FileBytes
+pub mod Filling
+pub mod Appending
+pub mod FillSteps

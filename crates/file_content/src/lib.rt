@@ -1,0 +1,19 @@
+//! The parts of a write and of a read of a file that lie below its commit: the bytes of its pages, and the slots of
+//! the items that map new pages.
+//!
+//! A page is 4,096 bytes or 512 words, also of a file. The slots of a log have eight words.
+#![tactic(auto)]
+
+pub mod fill;
+pub mod place;
+pub mod read;
+pub mod slots;
+
+pub use fill::{FILL_UNITS, fill_place, fill_places};
+pub use place::read_place;
+pub use read::{MOST_BYTES, read_bytes};
+pub use slots::write_slots;
+use std::alloc::AllocError;
+
+/// Memory is wanting.
+pub type NoMemory = AllocError;
