@@ -1,3 +1,3 @@
 pub mod Committed
-pub mod Walked
 pub mod Preparing
+pub mod Reflagged

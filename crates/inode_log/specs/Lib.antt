@@ -1,4 +1,4 @@
 pub mod Commits
-pub mod Chain
 pub mod Prepare
 pub mod PrepareLoop
+pub mod Reflags

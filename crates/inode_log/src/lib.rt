@@ -1,9 +1,9 @@
-//! Logs of inodes.
+//! Logs of inodes grow, and the flags and masks of their items change.
 #![tactic(auto)]
 
+pub mod flag;
 pub mod log;
 pub mod prepare;
-pub mod walk;
 
+pub use flag::{set_flag, set_mask};
 pub use log::commit_log;
-pub use walk::log_pages;

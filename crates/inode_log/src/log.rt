@@ -1,6 +1,6 @@
 // The tail of a log moves.
 ghost use Rattle.std.specs.Prelude.{◌≡◌, ◌+◌, ◌*◌, ◌<◌, ◌≤◌, length, OnOk, IsErr};
-ghost use Rattle.pm_device.specs.Settled.{IsSettled, StoresOnly, LeavesOnly};
+ghost use Rattle.pm_device.specs.Settled.{IsSettled, StoresOnly, LeavesOnly, KeepsFlushed, Others};
 ghost use Rattle.pm_device.specs.Commit.{IsCommitted, IsDone};
 ghost use Rattle.pm_device.specs.State.{Rose};
 ghost use Rattle.pm_layout.specs.Geometry.{IsAccepted, inode_word};
@@ -10,7 +10,10 @@ use pm_device::commit::commit;
 use pm_device::{Failed, Pm};
 use pm_layout::Geometry;
 
-/// Moves the tail to where the prepared items end.
+/// Moves the tail to where the prepared items end. It uses 4 units.
+///
+/// # Errors
+/// `Failed` where a fence failed. A stop may then leave the old list of items or the new one.
 pub fn commit_log<D: Pm>(
     device: &mut D,
     g: &Geometry,
@@ -28,6 +31,8 @@ pub fn commit_log<D: Pm>(
     ensures any_moment { OldOrNewLog g.now who ino tail (D.state device.old) (D.state device.new) }
     ensures stands { OnOk result (NewLogStands g.now who ino tail (D.state device.old) (D.state device.new)) }
     ensures only { StoresOnly (λ a. a ≡ inode_word ino 2) (D.state device.old) (D.state device.new) }
+    ensures others { KeepsFlushed (Others who) (λ a. a ≡ inode_word ino 2) (D.state device.old) (D.state device.new) }
+    ensures spare { (D.state device.old).spare ≤ (D.state device.new).spare + 4 }
     ensures faults { (D.state device.old).faults ≤ (D.state device.new).faults }
     ensures failed { IsErr result → Rose (D.state device.old).faults (D.state device.new).faults }
 {
