@@ -1,4 +1,5 @@
 pub mod Items
+pub mod Laws
 pub mod Slots
 pub mod Walk
 pub mod Way

@@ -2,9 +2,13 @@
 #![tactic(auto)]
 
 pub mod items;
+pub mod laws;
 pub mod log;
 pub mod pages;
 pub mod slots;
 
 pub use items::Placed;
 pub use log::{WalkFault, walk};
+
+#[cfg(test)]
+mod tests;
