@@ -24,7 +24,6 @@ use Rattle.dn_changes.specs.Runs.{Run as DiskRun, places_in, block_at, IsChained
 use Rattle.dn_changes.specs.MayWrite.{MayWrite}
 use Rattle.dn_changes.proofs.WriteFree.{places_apart, free-kept, fresh-not_free, block-not_free, free_cases, overwritten-free}
 use Rattle.dn_changes.proofs.MappedPlaces.{maps-in_file}
-
 use Rattle.dn_changes.proofs.WriteValid.{written_valid, mapped_counts}
 use Rattle.dn_changes.proofs.WrittenDisk.{written-writes, written-well_without_rows}
 use Rattle.file_content.specs.Content.{IsFileOf, kept}
@@ -183,23 +182,23 @@ module _ (g : Geometry) (ino size : ℕ) (index : Index nat_cmp Mapping) (set mi
     pub free-after : (page : ℕ) → Contains set'.free page ↔ IsFree new page
     free-after page = (
       (λ there. ⊎_elim
-        (λ (in_mid : Contains mid.free page).
-        let was = (is.takes.rest page).0 in_mid in
-        free-kept ino d new event page ((held.free page).0 was.0) (λ i lt e. was.2 (subst (Contains plan.blocks.items) e (block-listed i lt))) was.1)
-        (λ (block : IsBlockAmong index.map plan.first (length plan.blocks.items) page).
-        let from = block-of (plan.first + block.i) page block.block in
-        overwritten-free ino d new event well page (record { i = block.i; below = omega (arith, is.cut.places, block.below); by = from.0; was = from.1; block = from.2 }) (no_row_of d held.no_rows page))
-        ((ends.gives.free page).0 there)),
+          (λ (in_mid : Contains mid.free page).
+          let was = (is.takes.rest page).0 in_mid in
+          free-kept ino d new event page ((held.free page).0 was.0) (λ i lt e. was.2 (subst (Contains plan.blocks.items) e (block-listed i lt))) was.1)
+          (λ (block : IsBlockAmong index.map plan.first (length plan.blocks.items) page).
+          let from = block-of (plan.first + block.i) page block.block in
+          overwritten-free ino d new event well page (record { i = block.i; below = omega (arith, is.cut.places, block.below); by = from.0; was = from.1; block = from.2 }) (no_row_of d held.no_rows page))
+          ((ends.gives.free page).0 there)),
       (λ free. ⊎_elim
-        (λ (was : IsFree d page).
-        (ends.gives.free page).1 (inl ((is.takes.rest page).1 ((held.free page).1 was, (λ c. fresh-not_free ino d new event page c free), (λ c. listed-block page c free)))))
-        (λ (over : IsOverwritten ino d new event page).
-        (ends.gives.free page).1 (inr (record {
-          i = over.i;
-          below = omega (arith, is.cut.places, over.below);
-          block = subst (λ (o : Option Mapping). IsBlockOf o page) (sym (held.file.places (plan.first + over.i))) (subst (IsBlockOf (option_map kept (maps d ino (plan.first + over.i)))) over.block (block-kept (maps d ino (plan.first + over.i)) over.by over.was));
-        })))
-        (free_cases ino d new event well (omega (arith, held.file.size_is, grows)) page free)),
+          (λ (was : IsFree d page).
+          (ends.gives.free page).1 (inl ((is.takes.rest page).1 ((held.free page).1 was, (λ c. fresh-not_free ino d new event page c free), (λ c. listed-block page c free)))))
+          (λ (over : IsOverwritten ino d new event page).
+          (ends.gives.free page).1 (inr (record {
+            i = over.i;
+            below = omega (arith, is.cut.places, over.below);
+            block = subst (λ (o : Option Mapping). IsBlockOf o page) (sym (held.file.places (plan.first + over.i))) (subst (IsBlockOf (option_map kept (maps d ino (plan.first + over.i)))) over.block (block-kept (maps d ino (plan.first + over.i)) over.by over.was));
+          })))
+          (free_cases ino d new event well (omega (arith, held.file.size_is, grows)) page free)),
     )
 
     pub has-written : HasWritten g ino plan.size index'.map set' at text d s t

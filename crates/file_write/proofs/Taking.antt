@@ -108,11 +108,15 @@ module _ (old mid new : FreePages) (fresh blocks : List ℕ) (in_order : IsInOrd
   fresh-behind = parts-apart fresh behind rising
 
   two : 2 ≤ length new.free → (p : ℕ) × (q : ℕ) × (p ≢ q) × Contains new.free p × Contains new.free q
-  two enough = (slice_index new.free 0, slice_index new.free 1,
-      (λ e.
+  two enough = (
+    slice_index new.free 0,
+    slice_index new.free 1,
+    (λ e.
         let same = behind-apart (length blocks + 0) (length blocks + 1) (omega (arith, enough, long-behind)) (omega (arith, enough, long-behind)) (at-right 0 ∙ e ∙ sym (at-right 1)) in
         omega (arith, same)),
-      Contains-get_or new.free 0 0 (omega (arith, enough)), Contains-get_or new.free 1 0 (omega (arith, enough)))
+    Contains-get_or new.free 0 0 (omega (arith, enough)),
+    Contains-get_or new.free 1 0 (omega (arith, enough)),
+  )
 
   pub fresh-left : (p : ℕ) → Contains fresh p → Contains new.free p → ⊥
   fresh-left p f n = fresh-behind p f (Contains-append_right blocks new.free p n)
@@ -140,9 +144,9 @@ module _ (old mid new : FreePages) (fresh blocks : List ℕ) (in_order : IsInOrd
       same = same ∙ second.same ∙ first.same;
       rest = λ p. (
         (λ there. ⊎_elim
-          (λ (n : Contains new.free p). (new-old p n, none_in p, (λ c. blocks-new p c n)))
-          (λ (f : Contains fresh p). (fresh-old p f, none_in p, (λ c. fresh-behind p f (Contains-append_left blocks new.free p c))))
-          ((back p).0 there)),
+            (λ (n : Contains new.free p). (new-old p n, none_in p, (λ c. blocks-new p c n)))
+            (λ (f : Contains fresh p). (fresh-old p f, none_in p, (λ c. fresh-behind p f (Contains-append_left blocks new.free p c))))
+            ((back p).0 there)),
         (λ kept. ⊎_elim (λ (a : Contains fresh p). (back p).1 (inr a)) (λ rest. ⊎_elim (λ (b : Contains blocks p). absurd (kept.2 b)) (λ (n : Contains new.free p). (back p).1 (inl n)) rest) (cases p kept.0)),
       );
       fresh_free = λ p c. absurd (none_in p c);
@@ -168,13 +172,16 @@ took-length old new pages so_far = ap length so_far.split ∙ length-append page
 -- a page that is given back, where it was the only one of these
 pub returned-one : (old new : FreePages) (fresh rest : List ℕ) (page : ℕ) → fresh ≡ rest ++ page ∷ [] → length fresh ≤ 1 → GivesBack page old new
     → (rest ≡ []) × ((p : ℕ) → Contains new.free p ↔ (Contains old.free p ⊎ Contains fresh p))
-returned-one old new fresh rest page is few gives = (none, λ p. (
-  (λ there. ⊎_elim (λ (e : p ≡ page). inr (subst (Contains fresh) (sym e) here)) (λ (ne : p ≢ page). inl ((gives.others p ne).0 there)) (cases_eq p page)),
-  (λ either. ⊎_elim
-    (λ (was : Contains old.free p). ⊎_elim (λ (e : p ≡ page). subst (Contains new.free) (sym e) gives.there) (λ (ne : p ≢ page). (gives.others p ne).1 was) (cases_eq p page))
-    (λ (f : Contains fresh p). subst (Contains new.free) (only_one page p (subst (λ xs. Contains xs p) single f)) gives.there)
-    either),
-))
+returned-one old new fresh rest page is few gives = (
+  none,
+  λ p. (
+    (λ there. ⊎_elim (λ (e : p ≡ page). inr (subst (Contains fresh) (sym e) here)) (λ (ne : p ≢ page). inl ((gives.others p ne).0 there)) (cases_eq p page)),
+    (λ either. ⊎_elim
+        (λ (was : Contains old.free p). ⊎_elim (λ (e : p ≡ page). subst (Contains new.free) (sym e) gives.there) (λ (ne : p ≢ page). (gives.others p ne).1 was) (cases_eq p page))
+        (λ (f : Contains fresh p). subst (Contains new.free) (only_one page p (subst (λ xs. Contains xs p) single f)) gives.there)
+        either),
+  ),
+)
   where
     none : rest ≡ []
     none = empty rest (omega (arith, ap length is, length-append rest (page ∷ []), few))

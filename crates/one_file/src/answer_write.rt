@@ -41,7 +41,10 @@ fn reply_of_fault(fault: WriteFault) -> Result<Reply, RunFault>
     ensures { FaultTells fault result }
 {
     match fault {
-        WriteFault::NoSpace { needed, free } => Ok(Reply::Refused(Refusal::NoSpace { needed, free })),
+        WriteFault::NoSpace { needed, free } => Ok(Reply::Refused(Refusal::NoSpace {
+            needed,
+            free,
+        })),
         WriteFault::NoMemory => Err(RunFault::NoMemory),
         WriteFault::Stopped => Err(RunFault::Stopped),
     }

@@ -33,8 +33,14 @@ returns c =
     let one : length c.in_ok-fresh.fresh.items ≡ (if nat_lt c.args.room c.places_of-places.result then 1 else 0) = omega (arith, c.in_ok-fresh.ensures.count, c.pages_needed.ensures) in
     let enough = subst (λ (n : ℕ). n + (if nat_lt c.args.room n then 1 else 0) + 4 ≤ length c.args.free.now.free) (sym c.places_of-places.ensures) c.requires.enough in
     let count : c.len.result ≡ length c.in_ok-runs.runs.items = omega (arith, c.len.ensures, c.in_ok-runs.runs.ok.0) in
-    let left : 2 ≤ length c.take_pages-2.new.free.free = omega (arith, took-length c.args.free.now c.take_pages.new.free c.in_ok-fresh.fresh.items c.in_ok-fresh.ensures.taken,
-    took-length c.take_pages.new.free c.take_pages-2.new.free c.in_ok-blocks.blocks.items c.in_ok-blocks.ensures.taken, enough, long, one) in
+    let left : 2 ≤ length c.take_pages-2.new.free.free = omega (
+      arith,
+      took-length c.args.free.now c.take_pages.new.free c.in_ok-fresh.fresh.items c.in_ok-fresh.ensures.taken,
+      took-length c.take_pages.new.free c.take_pages-2.new.free c.in_ok-blocks.blocks.items c.in_ok-blocks.ensures.taken,
+      enough,
+      long,
+      one,
+    ) in
     let kept = planned c.args.room (length c.in_ok-runs.runs.items) c.places_of-places.result c.args.free.now c.take_pages.new.free c.take_pages-2.new.free c.return_unused.new.free c.in_ok-fresh.fresh.items c.return_unused.new.fresh.items c.in_ok-blocks.blocks.items
     c.requires.in_order c.in_ok-fresh.ensures.taken c.in_ok-blocks.ensures.taken left few one (subst (λ (n : ℕ). ReturnsUnused (nat_lt c.args.room n) c.take_pages-2.new.free c.return_unused.new.free c.in_ok-fresh.fresh.items c.return_unused.new.fresh.items) count c.return_unused.ensures) in
     record {

@@ -12,10 +12,11 @@ take_page-requires c = omega (arith, took-length c.args.free.now c.loop-i.free c
 
 pub loop-i-preserved : goal.loop-i-preserved
 loop-i-preserved c =
-    let is : c.push.new.self.items ≡ c.loop-i.pages.items ++ c.take_page.result ∷ [] = c.in_ok-push.ensures.items in
-    (omega (arith, ap length is, length-append c.loop-i.pages.items (c.take_page.result ∷ []), c.loop-i.invariant.0),
-    subst (TakesFirst c.args.free.now c.take_page.new.free) (sym is) (took-one c.args.free.now c.loop-i.free c.take_page.new.free c.loop-i.pages.items c.take_page.result c.loop-i.invariant.1 c.take_page.ensures),
-    omega (arith, c.loop-i-test.true))
+    let is : c.push.new.self.items ≡ c.loop-i.pages.items ++ c.take_page.result ∷ [] = c.in_ok-push.ensures.items in (
+      omega (arith, ap length is, length-append c.loop-i.pages.items (c.take_page.result ∷ []), c.loop-i.invariant.0),
+      subst (TakesFirst c.args.free.now c.take_page.new.free) (sym is) (took-one c.args.free.now c.loop-i.free c.take_page.new.free c.loop-i.pages.items c.take_page.result c.loop-i.invariant.1 c.take_page.ensures),
+      omega (arith, c.loop-i-test.true),
+    )
 
 pub returns-clause-taken : goal.returns-clause-taken
 returns-clause-taken c = c.loop-i.invariant.1
