@@ -1,85 +1,128 @@
 -- Lemmas on outcomes.
-use Rattle.std.proofs.Common.{◌≡◌, ◌⊎◌, inl, inr, ⊎_elim, ◌*◌, ◌<◌, ◌≤◌, ℕ, List, length, Option, Some, None, Result, Ok, Err, IsOk, OnOk, IfSome, refl, ap, ◌∙◌, sym, subst, arith}
+use Rattle.std.proofs.Common.{◌≡◌, ◌⊎◌, inl, inr, ⊎_elim, ◌*◌, ◌<◌, ◌≤◌, ℕ, List, [], length, Option, Some, None, Result, Ok, Err, IsOk, OnOk, IfSome, refl, ap, ◌∙◌, sym, subst, arith}
+use Rattle.std.proofs.lemmas.List.{append-nil}
 use Rattle.pm_device.specs.State.{State, Rose}
-use Rattle.dn_model.specs.Disk.{Disk}
+use Rattle.pm_device.specs.Reading.{Stands}
+use Rattle.pm_layout.specs.declared.Geometry.{Geometry}
+use Rattle.dn_model.specs.Log.{Log}
+use Rattle.dn_model.specs.Disk.{Disk, DiskSays}
+use Rattle.dn_model.specs.Own.{Print, IsOwn}
 use Rattle.dn_model.specs.Image.{StandsFor}
 use Rattle.dn_model.specs.declared.op.Op.{Op}
 use Rattle.dn_model.specs.declared.op.Entry.{Entry}
 use Rattle.dn_changes.proofs.WriteEvent.{stands_for_read}
 use Rattle.dn_script.specs.Streams.{with_back}
 use Rattle.dn_script.specs.Text.{lines}
-use Rattle.one_file.specs.First.{first_disk}
-use Rattle.one_file.specs.Held.{IsDiskOf, Agrees}
-use Rattle.one_file.specs.Session.{ops_of, IsOpened, HasRun}
+use Rattle.one_file_open.specs.Opened.{IsOpened}
+use Rattle.one_file_open.specs.declared.session.Opened.{Opened}
+use Rattle.one_file.specs.Held.{IsDiskOf}
+use Rattle.one_file.specs.Session.{ops_of, HasRun, HasStopped, LacksMemory}
 use Rattle.one_file.specs.declared.file.OneFile.{OneFile}
 use Rattle.one_file.specs.declared.answer.RunFault.{RunFault}
 use Rattle.one_file.specs.declared.answer.RunFault.TheVariants as run
-use Rattle.denova_cli.specs.Report.{no_memory_text}
 use Rattle.denova_cli.specs.Job.{Ops, BadAt, job_of}
-use Rattle.denova_cli.specs.Tool.{HasText, status_of, text_of, Writes, EndTells, RunTells, OpsTell, Tells, Ended, IsNoCommand, IsApplied, IsUsage, IsBadJob, IsUnbuilt, IsStopped, IsUnread, IsTooLong, IsServable}
+use Rattle.denova_cli.specs.Tool.{HasText, status_of, text_of, Writes, EndTells, HasRunAll, HasStoppedIn, HasRunPart, between, in_one, OfOneFile, RunTells, OpsTell, ApplyTells, Tells, Ended, HasJob, ops_in, lines_in, HasLackedMemory, untouched, begun, IsNoCommand, IsApplied, IsUsage, IsBadJob, IsUnbuilt, IsStopped, IsUnread, IsUnwritten, IsWithoutMemory, IsTooLong, IsServable}
 use Rattle.denova_cli.specs.declared.words.Command.TheVariants as command
+use Rattle.denova_cli.specs.declared.job.NumberedOp.{NumberedOp}
 use Rattle.denova_cli.specs.declared.tool.Outcome.{Outcome}
 use Rattle.denova_cli.specs.declared.tool.Outcome.TheVariants.{Applied, Usage, BadLine, Unbuilt, Stopped, ReadFault as Unread, NoMemory, TooLong}
 
 -- the words of a device that stands for a disk are those of an image of it
 stands_for : {D : Type 0} (state : D → State) (v : OneFile D) (d : Disk) → IsDiskOf state v d → StandsFor (state v.device).now d
-stands_for state v d held =
-    stands_for_read d (state v.device).now held.valid held.stands.reads (held.long ∙ ap (λ g. 512 * g.pages) (sym held.geometry))
-
--- what is held after a run agrees with a disk
-pub agrees_after : {D E : Type 0} (state : D → State) (v w : OneFile D) (history : List Entry) (ran : Result (Unit {0}) E) → OnOk ran ((d : Disk) → IsDiskOf state v d → HasRun state d history w)
-    → Agrees state v → OnOk ran (Agrees state w)
-agrees_after state v w history (Ok u) runs held =
-    let h = runs held.disk held.is in
-    record { disk = h.after; is = h.held }
-agrees_after state v w history (Err e) runs held = tt
+stands_for state v d is =
+    stands_for_read d (state v.device).now is.held.valid is.held.stands.reads (is.held.long ∙ ap (λ (g : Geometry). 512 * g.pages) (sym is.held.geometry))
 
 at_ok : {T E P : Type 0} (r : Result T E) → IsOk r → OnOk r P → P
 at_ok (Ok x) ok fact = fact
 at_ok (Err e) ok fact = absurd (cc)
 
--- a run and its outcome
-pub run_tells : {D : Type 0} (state : D → State) (v w : OneFile D) (ran : Result (Unit {0}) RunFault) (ops : List Op) (numbers : List ℕ) (history : List Entry) (outcome : Outcome)
-    → OnOk ran (ops_of history ≡ ops) → OnOk ran ((d : Disk) → IsDiskOf state v d → HasRun state d history w)
-    → (ran ≡ Err run.Stopped → Rose (state v.device).faults (state w.device).faults)
-    → EndTells state w ran numbers history outcome → RunTells state v ops numbers (state w.device) outcome
-run_tells state v w ran ops numbers history (Applied text) same runs stopped told = λ d held.
-    let h : HasRun state d history w = at_ok ran told.1 runs d held in
-    record {
-      history = history;
-      same_ops = at_ok ran told.1 same;
-      after = h.after;
-      runs = h.runs;
-      stands = stands_for state w h.after h.held;
-      free = told.0;
-      has_free = told.2 h.after h.held;
-      text_is = told.3;
-    }
-run_tells state v w ran ops numbers history (Stopped text) same runs stopped told = (stopped told.0, (history, told.1))
-run_tells state v w ran ops numbers history NoMemory same runs stopped told = tt
-run_tells state v w ran ops numbers history (BadLine text) same runs stopped told = told
-run_tells state v w ran ops numbers history Usage same runs stopped told = told
-run_tells state v w ran ops numbers history Unbuilt same runs stopped told = told
-run_tells state v w ran ops numbers history Unread same runs stopped told = told
-run_tells state v w ran ops numbers history TooLong same runs stopped told = told
+-- what each end of a run says
+module _ {D : Type 0} (state : D → State) (v w : OneFile D) (ran : Result (Unit {0}) RunFault) (ops : List Op) (history : List Entry)
+    (all : OnOk ran ((d : Disk) (print : Print) → IsDiskOf state v d → IsOwn print d → HasRun state print d (state v.device) ops history w))
+    (stopped : ran ≡ Err run.Stopped → (d : Disk) (print : Print) → IsDiskOf state v d → IsOwn print d → HasStopped print d (state v.device) ops history (state w.device))
+    (lacks : ran ≡ Err run.NoMemory → (d : Disk) (print : Print) → IsDiskOf state v d → IsOwn print d → LacksMemory print d (state v.device) ops (state w.device))
+    (failed : ran ≡ Err run.Stopped → Rose (state v.device).faults (state w.device).faults) where
+  run_part : (d : Disk) (print : Print) → IsDiskOf state v d → IsOwn print d → HasRunPart print d ops (state v.device) (state w.device)
+  run_part d print is own = by_end ran refl
+    where
+      by_end : (r : Result (Unit {0}) RunFault) → ran ≡ r → HasRunPart print d ops (state v.device) (state w.device)
+      by_end (Ok u) e =
+          let h : HasRun state print d (state v.device) ops history w = at_ok ran (subst (λ (r : Result (Unit {0}) RunFault). IsOk r) (sym e) refl) all d print is own in
+          between (record { history = history; rest = []; split = sym h.all ∙ sym (append-nil (ops_of history)); after = h.after; runs = h.runs; course = h.course })
+      by_end (Err run.NoMemory) e = between (lacks e d print is own)
+      by_end (Err run.Stopped) e = in_one history (failed e) (stopped e d print is own)
+
+  pub run_tells : (numbers : List ℕ) (outcome : Outcome) → EndTells state w ran numbers history outcome → RunTells state v ops numbers (state w.device) outcome
+  run_tells numbers (Applied text) told = λ d print is own.
+      let h : HasRun state print d (state v.device) ops history w = at_ok ran told.1 all d print is own in
+      record {
+        history = history;
+        same_ops = h.all;
+        after = h.after;
+        runs = h.runs;
+        stands = stands_for state w h.after h.held;
+        own = h.own;
+        course = h.course.course;
+        free = told.0;
+        has_free = told.2 h.after h.held;
+        text_is = told.3;
+      }
+  run_tells numbers (Stopped text) told = (failed told.0, λ d print is own. record { history = history; stopped = stopped told.0 d print is own; text_is = told.1 })
+  run_tells numbers NoMemory told = run_part
+  run_tells numbers (BadLine text) told = told
+  run_tells numbers Usage told = told
+  run_tells numbers Unbuilt told = told
+  run_tells numbers Unread told = told
+  run_tells numbers TooLong told = told
+
+-- an open image as operations are run on it
+abbrev pub held_of : {D : Type 0} → Opened D → OneFile D
+held_of o = record { device = o.device; geometry = o.geometry; name = o.name; size = o.size; map = o.map; free = o.free }
+
+pub is_disk : {D : Type 0} (state : D → State) (s : State) (o : Opened D) (opened : IsOpened state s o) → IsDiskOf state (held_of o) opened.disk
+is_disk state s o opened = record {
+  held = record {
+    geometry = opened.geometry;
+    long = ap (λ (u : State). length u.now) opened.same ∙ opened.one.stands_for.size ∙ ap (λ (g : Geometry). 512 * g.pages) opened.geometry;
+    stands = subst (λ (u : State). Stands (DiskSays opened.disk) u) (sym opened.same) opened.stands;
+    valid = opened.one.stands_for.valid;
+    file = opened.file;
+    no_root = omega arith;
+    no_rows = opened.one.no_rows;
+    pages = opened.pages;
+    free = opened.free;
+  };
+  root = ap (λ (l : Log). l.items) opened.one.root_log;
+}
 
 -- a run on an image that was just opened
-pub ops_tell : {D : Type 0} (state : D → State) (v : OneFile D) (ops : List Op) (numbers : List ℕ) (s t : State) (outcome : Outcome)
-    → IsOpened state s v → RunTells state v ops numbers t outcome → OpsTell ops numbers s t outcome
-ops_tell state v ops numbers s t (Applied text) opened told =
-    record {
-      geometry = v.geometry;
-      name = v.name;
-      first = opened.first;
-      all = told (first_disk v.geometry v.name) opened.held;
-    }
-ops_tell state v ops numbers s t (Stopped text) opened told = (subst (λ (u : State). Rose u.faults t.faults) opened.same told.0, told.1)
-ops_tell state v ops numbers s t NoMemory opened told = tt
-ops_tell state v ops numbers s t (BadLine text) opened told = absurd told
-ops_tell state v ops numbers s t Usage opened told = absurd told
-ops_tell state v ops numbers s t Unbuilt opened told = absurd told
-ops_tell state v ops numbers s t Unread opened told = absurd told
-ops_tell state v ops numbers s t TooLong opened told = absurd told
+module _ {D : Type 0} (state : D → State) (o : Opened D) (ops : List Op) (numbers : List ℕ) (s t : State) (opened : IsOpened state s o) where
+  of_one : (P : State → Print → Disk → Type 0) → ((print : Print) → IsOwn print opened.disk → P (state o.device) print opened.disk) → OfOneFile s.now (P s)
+  of_one P holds = record { disk = opened.disk; name = o.name; image = opened.one; holds = λ print own. subst (λ (u : State). P u print opened.disk) opened.same (holds print own) }
+
+  held : IsDiskOf state (held_of o) opened.disk
+  held = is_disk state s o opened
+
+  pub ops_tell : (outcome : Outcome) → RunTells state (held_of o) ops numbers t outcome → OpsTell ops numbers s t outcome
+  ops_tell (Applied text) told = of_one (λ u print d. HasRunAll print d ops numbers u t text.items) (λ print own. told opened.disk print held own)
+  ops_tell (Stopped text) told = (subst (λ (u : State). Rose u.faults t.faults) opened.same told.0, of_one (λ u print d. HasStoppedIn print d ops numbers u t text.items) (λ print own. told.1 opened.disk print held own))
+  ops_tell NoMemory told = inr (of_one (λ u print d. HasRunPart print d ops u t) (λ print own. told opened.disk print held own))
+  ops_tell (BadLine text) told = absurd told
+  ops_tell Usage told = absurd told
+  ops_tell Unbuilt told = absurd told
+  ops_tell Unread told = absurd told
+  ops_tell TooLong told = absurd told
+
+-- a job that was read and run
+pub apply_tells : (left : Option (List ℕ)) (old new : ℕ) (ops : List NumberedOp) (s t : State) → HasJob left ops → (outcome : Outcome) → OpsTell (ops_in ops) (lines_in ops) s t outcome → ApplyTells left old new s t outcome
+apply_tells left old new ops s t job (Applied text) told = record { ops = ops; job = job; run = told }
+apply_tells left old new ops s t job (Stopped text) told = record { ops = ops; job = job; rose = told.0; run = told.1 }
+apply_tells left old new ops s t job Unbuilt told = record { ops = ops; job = job; same = told.0; no_first = told.1 }
+apply_tells left old new ops s t job NoMemory told = ⊎_elim (λ same. untouched same) (λ run. begun ops job run) told
+apply_tells left old new ops s t job (BadLine text) told = absurd told
+apply_tells left old new ops s t job Usage told = absurd told
+apply_tells left old new ops s t job Unread told = absurd told
+apply_tells left old new ops s t job TooLong told = absurd told
 
 -- a status that isn't that of a failed write is the outcome's, whose text was taken
 told_at : (want : ℕ) (text : List ℕ) (had has : Option (List ℕ)) (old new status n : ℕ) → Writes want text had has old new status → status ≡ n → (n ≡ 6 → ⊥) → (want ≡ n) × (has ≡ with_back had text)
@@ -122,25 +165,7 @@ too_long_not None rest long is few = absurd (cc)
 
 module _ (words : List (List ℕ)) (left : Option (List ℕ)) (old new : ℕ) (s t : State) (had has : Option (List ℕ)) (sink_old sink_new status : ℕ) where
   applied_of : (o : Outcome) → Tells words left old new s t o → (status_of o ≡ 0) × (has ≡ with_back had (text_of o)) → IsApplied words left s t had has
-  applied_of (Applied text) tells w =
-      let a = tells.1 in
-      let all = a.run.all in
-      record {
-        command = tells.0;
-        ops = a.ops;
-        job = a.job;
-        geometry = a.run.geometry;
-        name = a.run.name;
-        first = a.run.first;
-        history = all.history;
-        same_ops = all.same_ops;
-        after = all.after;
-        runs = all.runs;
-        stands = all.stands;
-        free = all.free;
-        has_free = all.has_free;
-        written = w.1 ∙ ap (with_back had) all.text_is;
-      }
+  applied_of (Applied text) tells w = let a = tells.1 in record { command = tells.0; ops = a.ops; job = a.job; text = text.items; run = a.run; written = w.1 }
   applied_of o tells w = absurd (omega (arith, w.0))
 
   usage_of : (o : Outcome) → Tells words left old new s t o → (status_of o ≡ 1) × (has ≡ with_back had (text_of o)) → IsUsage words s t had has
@@ -158,17 +183,16 @@ module _ (words : List (List ℕ)) (left : Option (List ℕ)) (old new : ℕ) (s
   unbuilt_of o tells w = absurd (omega (arith, w.0))
 
   stopped_of : (o : Outcome) → Tells words left old new s t o → (status_of o ≡ 4) × (has ≡ with_back had (text_of o)) → IsStopped words left s t had has
-  stopped_of (Stopped text) tells w =
-      record { command = tells.0; ops = tells.1.ops; job = tells.1.job; rose = tells.1.rose; history = tells.1.history; written = w.1 ∙ ap (with_back had) tells.1.text_is }
+  stopped_of (Stopped text) tells w = let a = tells.1 in record { command = tells.0; ops = a.ops; job = a.job; rose = a.rose; text = text.items; run = a.run; written = w.1 }
   stopped_of o tells w = absurd (omega (arith, w.0))
 
   unread_of : (o : Outcome) → Tells words left old new s t o → (status_of o ≡ 5) × (has ≡ with_back had (text_of o)) → IsUnread words old new s t had has
   unread_of Unread tells w = record { command = tells.0; rose = tells.2; same = tells.1; written = w.1 }
   unread_of o tells w = absurd (omega (arith, w.0))
 
-  no_memory_of : (o : Outcome) → (status_of o ≡ 7) × (has ≡ with_back had (text_of o)) → has ≡ with_back had no_memory_text
-  no_memory_of NoMemory w = w.1
-  no_memory_of o w = absurd (omega (arith, w.0))
+  no_memory_of : (o : Outcome) → Tells words left old new s t o → (status_of o ≡ 7) × (has ≡ with_back had (text_of o)) → IsWithoutMemory words left s t had has
+  no_memory_of NoMemory tells w = record { command = tells.0; run = tells.1; written = w.1 }
+  no_memory_of o tells w = absurd (omega (arith, w.0))
 
   too_long_of : (o : Outcome) → Tells words left old new s t o → (status_of o ≡ 8) × (has ≡ with_back had (text_of o)) → IsTooLong words left s t had has
   too_long_of TooLong tells w = record { command = tells.0; long = tells.2; same = tells.1; written = w.1 }
@@ -182,7 +206,7 @@ module _ (words : List (List ℕ)) (left : Option (List ℕ)) (old new : ℕ) (s
   no_command_of Unbuilt tells none = absurd (none command.Apply tells.0)
   no_command_of (Stopped text) tells none = absurd (none command.Apply tells.0)
   no_command_of Unread tells none = absurd (none command.Apply tells.0)
-  no_command_of NoMemory tells none = absurd (none command.Apply tells)
+  no_command_of NoMemory tells none = absurd (none command.Apply tells.0)
   no_command_of TooLong tells none = absurd (none command.Apply tells.0)
 
   -- where all can be served there is no outcome but a whole run, or that memory ran out
@@ -195,7 +219,7 @@ module _ (words : List (List ℕ)) (left : Option (List ℕ)) (old new : ℕ) (s
       let parsed : job_of 1 (lines bad.text) ≡ Ops can.ops = ap (λ (x : List ℕ). job_of 1 (lines x)) (same_text left bad.text can.text bad.told can.told) ∙ can.parsed in
       let clash : BadAt tells.2.0 ≡ Ops can.ops = sym bad.parsed ∙ parsed in
       absurd (cc)
-  served_of Unbuilt tells can = absurd (tells.1.no_first can.geometry can.name can.first)
+  served_of Unbuilt tells can = absurd (tells.1.no_first can.disk can.name can.image)
   served_of (Stopped text) tells can = absurd (can.device_well tells.1.rose)
   served_of Unread tells can = absurd (can.source_well tells.2)
   served_of TooLong tells can = absurd (too_long_not left can.text tells.2 can.told can.few)
@@ -221,14 +245,14 @@ module _ (words : List (List ℕ)) (left : Option (List ℕ)) (old new : ℕ) (s
   pub unread : Ended words left old new s t had has sink_old sink_new status → status ≡ 5 → IsUnread words old new s t had has
   unread e is = unread_of e.outcome e.tells (at e 5 is (λ six. omega arith))
 
-  pub no_memory : Ended words left old new s t had has sink_old sink_new status → status ≡ 7 → has ≡ with_back had no_memory_text
-  no_memory e is = no_memory_of e.outcome (at e 7 is (λ six. omega arith))
+  pub no_memory : Ended words left old new s t had has sink_old sink_new status → status ≡ 7 → IsWithoutMemory words left s t had has
+  no_memory e is = no_memory_of e.outcome e.tells (at e 7 is (λ six. omega arith))
 
   pub too_long : Ended words left old new s t had has sink_old sink_new status → status ≡ 8 → IsTooLong words left s t had has
   too_long e is = too_long_of e.outcome e.tells (at e 8 is (λ six. omega arith))
 
-  pub unwritten : Ended words left old new s t had has sink_old sink_new status → status ≡ 6 → Rose sink_old sink_new
-  unwritten e is = ⊎_elim (λ good. absurd (never_six e.outcome (sym good.0 ∙ is))) (λ failed. failed.1) e.told
+  pub unwritten : Ended words left old new s t had has sink_old sink_new status → status ≡ 6 → IsUnwritten words left old new s t had has sink_old sink_new
+  unwritten e is = ⊎_elim (λ good. absurd (never_six e.outcome (sym good.0 ∙ is))) (λ failed. record { rose = failed.1; outcome = e.outcome; tells = e.tells; front = failed.2 }) e.told
 
   pub known : Ended words left old new s t had has sink_old sink_new status → status ≤ 8
   known e = ⊎_elim (λ good. omega (arith, good.0, known_status e.outcome)) (λ failed. omega (arith, failed.0)) e.told

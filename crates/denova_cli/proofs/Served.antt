@@ -1,14 +1,13 @@
 -- The operations of a job are served.
 use Rattle.std.proofs.Common.{◌≡◌, ◌∷◌, [], ◌+◌, ℕ, List, Bool, true, false, if◌then◌else◌, Option, All, refl, subst, arith}
 use Rattle.std.proofs.lemmas.List.Elements.{All-cons}
-use Rattle.std.proofs.lemmas.Bool.Decides.{nat_tests}
 use Rattle.dn_model.specs.declared.op.Op.{Op}
 use Rattle.dn_model.specs.declared.op.Op.TheVariants.{Create, Write, Read, Cut, Remove, Rename, Size, List as ListAll}
 use Rattle.dn_script.specs.declared.line.JobForm.TheVariants.{Apply}
 use Rattle.dn_script.specs.declared.line.LineMeaning.{LineMeaning}
 use Rattle.dn_script.specs.declared.line.LineMeaning.TheVariants.{Skip, Do, Count, Client, Turns, Bad}
 use Rattle.dn_script.specs.Line.{meaning_of}
-use Rattle.one_file.specs.Session.{IsServed}
+use Rattle.one_file.specs.Answer.{IsServed}
 use Rattle.denova_cli.specs.Job.{JobText, Ops, BadAt, is_served, part_of, with_part, job_of}
 use Rattle.denova_cli.specs.Tool.{ops_in, HasJob}
 use Rattle.denova_cli.specs.declared.job.NumberedOp.{NumberedOp}
@@ -16,26 +15,26 @@ use Rattle.denova_cli.specs.declared.job.JobPart.{JobPart}
 use Rattle.denova_cli.specs.declared.job.JobPart.TheVariants.{Passed, Served, Refused}
 
 -- the test is the fact
-served_is : (op : Op) (weight : ℕ) → is_served op weight ≡ true → IsServed op
-served_is (Write name at bytes) weight e = grind (arith, nat_tests)
-served_is (Read name at count) weight e = tt
-served_is (Create name) weight e = cc
-served_is (Cut name size) weight e = cc
-served_is (Remove name) weight e = cc
-served_is (Rename from to) weight e = cc
-served_is (Size name) weight e = cc
-served_is ListAll weight e = cc
+served_is : (op : Op) → is_served op ≡ true → IsServed op
+served_is (Write name at bytes) e = tt
+served_is (Read name at count) e = tt
+served_is (Create name) e = cc
+served_is (Cut name size) e = cc
+served_is (Remove name) e = cc
+served_is (Rename from to) e = cc
+served_is (Size name) e = cc
+served_is ListAll e = cc
 
-served_by : (b : Bool) (op found : Op) (weight : ℕ) → is_served op weight ≡ b → (if b then Served op else Refused) ≡ Served found → IsServed found
-served_by true op found weight test e =
+served_by : (b : Bool) (op found : Op) → is_served op ≡ b → (if b then Served op else Refused) ≡ Served found → IsServed found
+served_by true op found test e =
     let same : op ≡ found = cc in
-    subst IsServed same (served_is op weight test)
-served_by false op found weight test e = absurd (cc)
+    subst IsServed same (served_is op test)
+served_by false op found test e = absurd (cc)
 
 -- an operation that a line gives is served
 part_served : (meaning : LineMeaning) (found : Op) → part_of meaning ≡ Served found → IsServed found
 part_served Skip found e = absurd (cc)
-part_served (Do op weight) found e = served_by (is_served op weight) op found weight refl e
+part_served (Do op weight) found e = served_by (is_served op) op found refl e
 part_served (Count n) found e = absurd (cc)
 part_served (Client n) found e = absurd (cc)
 part_served (Turns ns) found e = absurd (cc)

@@ -1,5 +1,5 @@
 -- The operations of a job.
-use Rattle.std.specs.Prelude.{◌≡◌, ℕ, ◌+◌, Bool, true, false, ◌&&◌, ◌==◌, nat_le, if◌then◌else◌, List, [], ◌∷◌, ◌++◌, length}
+use Rattle.std.specs.Prelude.{◌≡◌, ℕ, ◌+◌, Bool, true, false, if◌then◌else◌, List, [], ◌∷◌, ◌++◌, length}
 use Rattle.dn_model.specs.declared.op.Op.{Op}
 use Rattle.dn_model.specs.declared.op.Op.TheVariants.{Write, Read}
 use Rattle.dn_script.specs.declared.line.JobForm.TheVariants.{Apply}
@@ -12,17 +12,16 @@ use Rattle.denova_cli.specs.declared.job.JobFault.TheVariants.{BadLine, NoMemory
 use Rattle.denova_cli.specs.declared.job.JobPart.{JobPart}
 use Rattle.denova_cli.specs.declared.job.JobPart.TheVariants.{Passed, Served, Refused}
 
--- the operations that are served, each with the weight of its line: `write NAME 0 HEX` with 1 to 4,096 bytes, whose
--- line has no weight, and `read NAME AT LENGTH`
-abbrev pub is_served : Op → ℕ → Bool
-is_served (Write name at bytes) weight = weight == 0 && at == 0 && nat_le 1 (length bytes) && nat_le (length bytes) 4096
-is_served (Read name at count) weight = true
-is_served op weight = false
+-- the operations that are served: writes, of `write NAME AT HEX` and `fill NAME AT LENGTH BYTE`, and `read NAME AT LENGTH`
+abbrev pub is_served : Op → Bool
+is_served (Write name at bytes) = true
+is_served (Read name at count) = true
+is_served op = false
 
 -- what a line of a meaning is to a job
 abbrev pub part_of : LineMeaning → JobPart
 part_of Skip = Passed
-part_of (Do op weight) = if is_served op weight then Served op else Refused
+part_of (Do op weight) = if is_served op then Served op else Refused
 part_of meaning = Refused
 
 -- what the text of a job gives: its operations, or the number of the first line that is no command

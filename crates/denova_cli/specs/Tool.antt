@@ -1,10 +1,13 @@
 -- What the program does for the command that is served.
-use Rattle.std.specs.Prelude.{◌≡◌, ◌⊎◌, ℕ, ◌<◌, ◌≤◌, List, [], ◌∷◌, ◌++◌, length, map, Option, Some, IfSome, Result, Err, IsOk}
+use Rattle.std.specs.Prelude.{◌≡◌, ◌⊎◌, ℕ, ◌<◌, ◌≤◌, List, [], ◌∷◌, ◌++◌, length, take, map, Option, Some, None, IfSome, Result, Err, IsOk}
 use Rattle.pm_device.specs.State.{State, Rose}
-use Rattle.pm_layout.specs.declared.Geometry.{Geometry}
+use Rattle.pm_device.specs.Past.{moment}
 use Rattle.dn_model.specs.Disk.{Disk}
 use Rattle.dn_model.specs.Image.{StandsFor}
+use Rattle.dn_model.specs.Files.{files}
 use Rattle.dn_model.specs.Faults.{HasFree}
+use Rattle.dn_model.specs.Own.{Print, IsOwn}
+use Rattle.dn_model.specs.Course.{Course}
 use Rattle.dn_model.specs.declared.op.Op.{Op}
 use Rattle.dn_model.specs.declared.op.Entry.{Entry}
 use Rattle.dn_script.specs.Streams.{with_back}
@@ -13,9 +16,9 @@ use Rattle.dn_script.specs.declared.stream.ReadFault.{ReadFault}
 use Rattle.dn_script.specs.declared.stream.ReadFault.TheVariants as read
 use Rattle.one_file.specs.declared.answer.RunFault.{RunFault}
 use Rattle.one_file.specs.declared.answer.RunFault.TheVariants as run
-use Rattle.one_file.specs.First.{first_disk, IsFirst}
+use Rattle.one_file_open.specs.Image.{IsOneFile}
 use Rattle.one_file.specs.Run.{Runs}
-use Rattle.one_file.specs.Session.{ops_of}
+use Rattle.one_file.specs.Session.{ops_of, HasStopped, LacksMemory}
 use Rattle.one_file.specs.Held.{IsDiskOf}
 use Rattle.one_file.specs.declared.file.OneFile.{OneFile}
 use Rattle.denova_cli.specs.Report.{Answered, history_text, report_text, bad_line_text, usage_text, unbuilt_text, stopped_text, read_fault_text, no_memory_text, too_long_text}
@@ -79,9 +82,13 @@ text_of Unread = read_fault_text
 text_of NoMemory = no_memory_text
 text_of TooLong = too_long_text
 
+-- a sink has taken a front of a text behind what it had
+abbrev pub TookFront : List ℕ → Option (List ℕ) → Option (List ℕ) → Type 0
+TookFront text had has = (n : ℕ) × (n ≤ length text) × (has ≡ with_back had (take n text))
+
 -- a sink has taken a text behind what it had, and the status is this, or a write failed, and the status is 6
 abbrev pub Writes : ℕ → List ℕ → Option (List ℕ) → Option (List ℕ) → ℕ → ℕ → ℕ → Type 0
-Writes want text had has old new status = ((status ≡ want) × (has ≡ with_back had text)) ⊎ ((status ≡ 6) × Rose old new)
+Writes want text had has old new status = ((status ≡ want) × (has ≡ with_back had text)) ⊎ ((status ≡ 6) × Rose old new × TookFront text had has)
 
 -- the outcome was told so
 abbrev pub IsTold : Outcome → Option (List ℕ) → Option (List ℕ) → ℕ → ℕ → ℕ → Type 0
@@ -122,45 +129,59 @@ EndTells state v ran numbers history Unread = ⊥
 EndTells state v ran numbers history TooLong = ⊥
 
 -- From the disk of before these operations, on lines of these numbers, were run one after another, with these
--- replies, and the words stand for the disk of after. The text is the report.
-pub record HasRunAll (d : Disk) (ops : List Op) (numbers : List ℕ) (t : State) (text : List ℕ) : Type 0 where
+-- replies, and the words stand for the disk of after, which is this program's. At each moment on the way a stop leaves an
+-- image of this program with the files after the operations so far, or after one more. The text is the report.
+pub record HasRunAll (print : Print) (d : Disk) (ops : List Op) (numbers : List ℕ) (s t : State) (text : List ℕ) : Type 0 where
   pub history : List Entry
   pub same_ops : ops_of history ≡ ops
   pub after : Disk
   pub runs : Runs d history after
   pub stands : StandsFor t.now after
+  pub own : IsOwn print after
+  pub course : Course print (files d) (moment s.past) history None t
   pub free : ℕ
   pub has_free : HasFree after free
   pub text_is : text ≡ report_text (answered numbers history) free
 
+-- The first operations were run, with these replies, and the device stopped in the next one. The text tells the replies.
+pub record HasStoppedIn (print : Print) (d : Disk) (ops : List Op) (numbers : List ℕ) (s t : State) (text : List ℕ) : Type 0 where
+  pub history : List Entry
+  pub stopped : HasStopped print d s ops history t
+  pub text_is : text ≡ history_text (answered numbers history) ++ stopped_text
+
+-- Some of the operations were run, none is in flight; or the device stopped in one.
+pub data HasRunPart (print : Print) (d : Disk) (ops : List Op) (s t : State) : Type 0 where
+  between : LacksMemory print d s ops t → HasRunPart print d ops s t
+  in_one : (history : List Entry) → Rose s.faults t.faults → HasStopped print d s ops history t → HasRunPart print d ops s t
+
 -- what an outcome tells of the operations on an open image
 abbrev pub RunTells : {D : Type 0} → (D → State) → OneFile D → List Op → List ℕ → State → Outcome → Type 0
-RunTells state v ops numbers t (Applied text) = (d : Disk) → IsDiskOf state v d → HasRunAll d ops numbers t text.items
-RunTells state v ops numbers t (Stopped text) = Rose (state v.device).faults t.faults × ((history : List Entry) × (text.items ≡ history_text (answered numbers history) ++ stopped_text))
-RunTells state v ops numbers t NoMemory = Unit {0}
+RunTells state v ops numbers t (Applied text) = (d : Disk) (print : Print) → IsDiskOf state v d → IsOwn print d → HasRunAll print d ops numbers (state v.device) t text.items
+RunTells state v ops numbers t (Stopped text) = Rose (state v.device).faults t.faults × ((d : Disk) (print : Print) → IsDiskOf state v d → IsOwn print d → HasStoppedIn print d ops numbers (state v.device) t text.items)
+RunTells state v ops numbers t NoMemory = (d : Disk) (print : Print) → IsDiskOf state v d → IsOwn print d → HasRunPart print d ops (state v.device) t
 RunTells state v ops numbers t (BadLine text) = ⊥
 RunTells state v ops numbers t Usage = ⊥
 RunTells state v ops numbers t Unbuilt = ⊥
 RunTells state v ops numbers t Unread = ⊥
 RunTells state v ops numbers t TooLong = ⊥
 
--- the words are no first image
-abbrev pub IsNoFirst : List ℕ → Type 0
-IsNoFirst w = (g : Geometry) (name : List ℕ) → IsFirst w g name → ⊥
+-- the words are no image of one file
+abbrev pub IsNoOneFile : List ℕ → Type 0
+IsNoOneFile w = (d : Disk) (name : List ℕ) → IsOneFile w d name → ⊥
 
--- the words were a first image, whose disk the operations were run on
-pub record HasRunFirst (ops : List Op) (numbers : List ℕ) (s t : State) (text : List ℕ) : Type 0 where
-  pub geometry : Geometry
+-- The words were an image of one file; what follows holds of its disk, where that is this program's for a fingerprint.
+pub record OfOneFile (w : List ℕ) (P : Print → Disk → Type 0) : Type 0 where
+  pub disk : Disk
   pub name : List ℕ
-  pub first : IsFirst s.now geometry name
-  pub all : HasRunAll (first_disk geometry name) ops numbers t text
+  pub image : IsOneFile w disk name
+  pub holds : (print : Print) → IsOwn print disk → P print disk
 
 -- what an outcome tells of the operations on the image of a device
 abbrev pub OpsTell : List Op → List ℕ → State → State → Outcome → Type 0
-OpsTell ops numbers s t (Applied text) = HasRunFirst ops numbers s t text.items
-OpsTell ops numbers s t (Stopped text) = Rose s.faults t.faults × ((history : List Entry) × (text.items ≡ history_text (answered numbers history) ++ stopped_text))
-OpsTell ops numbers s t Unbuilt = (t ≡ s) × IsNoFirst s.now
-OpsTell ops numbers s t NoMemory = Unit {0}
+OpsTell ops numbers s t (Applied text) = OfOneFile s.now (λ print d. HasRunAll print d ops numbers s t text.items)
+OpsTell ops numbers s t (Stopped text) = Rose s.faults t.faults × OfOneFile s.now (λ print d. HasStoppedIn print d ops numbers s t text.items)
+OpsTell ops numbers s t Unbuilt = (t ≡ s) × IsNoOneFile s.now
+OpsTell ops numbers s t NoMemory = (t ≡ s) ⊎ OfOneFile s.now (λ print d. HasRunPart print d ops s t)
 OpsTell ops numbers s t (BadLine text) = ⊥
 OpsTell ops numbers s t Usage = ⊥
 OpsTell ops numbers s t Unread = ⊥
@@ -170,32 +191,36 @@ OpsTell ops numbers s t TooLong = ⊥
 pub record HasApplied (left : Option (List ℕ)) (s t : State) (text : List ℕ) : Type 0 where
   pub ops : List NumberedOp
   pub job : HasJob left ops
-  pub run : HasRunFirst (ops_in ops) (lines_in ops) s t text
+  pub run : OfOneFile s.now (λ print d. HasRunAll print d (ops_in ops) (lines_in ops) s t text)
 
 -- the source had a job left, the device stopped, and the text tells replies of its front
-pub record HasStopped (left : Option (List ℕ)) (s t : State) (text : List ℕ) : Type 0 where
+pub record HasStoppedJob (left : Option (List ℕ)) (s t : State) (text : List ℕ) : Type 0 where
   pub ops : List NumberedOp
   pub job : HasJob left ops
   pub rose : Rose s.faults t.faults
-  pub history : List Entry
-  pub text_is : text ≡ history_text (answered (lines_in ops) history) ++ stopped_text
+  pub run : OfOneFile s.now (λ print d. HasStoppedIn print d (ops_in ops) (lines_in ops) s t text)
 
--- the source had a job left, the words are no first image, and nothing was done
+-- nothing was done, or the source had a job left, and some of its operations were run
+pub data HasLackedMemory (left : Option (List ℕ)) (s t : State) : Type 0 where
+  untouched : t ≡ s → HasLackedMemory left s t
+  begun : (ops : List NumberedOp) → HasJob left ops → OfOneFile s.now (λ print d. HasRunPart print d (ops_in ops) s t) → HasLackedMemory left s t
+
+-- the source had a job left, the words are no image of one file, and nothing was done
 pub record HasNoFirst (left : Option (List ℕ)) (s t : State) : Type 0 where
   pub ops : List NumberedOp
   pub job : HasJob left ops
   pub same : t ≡ s
-  pub no_first : IsNoFirst s.now
+  pub no_first : IsNoOneFile s.now
 
 -- what an outcome tells of the command `apply`
 abbrev pub ApplyTells : Option (List ℕ) → ℕ → ℕ → State → State → Outcome → Type 0
 ApplyTells left old new s t (Applied text) = HasApplied left s t text.items
-ApplyTells left old new s t (Stopped text) = HasStopped left s t text.items
+ApplyTells left old new s t (Stopped text) = HasStoppedJob left s t text.items
 ApplyTells left old new s t Unbuilt = HasNoFirst left s t
 ApplyTells left old new s t (BadLine text) = (t ≡ s) × ((line : ℕ) × HasBadLine left line × (text.items ≡ bad_line_text line))
 ApplyTells left old new s t Unread = (t ≡ s) × Rose old new
 ApplyTells left old new s t TooLong = (t ≡ s) × IfSome left (λ rest. 16777216 < length rest)
-ApplyTells left old new s t NoMemory = Unit {0}
+ApplyTells left old new s t NoMemory = HasLackedMemory left s t
 ApplyTells left old new s t Usage = ⊥
 
 -- the words give no command
@@ -205,12 +230,12 @@ IsNoCommand words = (c : Command) → IsCommand words c → ⊥
 -- what an outcome tells of the program's call
 abbrev pub Tells : List (List ℕ) → Option (List ℕ) → ℕ → ℕ → State → State → Outcome → Type 0
 Tells words left old new s t (Applied text) = IsCommand words command.Apply × HasApplied left s t text.items
-Tells words left old new s t (Stopped text) = IsCommand words command.Apply × HasStopped left s t text.items
+Tells words left old new s t (Stopped text) = IsCommand words command.Apply × HasStoppedJob left s t text.items
 Tells words left old new s t Unbuilt = IsCommand words command.Apply × HasNoFirst left s t
 Tells words left old new s t (BadLine text) = IsCommand words command.Apply × (t ≡ s) × ((line : ℕ) × HasBadLine left line × (text.items ≡ bad_line_text line))
 Tells words left old new s t Unread = IsCommand words command.Apply × (t ≡ s) × Rose old new
 Tells words left old new s t TooLong = IsCommand words command.Apply × (t ≡ s) × IfSome left (λ rest. 16777216 < length rest)
-Tells words left old new s t NoMemory = IsCommand words command.Apply
+Tells words left old new s t NoMemory = IsCommand words command.Apply × HasLackedMemory left s t
 Tells words left old new s t Usage = (t ≡ s) × IsNoCommand words
 
 -- the call ended with this status, for an outcome that was told
@@ -219,24 +244,17 @@ pub record Ended (words : List (List ℕ)) (left : Option (List ℕ)) (old new :
   pub tells : Tells words left old new s t outcome
   pub told : IsTold outcome had has sink_old sink_new status
 
--- Status 0: the source had a job of served operations left, and the words of the device were a first image. From
--- its disk the operations were run one after another, each with the reply of the map from names to bytes, and the
--- words of the device stand for the disk of after. The sink has taken the report.
+-- Status 0: the source had a job of served operations left, and the words of the device were an image of one file. From
+-- its disk, where that was this program's, the operations were run one after another, each with the reply of the map from
+-- names to bytes; the words of the device stand for the disk of after; and at each moment a stop left the files after the
+-- operations so far, or after one more. The sink has taken the report.
 pub record IsApplied (words : List (List ℕ)) (left : Option (List ℕ)) (s t : State) (had has : Option (List ℕ)) : Type 0 where
   pub command : IsCommand words command.Apply
   pub ops : List NumberedOp
   pub job : HasJob left ops
-  pub geometry : Geometry
-  pub name : List ℕ
-  pub first : IsFirst s.now geometry name
-  pub history : List Entry
-  pub same_ops : ops_of history ≡ ops_in ops
-  pub after : Disk
-  pub runs : Runs (first_disk geometry name) history after
-  pub stands : StandsFor t.now after
-  pub free : ℕ
-  pub has_free : HasFree after free
-  pub written : has ≡ with_back had (report_text (answered (lines_in ops) history) free)
+  pub text : List ℕ
+  pub run : OfOneFile s.now (λ print d. HasRunAll print d (ops_in ops) (lines_in ops) s t text)
+  pub written : has ≡ with_back had text
 
 -- status 1: the words give no command
 pub record IsUsage (words : List (List ℕ)) (s t : State) (had has : Option (List ℕ)) : Type 0 where
@@ -252,23 +270,38 @@ pub record IsBadJob (words : List (List ℕ)) (left : Option (List ℕ)) (s t : 
   pub same : t ≡ s
   pub written : has ≡ with_back had (bad_line_text line)
 
--- status 3: the job is good, and the words of the device are no first image
+-- status 3: the job is good, and the words of the device are no image of one file
 pub record IsUnbuilt (words : List (List ℕ)) (left : Option (List ℕ)) (s t : State) (had has : Option (List ℕ)) : Type 0 where
   pub command : IsCommand words command.Apply
   pub ops : List NumberedOp
   pub job : HasJob left ops
-  pub no_first : IsNoFirst s.now
+  pub no_first : IsNoOneFile s.now
   pub same : t ≡ s
   pub written : has ≡ with_back had unbuilt_text
 
--- status 4: the device stopped, after replies to a front of the job
+-- status 4: the device stopped in an operation of the job, and the text tells the replies to those before it
 pub record IsStopped (words : List (List ℕ)) (left : Option (List ℕ)) (s t : State) (had has : Option (List ℕ)) : Type 0 where
   pub command : IsCommand words command.Apply
   pub ops : List NumberedOp
   pub job : HasJob left ops
   pub rose : Rose s.faults t.faults
-  pub history : List Entry
-  pub written : has ≡ with_back had (history_text (answered (lines_in ops) history) ++ stopped_text)
+  pub text : List ℕ
+  pub run : OfOneFile s.now (λ print d. HasStoppedIn print d (ops_in ops) (lines_in ops) s t text)
+  pub written : has ≡ with_back had text
+
+-- Status 6: a write of the text of another outcome failed. What that outcome tells holds, and the sink has taken a front
+-- of the text.
+pub record IsUnwritten (words : List (List ℕ)) (left : Option (List ℕ)) (old new : ℕ) (s t : State) (had has : Option (List ℕ)) (sink_old sink_new : ℕ) : Type 0 where
+  pub rose : Rose sink_old sink_new
+  pub outcome : Outcome
+  pub tells : Tells words left old new s t outcome
+  pub front : TookFront (text_of outcome) had has
+
+-- status 7: memory ran out before anything was done, or with some operations of the job run
+pub record IsWithoutMemory (words : List (List ℕ)) (left : Option (List ℕ)) (s t : State) (had has : Option (List ℕ)) : Type 0 where
+  pub command : IsCommand words command.Apply
+  pub run : HasLackedMemory left s t
+  pub written : has ≡ with_back had no_memory_text
 
 -- status 5: the source failed
 pub record IsUnread (words : List (List ℕ)) (old new : ℕ) (s t : State) (had has : Option (List ℕ)) : Type 0 where
@@ -285,7 +318,7 @@ pub record IsTooLong (words : List (List ℕ)) (left : Option (List ℕ)) (s t :
   pub written : has ≡ with_back had too_long_text
 
 -- The words give the command, the source tells a job of served operations and isn't too long, the words of the
--- device are a first image, and nothing failed.
+-- device are an image of one file, and nothing failed.
 pub record IsServable (words : List (List ℕ)) (left : Option (List ℕ)) (old new : ℕ) (s t : State) (sink_old sink_new : ℕ) : Type 0 where
   pub command : IsCommand words command.Apply
   pub text : List ℕ
@@ -293,9 +326,9 @@ pub record IsServable (words : List (List ℕ)) (left : Option (List ℕ)) (old 
   pub few : length text ≤ 16777216
   pub ops : List NumberedOp
   pub parsed : job_of 1 (lines text) ≡ Ops ops
-  pub geometry : Geometry
+  pub disk : Disk
   pub name : List ℕ
-  pub first : IsFirst s.now geometry name
+  pub image : IsOneFile s.now disk name
   pub device_well : Rose s.faults t.faults → ⊥
   pub source_well : Rose old new → ⊥
   pub sink_well : Rose sink_old sink_new → ⊥

@@ -10,9 +10,6 @@ use dn_script::{JobForm, LineMeaning, first_line, line_meaning};
 use std::alloc::{AllocError, Global};
 use thiserror::Error;
 
-/// The most bytes that one line writes: those of a page.
-const MOST_WRITTEN: usize = 4096;
-
 /// An operation of a job, and the number of its line, where all lines are counted from 1.
 #[derive(Debug, Drop)]
 pub struct NumberedOp {
@@ -42,18 +39,11 @@ pub enum JobFault {
     NoMemory,
 }
 
-// Whether an operation of a line of this weight is served.
-fn is_served(op: &Op, weight: u64) -> bool
-    ensures { result ≡ is_served op.now weight }
+// Whether an operation is served.
+fn is_served(op: &Op) -> bool
+    ensures { result ≡ is_served op.now }
 {
-    match op {
-        Op::Write { at, bytes, .. } => {
-            let length = bytes.bytes().len();
-            weight == 0 && *at == 0 && 1 <= length && length <= MOST_WRITTEN
-        }
-        Op::Read { .. } => true,
-        _ => false,
-    }
+    matches!(op, Op::Write { .. } | Op::Read { .. })
 }
 
 // What a line of this meaning is to a job.
@@ -62,8 +52,8 @@ fn part_of(meaning: LineMeaning) -> JobPart
 {
     match meaning {
         LineMeaning::Skip => JobPart::Passed,
-        LineMeaning::Do { op, weight } => {
-            if is_served(&op, weight) {
+        LineMeaning::Do { op, .. } => {
+            if is_served(&op) {
                 JobPart::Served(op)
             } else {
                 JobPart::Refused
@@ -97,7 +87,8 @@ fn add_line(ops: &mut Vec<NumberedOp>, number: u64, line: &[u8]) -> Result<(), J
 
 /// The operations of a job, in order.
 ///
-/// Served are, besides lines that say nothing, `write NAME 0 HEX` with 1 to 4,096 bytes, and `read NAME AT LENGTH`.
+/// Served are, besides lines that say nothing, `write NAME AT HEX`, `fill NAME AT LENGTH BYTE` and `read NAME AT
+/// LENGTH`.
 /// `BadLine` comes with the number of the first line that is another.
 #[tactic(auto, using(crate::proofs::Jobs::job_steps))]
 pub fn read_ops(alloc: Global, text: &[u8]) -> Result<Vec<NumberedOp>, JobFault>
@@ -143,9 +134,9 @@ NumberedOp { line: 2, op: Read { name: ByteText { bytes: [102] }, at: 0, length:
         let refused = [
             ("size f", 1),
             ("create f", 1),
-            ("write f 0 -", 1),
-            ("fill f 0 1 61", 1),
-            ("write f 1 61", 1),
+            ("write f 0 6", 1),
+            ("fill f 0 131073 61", 1),
+            ("cut f 1", 1),
             ("read f 0 8\n#\nwrote f 0 61\nsize f\n", 3),
         ];
         for (text, line) in refused {

@@ -11,6 +11,7 @@ mod tool;
 mod words;
 
 use dn_script::write_all;
+use fingerprint::Sha1Print;
 use pm_file::{FilePm, OpenFault};
 use report::{CANNOT_OPEN, NO_MEMORY, USAGE, write_bad_length};
 use std::alloc::{AllocError, Global};
@@ -80,7 +81,7 @@ fn serve<R: Files + Input + AllocGlobal, W: Write>(
     match FilePm::open(rt, path, None) {
         Ok(device) => {
             let mut input = StdSource::of(rt.reader());
-            let (status, _device) = tool(rt.alloc(), words, device, &mut input, out);
+            let (status, _device) = tool(rt.alloc(), words, device, Sha1Print, &mut input, out);
             status
         }
         Err(fault) => end_unopened(rt.alloc(), out, fault),

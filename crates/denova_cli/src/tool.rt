@@ -5,9 +5,10 @@ ghost use Rattle.pm_device.specs.Settled.{Still};
 ghost use Rattle.dn_script.specs.Streams.{with_back};
 ghost use Rattle.dn_model.specs.declared.op.Op.{Op};
 ghost use Rattle.one_file.specs.Held.{Agrees, IsDiskOf};
-ghost use Rattle.one_file.specs.Session.{IsServed, IsOpened};
+ghost use Rattle.one_file.specs.Answer.{IsServed};
+ghost use Rattle.one_file_open.specs.Opened.{IsOpened};
 ghost use Rattle.denova_cli.specs.Report.{history_text, report_text, bad_line_text, stopped_text, no_memory_text};
-ghost use Rattle.denova_cli.specs.Tool.{HasText, HasJob, answered, ops_in, lines_in, status_of, text_of, IsTold, ReadTells, JobFaultTells, JobTells, EndTells, RunTells, OpsTell, ApplyTells, Tells, Ended, IsNoCommand, IsApplied, IsUsage, IsBadJob, IsUnbuilt, IsStopped, IsUnread, IsTooLong, IsServable};
+ghost use Rattle.denova_cli.specs.Tool.{HasText, HasJob, answered, ops_in, lines_in, status_of, text_of, IsTold, ReadTells, JobFaultTells, JobTells, EndTells, RunTells, OpsTell, ApplyTells, Tells, Ended, IsNoCommand, IsApplied, IsUsage, IsBadJob, IsUnbuilt, IsStopped, IsUnread, IsUnwritten, IsWithoutMemory, IsTooLong, IsServable};
 
 use crate::job::{JobFault, NumberedOp, read_ops};
 use crate::report::{
@@ -16,9 +17,10 @@ use crate::report::{
 use crate::words::{Command, command_of};
 use dn_model::{Entry, Op};
 use dn_script::{ReadFault, Sink, Source, read_to_end, write_all};
+use fingerprint::Fingerprint;
 use one_file::answer::RunFault;
-use one_file::file::OneFile;
-use one_file::session::{OpenFault, free_pages, open, run};
+use one_file::{OneFile, free_pages, run};
+use one_file_open::{OpenFault, Opened, open};
 use pm_device::Pm;
 use std::alloc::{AllocError, Global};
 
@@ -235,11 +237,25 @@ fn run_opened<D: Pm>(alloc: Global, mut v: OneFile<D>, ops: Vec<Op>, lines: &[u6
         device,
         geometry: _,
         name: _,
-        free: _,
         size: _,
-        block: _,
+        map: _,
+        free: _,
     } = v;
     (outcome, device)
+}
+
+// An open image as operations are run on it.
+fn held<D: Pm>(opened: Opened<D>) -> OneFile<D>
+    ensures { result ≡ record { device = opened.device; geometry = opened.geometry; name = opened.name; size = opened.size; map = opened.map; free = opened.free } }
+{
+    OneFile {
+        device: opened.device,
+        geometry: opened.geometry,
+        name: opened.name,
+        size: opened.size,
+        map: opened.map,
+        free: opened.free,
+    }
 }
 
 // Runs the operations on the image of a device.
@@ -250,7 +266,7 @@ fn run_ops<D: Pm>(alloc: Global, device: D, ops: Vec<Op>, lines: &[u64]) -> (Out
     ensures later { (D.state device).faults ≤ (D.state result.1).faults }
 {
     match open(alloc, device) {
-        Ok(v) => run_opened(alloc, v, ops, lines),
+        Ok(opened) => run_opened(alloc, held(opened), ops, lines),
         Err((OpenFault::Unbuilt, device)) => (Outcome::Unbuilt, device),
         Err((OpenFault::NoMemory, device)) => (Outcome::NoMemory, device),
     }
@@ -320,16 +336,21 @@ fn call<D: Pm, S: Source, K: Sink>(
 }
 
 /// Does what the words after the program's name say: `IMAGE apply` reads a job from the input, runs its operations
-/// on the image that the device holds, and writes one line for each reply and a last line `end ENTRIES FREE`.
-/// Answers the status that the program ends with, and the device.
+/// on the image of one file that the device holds, and writes one line for each reply and a last line `end ENTRIES
+/// FREE`. Answers the status that the program ends with, and the device. No page is shared yet, so no fingerprint is
+/// taken: what is told of images holds for each.
+///
+/// Each write is made by one store of the file's log tail (NOVA, FAST 2016). A stop at any moment of the call leaves an
+/// image whose files are those after the operations that were answered, or after one more.
 ///
 /// Status 0 is that of a whole run. At 1 the words give no command, at 2 the job has a line that is no command, at 3
 /// the image is none that is served, at 4 the device failed, at 5 the input, at 6 the output. At 7 memory ran out. At
 /// 8 the job is longer than 16,777,216 bytes.
-pub fn tool<D: Pm, S: Source, K: Sink>(
+pub fn tool<D: Pm, F: Fingerprint + Drop, S: Source, K: Sink>(
     alloc: Global,
     words: &[String],
     device: D,
+    print: F,
     input: &mut S,
     out: &mut K,
 ) -> (u8, D)
@@ -341,8 +362,8 @@ pub fn tool<D: Pm, S: Source, K: Sink>(
     ensures unbuilt { result.0 ≡ 3 → IsUnbuilt (map string_bytes words.now) (S.left input.old) (D.state device) (D.state result.1) (K.taken out.old) (K.taken out.new) }
     ensures stopped { result.0 ≡ 4 → IsStopped (map string_bytes words.now) (S.left input.old) (D.state device) (D.state result.1) (K.taken out.old) (K.taken out.new) }
     ensures unread { result.0 ≡ 5 → IsUnread (map string_bytes words.now) (S.faults input.old) (S.faults input.new) (D.state device) (D.state result.1) (K.taken out.old) (K.taken out.new) }
-    ensures unwritten { result.0 ≡ 6 → Rose (K.faults out.old) (K.faults out.new) }
-    ensures no_memory { result.0 ≡ 7 → K.taken out.new ≡ with_back (K.taken out.old) no_memory_text }
+    ensures unwritten { result.0 ≡ 6 → IsUnwritten (map string_bytes words.now) (S.left input.old) (S.faults input.old) (S.faults input.new) (D.state device) (D.state result.1) (K.taken out.old) (K.taken out.new) (K.faults out.old) (K.faults out.new) }
+    ensures no_memory { result.0 ≡ 7 → IsWithoutMemory (map string_bytes words.now) (S.left input.old) (D.state device) (D.state result.1) (K.taken out.old) (K.taken out.new) }
     ensures too_long { result.0 ≡ 8 → IsTooLong (map string_bytes words.now) (S.left input.old) (D.state device) (D.state result.1) (K.taken out.old) (K.taken out.new) }
     ensures known { result.0 ≤ 8 }
 
@@ -354,6 +375,7 @@ pub fn tool<D: Pm, S: Source, K: Sink>(
     // a run that can be served is, unless memory runs out
     ensures complete { IsServable (map string_bytes words.now) (S.left input.old) (S.faults input.old) (S.faults input.new) (D.state device) (D.state result.1) (K.faults out.old) (K.faults out.new) → (result.0 ≡ 0) ⊎ (result.0 ≡ 7) }
 {
+    let _ = print;
     call(alloc, words, device, input, out)
 }
 
@@ -361,6 +383,7 @@ pub fn tool<D: Pm, S: Source, K: Sink>(
 mod tests {
     use super::*;
     use dn_script::{MemSink, MemSource};
+    use fingerprint::SumPrint;
     use pm_device::MemPm;
     use std::process::Abort;
     use std::test::Fail;
@@ -406,37 +429,36 @@ mod tests {
         Ok(image)
     }
 
-    fn device_of(alloc: Global, words: Vec<u64>) -> Result<MemPm, AllocError>
+    fn device_of(alloc: Global, words: Vec<u64>, fail_at: Vec<u64>) -> Result<MemPm, AllocError>
         requires { vec_len words % 512 ≡ 0 }
         ensures { IfOk result (λ device. Still (⟦<MemPm as Pm>⟧.state device)) }
     {
-        let device = MemPm::of_words(alloc, words, Vec::new(alloc))?;
+        let device = MemPm::of_words(alloc, words, fail_at)?;
         Ok(device)
     }
 
-    // How a call ends, with the words that are left. Takes and puts with these numbers fail, where 0 is none.
+    // How a call ends, with the device. The takes, puts and fences of these numbers fail, where 0 is none.
     fn ended(
         alloc: Global,
         words: &[&str],
         image: Vec<u64>,
         job: &str,
-        take_fails: u64,
-        put_fails: u64,
-    ) -> Result<(u8, Vec<u8>, Vec<u64>), AllocError> {
+        fails: (u64, u64, u64),
+    ) -> Result<(u8, Vec<u8>, MemPm), AllocError> {
         let mut spelled = Vec::new(alloc);
         for word in words {
             spelled.push(String::from_str(alloc, word)?)?;
         }
         let job = Vec::from_slice(alloc, job.as_bytes())?;
-        let mut input = MemSource::of(job, vec![in alloc; take_fails]?);
-        let mut out = MemSink::of(alloc, 1000, vec![in alloc; put_fails]?)?;
+        let mut input = MemSource::of(job, vec![in alloc; fails.0]?);
+        let mut out = MemSink::of(alloc, 1000, vec![in alloc; fails.1]?)?;
         if image.len() % 512 != 0 {
             return Err(AllocError);
         }
-        let device = device_of(alloc, image)?;
-        let (status, device) = tool(alloc, &spelled, device, &mut input, &mut out);
+        let device = device_of(alloc, image, vec![in alloc; fails.2]?)?;
+        let (status, device) = tool(alloc, &spelled, device, SumPrint, &mut input, &mut out);
         let text = Vec::from_slice(alloc, out.bytes())?;
-        Ok((status, text, device.image_at(alloc, device.moment(), 0)?))
+        Ok((status, text, device))
     }
 
     fn check(
@@ -448,7 +470,8 @@ mod tests {
         text: &str,
     ) -> Result<(), AllocError> {
         let first = image_of(rt.alloc(), &[&FIRST])?;
-        let (told, written, left) = ended(rt.alloc(), words, first, job, fails.0, fails.1)?;
+        let (told, written, device) = ended(rt.alloc(), words, first, job, (fails.0, fails.1, 0))?;
+        let left = device.image_at(rt.alloc(), device.moment(), 0)?;
         assert_eq!(rt; told, status, "at {job:?}");
         assert_eq!(rt; written.as_slice(), text.as_bytes());
         if status != 0 {
@@ -495,6 +518,26 @@ mod tests {
                 "1 1 bad-name\n1 2 bytes 0\nend 2 57\n",
             ),
             ("", "end 0 57\n"),
+            (
+                "write f 0 616263\nwrite f 5000 64\nread f 4998 4\nread f 0 4",
+                "1 1 done\n1 2 done\n1 3 bytes 3 000064\n1 4 bytes 4 61626300\nend 4 54\n",
+            ),
+            (
+                "write f 5000 616263\nread f 4998 10\n",
+                "1 1 done\n1 2 bytes 5 0000616263\nend 2 55\n",
+            ),
+            (
+                "fill f 1 65536 61\nfill f 1 65537 61\n",
+                "1 1 done\n1 2 too-long\nend 2 39\n",
+            ),
+            (
+                "write f 0 -\nwrite f 16777216 61\nwrite g 0 61\nread f 0 1\n",
+                "1 1 done\n1 2 too-big\n1 3 not-found\n1 4 bytes 0\nend 4 57\n",
+            ),
+            (
+                "fill f 0 65536 61\nfill f 65536 65536 61\nfill f 131072 65536 61\nfill f 196608 65536 61\n",
+                "1 1 done\n1 2 done\n1 3 done\n1 4 no-space 16 8\nend 4 8\n",
+            ),
         ];
         for (job, text) in table {
             check(&rt, APPLY, job, (0, 0), 0, text)?;
@@ -505,9 +548,47 @@ mod tests {
     #[test]
     fn a_write_leaves_its_words(rt: HostRuntime) -> Result<(), Fail> {
         let first = image_of(rt.alloc(), &[&FIRST])?;
-        let (status, _, left) = ended(rt.alloc(), APPLY, first, "write f 0 616263", 0, 0)?;
+        let (status, _, device) = ended(rt.alloc(), APPLY, first, "write f 0 616263", (0, 0, 0))?;
         assert_eq!(rt; status, 0);
+        let left = device.image_at(rt.alloc(), device.moment(), 0)?;
         assert_eq!(rt; left, image_of(rt.alloc(), &[&FIRST, &WRITTEN])?);
+        Ok(())
+    }
+
+    // At each moment the tail is the old one, or the new one with the bytes in their page.
+    fn check_moments(rt: &(impl Abort + AllocGlobal), device: &MemPm) -> Result<(), AllocError> {
+        for moment in 0..=device.moment() {
+            for pick in 0..8 {
+                let image = device.image_at(rt.alloc(), moment, pick)?;
+                let (tail, bytes) = (image.get(1042), image.get(4096));
+                assert!(rt;
+                    tail == Some(&0) || tail == Some(&449) && bytes == Some(&6_513_249),
+                    "at moment {moment}, pick {pick}"
+                );
+            }
+        }
+        Ok(())
+    }
+
+    #[test]
+    fn a_stop_leaves_a_write_or_not(rt: HostRuntime) -> Result<(), Fail> {
+        for fence in 0..4 {
+            let first = image_of(rt.alloc(), &[&FIRST])?;
+            let (status, text, device) = ended(
+                rt.alloc(),
+                APPLY,
+                first,
+                "write f 0 616263",
+                (0, 0, fence),
+            )?;
+            if fence == 0 {
+                assert_eq!(rt; status, 0);
+            } else {
+                assert_eq!(rt; status, 4, "fence {fence}");
+                assert_eq!(rt; text.as_slice(), b"stopped\n".as_slice());
+            }
+            check_moments(&rt, &device)?;
+        }
         Ok(())
     }
 
@@ -515,7 +596,8 @@ mod tests {
     fn other_images_are_not_served(rt: HostRuntime) -> Result<(), Fail> {
         for words in [&[] as &[(usize, u64)], &FIRST[1..], &FIRST[..7]] {
             let image = image_of(rt.alloc(), &[words])?;
-            let (status, text, left) = ended(rt.alloc(), APPLY, image, "", 0, 0)?;
+            let (status, text, device) = ended(rt.alloc(), APPLY, image, "", (0, 0, 0))?;
+            let left = device.image_at(rt.alloc(), device.moment(), 0)?;
             assert_eq!(rt; status, 3);
             assert_eq!(rt; text.as_slice(), b"refused unbuilt\n".as_slice());
             assert_eq!(rt; left, image_of(rt.alloc(), &[words])?);

@@ -11,7 +11,7 @@ use Rattle.std.proofs.lemmas.List.Elements.{All-nil, All-cons, Contains-get_or}
 use Rattle.pm_device.specs.State.{State}
 use Rattle.pm_layout.specs.declared.Geometry.{Geometry}
 use Rattle.pm_layout.specs.Geometry.{inode_word}
-use Rattle.page_alloc.specs.Free.{FreePages}
+use Rattle.page_alloc.specs.Free.{FreePages, IsInOrder}
 use Rattle.file_index.specs.Index.{Index}
 use Rattle.file_index.specs.declared.page_map.Mapping.{Mapping}
 use Rattle.dn_model.specs.Log.{Log, IsPaged, count, tail_at}
@@ -221,11 +221,12 @@ module _ (g : Geometry) (ino size : ℕ) (index : Index nat_cmp Mapping) (set mi
 
 -- what a write lacks that has no space
 pub lacks : (d : Disk) (ino at count room_left places needed0 free0 needed free : ℕ) (set : FreePages) → needed0 ≡ needed → free0 ≡ free → room_left ≡ room (d.inode ino).log → places ≡ touched at count
-    → needed0 ≡ places + (if nat_lt room_left places then 1 else 0) → 1 ≤ count → free0 < needed0 + 4 → free0 ≡ length set.free → LacksPages d ino at count needed free set
-lacks d ino at count room_left places needed0 free0 needed free set needs frees room_is places_are needed_is some few counted =
+    → needed0 ≡ places + (if nat_lt room_left places then 1 else 0) → 1 ≤ count → free0 < needed0 + 4 → free0 ≡ length set.free → IsInOrder set → LacksPages d ino at count needed free set
+lacks d ino at count room_left places needed0 free0 needed free set needs frees room_is places_are needed_is some few counted in_order =
     record {
       need = sym needs ∙ needed_is ∙ subst (λ (r : ℕ). places + (if nat_lt room_left places then 1 else 0) ≡ touched at count + (if nat_lt r (touched at count) then 1 else 0)) room_is (ap (λ (n : ℕ). n + (if nat_lt room_left n then 1 else 0)) places_are);
       some = omega (arith, needs, needed_is, places_are, touched_is at count some, some);
       lacks = omega (arith, needs, frees, few);
       count_is = sym frees ∙ counted;
+      in_order = in_order;
     }

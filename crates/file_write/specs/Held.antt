@@ -6,7 +6,7 @@ use Rattle.pm_device.specs.State.{State}
 use Rattle.pm_device.specs.Settled.{LeavesOnly}
 use Rattle.pm_device.specs.Reading.{Stands}
 use Rattle.pm_layout.specs.declared.Geometry.{Geometry}
-use Rattle.page_alloc.specs.Free.{FreePages}
+use Rattle.page_alloc.specs.Free.{FreePages, IsInOrder}
 use Rattle.file_index.specs.declared.page_map.Mapping.{Mapping}
 use Rattle.dn_model.specs.Disk.{Disk, DiskSays}
 use Rattle.dn_model.specs.Counts.{IsFree}
@@ -66,3 +66,4 @@ pub record LacksPages (d : Disk) (ino at count needed free : ℕ) (set : FreePag
   pub some : 0 < needed
   pub lacks : free < needed + 4
   pub count_is : free ≡ length set.free
+  pub in_order : IsInOrder set

@@ -1,18 +1,18 @@
 -- Steps of a read, and of operations that are refused.
-use Rattle.std.proofs.Common.{◌≡◌, ℕ, ◌<◌, ◌≤◌, List, [], ◌∷◌, length, take, drop, refl, sym, ◌∙◌, ap, subst, arith}
-use Rattle.std.specs.Prelude.{Option, Some, None, IsSome, All}
+use Rattle.std.proofs.Common.{◌≡◌, inl, inr, ⊎_elim, ℕ, ◌+◌, ◌<◌, ◌≤◌, List, [], ◌∷◌, length, take, drop, refl, sym, ◌∙◌, ap, subst, arith}
+use Rattle.std.specs.Prelude.{◌⊎◌, Option, Some, None, IsSome, All}
 use Rattle.std.proofs.lemmas.List.Elements.{All-nil, All-cons, All-head}
 use Rattle.log_entry.specs.Name.{IsLegal}
 use Rattle.dn_model.specs.Disk.{Disk}
 use Rattle.dn_model.specs.Files.{files}
-use Rattle.dn_model.specs.Apply.{Finds, IsShort, bad_name, missed, too_long, names_of, miss, bytes_or_none}
+use Rattle.dn_model.specs.Apply.{Finds, IsShort, bad_name, missed, too_long, too_big, Fits, names_of, miss, bytes_or_none}
 use Rattle.dn_model.specs.History.{done, refused}
 use Rattle.dn_model.specs.declared.op.Op.{Op}
 use Rattle.dn_model.specs.declared.op.Op.TheVariants.{Write, Read}
-use Rattle.dn_model.specs.declared.op.Reply.TheVariants.{Bytes, Refused}
+use Rattle.dn_model.specs.declared.op.Reply.TheVariants.{Done, Bytes, Refused}
 use Rattle.dn_model.specs.declared.op.Refusal.{Refusal}
 use Rattle.dn_model.specs.declared.op.Refusal.TheVariants.{BadName, NotFound, Exists, TooLong, TooBig, NoInode, NoSpace}
-use Rattle.one_file.specs.ReadFile.{IsRefusalOf}
+use Rattle.one_file.specs.Answer.{IsRefusalOf}
 use Rattle.one_file.specs.Run.{IsStep}
 
 -- the one name of an operation is legal, or it isn't
@@ -36,6 +36,9 @@ module _ (d : Disk) (op : Op) where
 
   pub long_step : All IsLegal (names_of op) → Finds (files d) op → (IsShort op → ⊥) → IsStep d op (Refused TooLong) d
   long_step legal finds long = record { step = refused (λ g. long g.short) (too_long legal finds long refl) (λ name. refl); short = λ need free e. cc }
+
+  pub big_step : All IsLegal (names_of op) → Finds (files d) op → IsShort op → (Fits op → ⊥) → IsStep d op (Refused TooBig) d
+  big_step legal finds short big = record { step = refused (λ g. big g.fits) (too_big legal finds short big refl) (λ name. refl); short = λ need free e. cc }
 
 module _ (d : Disk) (name text : List ℕ) where
   -- a read or a write of this name is refused so
@@ -74,3 +77,22 @@ module _ (d : Disk) (name text : List ℕ) where
           (ap Bytes (found_is ∙ ap (λ (f : Option (List ℕ)). take count (drop at (bytes_or_none f))) (sym is.1))) (λ other. refl);
       short = λ need free e. cc;
     }
+
+    pub write_too_big : (at : ℕ) (new : List ℕ) → 1 ≤ length new → length new ≤ 65536 → 16777216 < at + length new → IsStep d (Write name at new) (Refused TooBig) d
+    write_too_big at new some short big = big_step d (Write name at new) (legal_one name is.0) found_some short
+        (λ fits. ⊎_elim (λ (none : new ≡ []). omega (arith, ap length none, some)) (λ (le : at + length new ≤ 16777216). omega (arith, le, big)) fits)
+
+    -- a write of no bytes
+    pub write_nothing : (at : ℕ) (new : List ℕ) → new ≡ [] → IsStep d (Write name at new) Done d
+    write_nothing at new none = subst (λ (text : List ℕ). IsStep d (Write name at text) Done d) (sym none) (record {
+      step = done (record { legal = legal_one name is.0; finds = found_some; short = omega arith; fits = inl refl }) refl (λ other. refl);
+      short = λ need free e. cc;
+    })
+
+    -- a write that its place doesn't allow
+    pub placed : (at : ℕ) (new : List ℕ) (refusal : Refusal) → 1 ≤ length new → (refusal ≡ TooLong → 65536 < length new) → (refusal ≡ TooBig → (length new ≤ 65536) × (16777216 < at + length new)) → (refusal ≡ TooLong) ⊎ (refusal ≡ TooBig)
+        → IsStep d (Write name at new) (Refused refusal) d
+    placed at new refusal some long big either = ⊎_elim
+        (λ (e : refusal ≡ TooLong). subst (λ (r : Refusal). IsStep d (Write name at new) (Refused r) d) (sym e) (write_too_long at new (long e)))
+        (λ (e : refusal ≡ TooBig). let b = big e in subst (λ (r : Refusal). IsStep d (Write name at new) (Refused r) d) (sym e) (write_too_big at new some b.0 b.1))
+        either

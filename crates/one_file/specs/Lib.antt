@@ -1,13 +1,5 @@
-pub mod First
-pub mod Laws
-pub mod Parts
-pub mod CommitPage
 pub mod Held
 pub mod Run
-pub mod Write
-pub mod PutLoop
+pub mod Answer
 pub mod Session
-pub mod WriteHeld
-pub mod ReadFile
 pub mod RunLoop
-pub mod FreeLoop

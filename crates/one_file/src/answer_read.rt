@@ -6,9 +6,9 @@ ghost use Rattle.one_file.specs.Run.{IsStep};
 
 use crate::answer::RunFault;
 use crate::file::OneFile;
-use crate::read::{MOST_BYTES, read_bytes};
 use crate::refuse::refusal_of_name;
 use dn_model::op::{ByteText, Op, Refusal, Reply};
+use file_content::{MOST_BYTES, read_bytes};
 use pm_device::Pm;
 use std::alloc::Global;
 
@@ -31,7 +31,7 @@ pub(crate) fn answer_read<D: Pm>(
     if count > MOST_BYTES {
         return Ok(Reply::Refused(Refusal::TooLong));
     }
-    match read_bytes(alloc, v, at, count) {
+    match read_bytes(alloc, &v.device, &v.geometry, &v.map, v.size, at, count) {
         Ok(found) => Ok(Reply::Bytes(ByteText::of(found))),
         Err(_) => Err(RunFault::NoMemory),
     }

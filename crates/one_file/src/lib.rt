@@ -1,21 +1,19 @@
-//! The opening of an image that holds one empty file.
+//! Operations on an open image of one file, one after another: writes at any place, and reads.
 //!
-//! A first image has a live root, whose log says one name of inode 1, and inode 1, a file of no bytes. All
-//! other inodes are free, no page is shared, and no pointer leads anywhere.
+//! Each is answered as on a map from names to bytes, and a stop at any moment leaves the files after the operations
+//! that were answered, or after one more.
 #![tactic(auto)]
 
 pub mod answer;
-pub mod answer_read;
-pub mod commit;
+mod answer_read;
+mod answer_write;
 pub mod file;
-pub mod laws;
-pub mod opening;
-pub mod parts;
-pub mod read;
-pub mod refuse;
+mod refuse;
 pub mod session;
-#[cfg(test)]
-mod tests;
-mod write;
 
-pub use opening::{Opened, open_first};
+pub use file::OneFile;
+pub use session::{free_pages, run};
+use std::alloc::AllocError;
+
+/// Memory is wanting.
+pub type NoMemory = AllocError;

@@ -4,7 +4,7 @@ ghost use Rattle.log_entry.specs.Name.{IsLegal};
 ghost use Rattle.dn_model.specs.Disk.{Disk};
 ghost use Rattle.dn_model.specs.Files.{files, bytes};
 ghost use Rattle.one_file.specs.Held.{IsDiskOf};
-ghost use Rattle.one_file.specs.ReadFile.{IsRefusalOf};
+ghost use Rattle.one_file.specs.Answer.{IsRefusalOf};
 
 use crate::file::OneFile;
 use dn_model::op::Refusal;

@@ -1,73 +1,24 @@
-// An image of one file is opened, and operations are run on it.
-ghost use Rattle.std.specs.Prelude.{◌≡◌, ◌++◌, ◌+◌, ◌≤◌, ℕ, List, [], length, All, IfOk, IfErr, IsErr, OnOk};
+// Operations are run on an open image of one file.
+ghost use Rattle.std.specs.Prelude.{◌≡◌, ◌≤◌, [], All, OnOk};
 ghost use Rattle.pm_device.specs.State.{Rose};
-ghost use Rattle.pm_device.specs.Settled.{Still};
-ghost use Rattle.pm_layout.specs.declared.Geometry.{Geometry};
-ghost use Rattle.pm_layout.specs.Geometry.{IsAccepted, first_data};
 ghost use Rattle.dn_model.specs.Disk.{Disk};
+ghost use Rattle.dn_model.specs.Own.{Print, IsOwn};
 ghost use Rattle.dn_model.specs.Faults.{HasFree};
-ghost use Rattle.one_file.specs.First.{IsFirst};
 ghost use Rattle.one_file.specs.Held.{Agrees, IsDiskOf};
-ghost use Rattle.one_file.specs.Session.{IsServed, IsOpened, HasRun, IsFreeFrom, ops_of};
+ghost use Rattle.one_file.specs.Answer.{IsServed};
+ghost use Rattle.one_file.specs.Session.{HasRun, HasStopped, LacksMemory};
 
 use crate::answer::{RunFault, answer};
 use crate::file::OneFile;
-use crate::opening::open_first;
 use dn_model::{Entry, Op};
-use page_alloc::FreeSet;
 use pm_device::Pm;
-use pm_layout::Geometry;
-use std::alloc::{AllocError, Global};
-use thiserror::Error;
-
-/// Why an image was not opened.
-#[derive(Clone, Copy, Debug, PartialEq, Eq, Error)]
-pub enum OpenFault {
-    /// The words are no image of one empty file.
-    #[error("no image that is served yet")]
-    Unbuilt,
-    #[error("out of memory")]
-    NoMemory,
-}
-
-/// Opens an image of one empty file. The device comes back where it isn't one, or where memory ran out.
-pub fn open<D: Pm>(alloc: Global, device: D) -> Result<OneFile<D>, (OpenFault, D)>
-    requires still { Still (D.state device) }
-    ensures opened { IfOk result (λ v. IsOpened D.state (D.state device) v) }
-    ensures unbuilt { IfErr result (λ e. e.0 ≡ OpenFault.Unbuilt → (g : Geometry) (name : List ℕ) → IsFirst (D.state device).now g name → ⊥) }
-    ensures back { IfErr result (λ e. D.state e.1 ≡ D.state device) }
-{
-    let opened = match open_first(alloc, &device) {
-        Ok(Some(opened)) => opened,
-        Ok(None) => return Err((OpenFault::Unbuilt, device)),
-        Err(_) => return Err((OpenFault::NoMemory, device)),
-    };
-    let Ok(free) = first_free_pages(alloc, &opened.geometry) else {
-        return Err((OpenFault::NoMemory, device));
-    };
-    Ok(OneFile {
-        device,
-        geometry: opened.geometry,
-        name: opened.name,
-        free,
-        size: 0,
-        block: None,
-    })
-}
-
-// The pages that are free in a first image: all of the data area but the first, which is the root's log.
-fn first_free_pages(alloc: Global, geometry: &Geometry) -> Result<FreeSet, AllocError>
-    requires { IsAccepted geometry.now }
-    ensures { IfOk result (IsFreeFrom geometry.now.pages (first_data geometry.now + 1)) }
-{
-    let mut free = FreeSet::none(alloc, geometry.pages)?;
-    for page in geometry.first_data() + 1..geometry.pages {
-        free.give_back(page);
-    }
-    Ok(free)
-}
+use std::alloc::Global;
 
 /// Runs operations, one after another, and puts each with its reply behind the history.
+///
+/// # Errors
+/// `NoMemory` where memory is wanting: some of the operations were run, and none stopped on its way. `Stopped` where the
+/// device failed in the operation behind the history: a stop leaves the files with it or without it.
 pub fn run<D: Pm>(
     alloc: Global,
     v: &mut OneFile<D>,
@@ -77,14 +28,19 @@ pub fn run<D: Pm>(
     requires agrees { Agrees D.state v.old }
     requires served { All IsServed ops.items }
     requires empty { history.old.items ≡ [] }
-    ensures all { OnOk result (ops_of history.new.items ≡ ops.items) }
-    ensures ran { OnOk result ((d : Disk) → IsDiskOf D.state v.old d → HasRun D.state d history.new.items v.new) }
-    ensures later { (D.state v.old.device).faults ≤ (D.state v.new.device).faults }
-    ensures stopped { result ≡ Err RunFault.Stopped → Rose (D.state v.old.device).faults (D.state v.new.device).faults }
+    ensures agrees { OnOk result (Agrees D.state v.new) }
+    ensures ran { OnOk result ((d : Disk) (print : Print) → IsDiskOf D.state v.old d → IsOwn print d → HasRun D.state print d (D.state v.old.device) ops.items history.new.items v.new) }
+    ensures stopped { result ≡ Err RunFault.Stopped → (d : Disk) (print : Print) → IsDiskOf D.state v.old d → IsOwn print d → HasStopped print d (D.state v.old.device) ops.items history.new.items (D.state v.new.device) }
+    ensures no_memory { result ≡ Err RunFault.NoMemory → (d : Disk) (print : Print) → IsDiskOf D.state v.old d → IsOwn print d → LacksMemory print d (D.state v.old.device) ops.items (D.state v.new.device) }
+    ensures faults { (D.state v.old.device).faults ≤ (D.state v.new.device).faults }
+    ensures failed { result ≡ Err RunFault.Stopped → Rose (D.state v.old.device).faults (D.state v.new.device).faults }
 {
     let mut rest = ops.into_iter();
     'operations: while let Some(op) = rest.next() {
-        let entry = answer(alloc, v, op)?;
+        let entry = match answer(alloc, v, op) {
+            Ok(entry) => entry,
+            Err(fault) => return Err(fault),
+        };
         let Ok(()) = history.push(entry) else {
             return Err(RunFault::NoMemory);
         };

@@ -1,6 +1,17 @@
-use Rattle.denova_cli.proofs.Outcomes.{ops_tell}
+use Rattle.std.proofs.Common.{sym, subst}
+use Rattle.one_file.specs.declared.file.OneFile.{OneFile}
+use Rattle.one_file.specs.Held.{Agrees}
+use Rattle.denova_cli.specs.Tool.{RunTells}
+use Rattle.denova_cli.proofs.Outcomes.{ops_tell, is_disk}
 use Rattle.denova_cli.proofs.tool.run_ops.Goals as goal
+
+pub run_opened-requires-clause-agrees : goal.run_opened-requires-clause-agrees
+run_opened-requires-clause-agrees g c =
+    let opened = c.in-Ok.ensures.opened in
+    subst (Agrees g.D.Pm.state) (sym c.held.ensures) (record { disk = opened.disk; is = is_disk g.D.Pm.state (g.D.Pm.state c.args.device) c.in-Ok.opened opened })
 
 pub returns-in-Ok-clause-tells : goal.returns-in-Ok-clause-tells
 returns-in-Ok-clause-tells g c =
-    ops_tell g.D.Pm.state c.in-Ok.v c.args.ops.items c.args.lines.now (g.D.Pm.state c.args.device) _ c.run_opened.result.0 c.in-Ok.ensures.opened c.run_opened.ensures.tells
+    let S = g.D.Pm.state in
+    ops_tell S c.in-Ok.opened c.args.ops.items c.args.lines.now (S c.args.device) (S c.run_opened.result.1) c.in-Ok.ensures.opened c.run_opened.result.0
+    (subst (λ (v : OneFile _). RunTells S v c.args.ops.items c.args.lines.now (S c.run_opened.result.1) c.run_opened.result.0) c.held.ensures c.run_opened.ensures.tells)

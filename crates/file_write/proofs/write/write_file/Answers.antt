@@ -35,7 +35,7 @@ returns-then-count-needed-clause-no_space g c = λ needed count is d held.
     let tail = tail-is _ _ _ _ _ d _ held c.load-tail.result (c.load-tail.ensures ∙ ap (slice_index (g.D.Pm.state c.args.device.now).now) c.inode_word.ensures) in
     let room_is = c.room_of-room.ensures.room d.geometry (d.inode c.args.ino).log (log-paged _ _ _ _ _ d _ held) tail in
     lacks d c.args.ino c.args.at (length c.args.text.now) c.room_of-room.result c.places_of-places.result c.pages_needed-needed.result c.count-then-count-needed.result needed count c.args.free.now (first_of _ _ _ _ is) (second_of _ _ _ _ is) room_is c.places_of-places.ensures
-    c.pages_needed-needed.ensures c.requires.some (omega (arith, c.if-count-needed.true, c.count.ensures.count, c.count-then-count-needed.ensures.count)) c.count-then-count-needed.ensures.count
+    c.pages_needed-needed.ensures c.requires.some (omega (arith, c.if-count-needed.true, c.count.ensures.count, c.count-then-count-needed.ensures.count)) c.count-then-count-needed.ensures.count c.count-then-count-needed.ensures.in_order
 
 pub store_write-requires-clause-can : goal.store_write-requires-clause-can
 store_write-requires-clause-can g c =

@@ -1,4 +1,4 @@
-use Rattle.one_file.proofs.HeldFree.{free_counted}
+use Rattle.one_file.proofs.Counted.{free_counted}
 use Rattle.one_file.proofs.session.free_pages.Goals as goal
 
 pub returns : goal.returns

@@ -1,0 +1,11 @@
+pub mod Inside
+pub mod NameSlot
+pub mod FirstSlot
+pub mod Marking
+pub mod RootAlone
+pub mod FileLog
+pub mod Leaving
+pub mod Shaped
+pub mod FileWords
+pub mod FileStands
+pub mod FileOpened
