@@ -1,6 +1,6 @@
 -- One word of a Write changes: what is said of the log differs there alone.
-use Rattle.std.proofs.Common.{◌≡◌, ◌≢◌, ◌⊎◌, inl, inr, ⊎_elim, ℕ, zero, suc, ◌+◌, ◌-◌, ◌*◌, ◌/◌, ◌%◌, ◌<◌, List, [], ◌∷◌, ◌++◌, length, get_or, refl, sym, ◌∙◌, ap, subst, arith, length-append}
-use Rattle.std.specs.Prelude.{slice_index}
+use Rattle.std.proofs.Common.{◌≡◌, ◌≢◌, ◌⊎◌, inl, inr, ⊎_elim, ℕ, zero, suc, ◌+◌, ◌-◌, ◌*◌, ◌/◌, ◌%◌, ◌^◌, ◌<◌, List, [], ◌∷◌, ◌++◌, length, get_or, refl, sym, ◌∙◌, ap, subst, arith, length-append}
+use Rattle.std.specs.Prelude.{slice_index, All}
 use Rattle.std.proofs.lemmas.Bool.{cases_lt, cases_eq}
 use Rattle.std.proofs.lemmas.List.{get_or_append_left, get_or-append-add, get_or_at}
 use Rattle.std.proofs.lemmas.List.Concat.{flat_map-append}
@@ -13,14 +13,15 @@ use Rattle.pm_device.proofs.Layers.{leaves_only-stores}
 use Rattle.pm_device.proofs.OneWord.{reads_old_or_new, stands_new, stands-stores}
 use Rattle.pm_layout.specs.declared.Geometry.{Geometry}
 use Rattle.pm_layout.specs.Geometry.{InData}
-use Rattle.log_entry.specs.Spelling.{spelling, spelled, flag_number}
+use Rattle.log_entry.specs.Spelling.{spelling, spelled, flag_number, IsSpelled}
 use Rattle.log_entry.specs.declared.item.Flag.{Flag}
 use Rattle.log_entry.specs.declared.item.LogItem.{LogItem}
 use Rattle.log_entry.specs.declared.item.LogItem.TheVariants.{Write, Size, Add, Forget}
 use Rattle.dn_model.specs.Log.{Log, LogSays, at_tail, at_head, at_footer, at_slot, IsPaged, count, tail_at, log_word, spelled_word}
+use Rattle.dn_model.specs.Valid.{IsLog, MayStand}
 use Rattle.dn_model.proofs.Append.{log_word_in_data, same_page, same_slot, no_footer, same_index}
 use Rattle.dn_model.proofs.Regions.{inode_not_data}
-use Rattle.inode_log.specs.Reflags.{IsWrite, with_flag, with_mask, Reflags, CanReflag, OldOrNewItem, NewItemStands, IsElsewhere, KeepsLogs}
+use Rattle.inode_log.specs.Reflags.{IsWrite, with_flag, with_mask, Reflags, CanReflag, OldOrNewItem, NewItemStands, IsElsewhere, KeepsLogs, pages_written, FlagKeepsLog, MaskKeepsLog}
 
 -- a change of a Write that is one of word j of its slot
 pub record IsWordChange (change : LogItem → LogItem) (j value : ℕ) (item : LogItem) : Type 0 where
@@ -210,3 +211,58 @@ module _ (g : Geometry) (change : LogItem → LogItem) (who slot j value at : �
     images = leaves_only-stores (λ a. a ≡ at) s t (LogSays ino log) only (apart_there ino log in_data other) other.stands;
     stands = stands-stores (λ a. a ≡ at) s t only (LogSays ino log) (apart_there ino log in_data other) other.stands;
   }
+
+-- a list with one element changed
+all_changed : (P : LogItem → Type 0) (xs ys : List LogItem) (x y : LogItem) → All P (xs ++ x ∷ ys) → (P x → P y) → All P (xs ++ y ∷ ys)
+all_changed P [] ys x y all f zero d lt = f (all zero d (omega arith))
+all_changed P [] ys x y all f (suc k) d lt = all (suc k) d (omega arith)
+all_changed P (z ∷ xs) ys x y all f zero d lt = all zero d (omega arith)
+all_changed P (z ∷ xs) ys x y all f (suc k) d lt = all_changed P xs ys x y (λ j e l. all (suc j) e (omega arith)) f k d (omega arith)
+
+-- a log without a fault has none then
+module _ (g : Geometry) (ino : ℕ) (change : LogItem → LogItem) (j value slot : ℕ) (old new : Log) (reflags : Reflags change slot old new) (changes : IsWordChange change j value reflags.item) (valid : IsLog g ino old) where
+  log_kept : (IsSpelled reflags.item → IsSpelled (change reflags.item)) → (MayStand g ino reflags.item → MayStand g ino (change reflags.item)) → IsLog g ino new
+  log_kept spells stands = record {
+    paged = record {
+      fits = ap length reflags.pages ∙ valid.paged.fits ∙ ap (λ (n : ℕ). (n + 62) / 63) (sym (same_count change j value slot old new reflags changes));
+      in_data = λ k lt. subst (λ (ps : List ℕ). InData g (slice_index ps k)) (sym reflags.pages) (valid.paged.in_data k (omega (arith, lt, ap length reflags.pages)));
+      apart = λ i k il kl e. valid.paged.apart i k (omega (arith, il, ap length reflags.pages)) (omega (arith, kl, ap length reflags.pages))
+          (sym (ap (λ (ps : List ℕ). slice_index ps i) reflags.pages) ∙ e ∙ ap (λ (ps : List ℕ). slice_index ps k) reflags.pages);
+    };
+    spelled = subst (All IsSpelled) (sym reflags.items') (all_changed IsSpelled reflags.front reflags.rest reflags.item (change reflags.item) (subst (All IsSpelled) reflags.items valid.spelled) spells);
+    standing = subst (All (MayStand g ino)) (sym reflags.items') (all_changed (MayStand g ino) reflags.front reflags.rest reflags.item (change reflags.item) (subst (All (MayStand g ino)) reflags.items valid.standing) stands);
+  }
+
+flag_spells : (flag : Flag) (item : LogItem) → IsSpelled item → IsSpelled (with_flag flag item)
+flag_spells flag (Write first n block size was mask) spelled = spelled
+flag_spells flag (Size size) spelled = spelled
+flag_spells flag (Add ino name) spelled = spelled
+flag_spells flag (Forget name) spelled = spelled
+
+flag_stands : (g : Geometry) (ino : ℕ) (flag : Flag) (item : LogItem) → MayStand g ino item → MayStand g ino (with_flag flag item)
+flag_stands g zero flag (Write first n block size was mask) stands = stands
+flag_stands g (suc i) flag (Write first n block size was mask) stands = stands
+flag_stands g ino flag (Size size) stands = stands
+flag_stands g ino flag (Add named name) stands = stands
+flag_stands g ino flag (Forget name) stands = stands
+
+mask_spells : (m : ℕ) (item : LogItem) → m < 2 ^ pages_written item → IsSpelled item → IsSpelled (with_mask m item)
+mask_spells m (Write first n block size flag was) small spelled = (spelled.0, spelled.1, spelled.2, spelled.3, small)
+mask_spells m (Size size) small spelled = spelled
+mask_spells m (Add ino name) small spelled = spelled
+mask_spells m (Forget name) small spelled = spelled
+
+mask_stands : (g : Geometry) (ino m : ℕ) (item : LogItem) → MayStand g ino item → MayStand g ino (with_mask m item)
+mask_stands g zero m (Write first n block size flag was) stands = stands
+mask_stands g (suc i) m (Write first n block size flag was) stands = stands
+mask_stands g ino m (Size size) stands = stands
+mask_stands g ino m (Add named name) stands = stands
+mask_stands g ino m (Forget name) stands = stands
+
+pub flag_keeps_log : FlagKeepsLog
+flag_keeps_log g ino flag slot old new reflags valid =
+    log_kept g ino (with_flag flag) 5 (flag_number flag) slot old new reflags (flag_changes flag reflags.item reflags.is_write) valid (flag_spells flag reflags.item) (flag_stands g ino flag reflags.item)
+
+pub mask_keeps_log : MaskKeepsLog
+mask_keeps_log g ino m slot old new reflags small valid =
+    log_kept g ino (with_mask m) 6 m slot old new reflags (mask_changes m reflags.item reflags.is_write) valid (mask_spells m reflags.item small) (mask_stands g ino m reflags.item)

@@ -1,11 +1,12 @@
 -- A log of which one Write gets another flag or mask.
-use Rattle.std.specs.Prelude.{◌≡◌, ◌≢◌, ◌⊎◌, ℕ, ◌+◌, ◌*◌, ◌/◌, ◌<◌, List, ◌∷◌, ◌++◌, length, slice_index}
+use Rattle.std.specs.Prelude.{◌≡◌, ◌≢◌, ◌⊎◌, ℕ, ◌+◌, ◌*◌, ◌/◌, ◌^◌, ◌<◌, List, ◌∷◌, ◌++◌, length, slice_index}
 use Rattle.pm_device.specs.State.{State}
 use Rattle.pm_device.specs.Settled.{LeavesOnly}
 use Rattle.pm_device.specs.Reading.{Reads, Stands}
 use Rattle.pm_layout.specs.declared.Geometry.{Geometry}
 use Rattle.log_entry.specs.Spelling.{spelled}
 use Rattle.dn_model.specs.Log.{Log, LogSays, IsPaged, slot_name}
+use Rattle.dn_model.specs.Valid.{IsLog}
 use Rattle.log_entry.specs.declared.item.Flag.{Flag}
 use Rattle.log_entry.specs.declared.item.LogItem.{LogItem}
 use Rattle.log_entry.specs.declared.item.LogItem.TheVariants.{Write, Size, Add, Forget}
@@ -77,3 +78,17 @@ pub record Stood (ino : ℕ) (log : Log) (s t : State) : Type 0 where
 -- so do the logs that haven't the page of this slot
 abbrev pub KeepsLogs : Geometry → ℕ → State → State → Type 0
 KeepsLogs g slot s t = (ino : ℕ) (log : Log) → IsElsewhere g ino (slot / 64) log s → Stood ino log s t
+
+-- how many pages a Write has
+abbrev pub pages_written : LogItem → ℕ
+pages_written (Write first n block size flag mask) = n
+pages_written (Size size) = 0
+pages_written (Add ino name) = 0
+pages_written (Forget name) = 0
+
+-- a log without a fault has none with another flag, or with another mask that has bits of the Write's pages alone
+abbrev pub FlagKeepsLog : Type 0
+FlagKeepsLog = (g : Geometry) (ino : ℕ) (flag : Flag) (slot : ℕ) (old new : Log) → Reflags (with_flag flag) slot old new → IsLog g ino old → IsLog g ino new
+
+abbrev pub MaskKeepsLog : Type 0
+MaskKeepsLog = (g : Geometry) (ino m slot : ℕ) (old new : Log) (reflags : Reflags (with_mask m) slot old new) → m < 2 ^ pages_written reflags.item → IsLog g ino old → IsLog g ino new

@@ -2,6 +2,7 @@
 #![tactic(auto)]
 
 pub mod flag;
+pub mod laws;
 pub mod log;
 pub mod prepare;
 
