@@ -6,6 +6,7 @@ ghost use Rattle.pm_device.specs.State.{Rose};
 ghost use Rattle.pm_layout.specs.Geometry.{IsAccepted, inode_word};
 ghost use Rattle.inode_log.specs.Commits.{OldOrNewLog, NewLogStands};
 
+use inode_table::TAIL;
 use pm_device::commit::commit;
 use pm_device::{Failed, Pm};
 use pm_layout::Geometry;
@@ -36,5 +37,5 @@ pub fn commit_log<D: Pm>(
     ensures faults { (D.state device.old).faults ≤ (D.state device.new).faults }
     ensures failed { IsErr result → Rose (D.state device.old).faults (D.state device.new).faults }
 {
-    commit(device, who, g.inode_word(ino, 2), tail)
+    commit(device, who, g.inode_word(ino, TAIL), tail)
 }

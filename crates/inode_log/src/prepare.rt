@@ -4,6 +4,7 @@ ghost use Rattle.pm_layout.specs.Geometry.{IsAccepted, inode_word};
 ghost use Rattle.pm_device.specs.Lines.{StoresRun};
 ghost use Rattle.inode_log.specs.Prepare.{CanPrepare, Prepares, IsNextTail, MakesRoom, IsFull};
 
+use inode_table::{HEAD, TAIL, read_field, store_field};
 use pm_device::Pm;
 use pm_device::line::{store_line, store_word};
 use pm_layout::Geometry;
@@ -31,7 +32,7 @@ fn link<D: Pm>(device: &mut D, g: &Geometry, who: u32, ino: u64, tail: u64, page
     ensures faults { (D.state device.old).faults ≤ (D.state device.new).faults }
 {
     if tail == 0 {
-        store_word(device, who, g.inode_word(ino, 1), page);
+        store_field(device, g, who, ino, HEAD, page);
     } else {
         store_word(device, who, 8 * tail, page);
     }
@@ -92,7 +93,7 @@ pub fn prepare<D: Pm>(
     ensures spare { (D.state device.old).spare ≤ (D.state device.new).spare + PREPARE_UNITS * (length slots.now + length fresh.now) }
     ensures faults { (D.state device.old).faults ≤ (D.state device.new).faults }
 {
-    let mut tail = device.load(g.inode_word(ino, 2));
+    let mut tail = read_field(device, g, ino, TAIL);
     let mut used = 0;
     for slot in slots {
         let (line, now_used) = make_room(device, g, who, ino, tail, fresh, used);

@@ -2,14 +2,9 @@ use Rattle.std.proofs.Common.{◌≡◌, ℕ, ◌+◌, ◌-◌, ◌*◌, ◌<◌
 use Rattle.std.specs.Prelude.{slice_index}
 use Rattle.pm_layout.specs.Geometry.{inode_word}
 use Rattle.dn_model.specs.Log.{Log, count, tail_at}
-use Rattle.dn_model.proofs.Regions.{inode_word_low}
 use Rattle.inode_log.specs.Prepare.{IsFull, IsToPrepare, IsPreparedTo, HasRoomAt}
 use Rattle.inode_log.proofs.Preparing.{count_new, fresh_within, tail_below, enough_fresh, full_at, nothing_prepared, all_prepared, slot_stored, used_within, used_after}
 use Rattle.inode_log.proofs.prepare.prepare.Goals as goal
-
-pub load-tail-requires : goal.load-tail-requires
-load-tail-requires g c =
-    let low = inode_word_low c.args.g.now c.args.ino 2 c.requires.ino (omega arith) in omega (arith, c.inode_word.ensures, c.requires.size, c.requires.accepted.room, low)
 
 pub loop-slot-init : goal.loop-slot-init
 loop-slot-init g c =
@@ -17,9 +12,9 @@ loop-slot-init g c =
     record {
       so_far = λ old new is.
           let start = nothing_prepared c.args.g.now c.args.ino c.args.slots.now c.args.fresh.now old new (S c.args.device.now) is c.requires.accepted c.requires.ino c.args.who (g.met.D.Pm.agree c.args.device.now) in
-          let read : slice_index (S c.args.device.now).now (inode_word c.args.ino 2) ≡ c.load-tail.result = ap (slice_index (S c.args.device.now).now) (sym c.inode_word.ensures) ∙ sym c.load-tail.ensures in
+          let read : slice_index (S c.args.device.now).now (inode_word c.args.ino 2) ≡ c.read_field-tail.result = sym c.read_field-tail.ensures in
           let none : count old ≡ count old + 0 = omega arith in
-          subst (λ (m : ℕ). IsPreparedTo c.args.who c.args.ino old new (S c.args.device.now) m c.load-tail.result 0 (S c.args.device.now)) none
+          subst (λ (m : ℕ). IsPreparedTo c.args.who c.args.ino old new (S c.args.device.now) m c.read_field-tail.result 0 (S c.args.device.now)) none
           (subst (λ (tail : ℕ). IsPreparedTo c.args.who c.args.ino old new (S c.args.device.now) (count old) tail 0 (S c.args.device.now)) read start);
       same_size = refl;
       spare = omega arith;
