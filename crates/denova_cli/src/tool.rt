@@ -555,16 +555,26 @@ mod tests {
         Ok(())
     }
 
-    // At each moment the tail is the old one, or the new one with the bytes in their page.
+    // How a job ends on an image, and the replies.
+    fn replies(alloc: Global, image: Vec<u64>, job: &str) -> Result<(u8, Vec<u8>), AllocError> {
+        let (status, text, _device) = ended(alloc, APPLY, image, job, (0, 0, 0))?;
+        Ok((status, text))
+    }
+
+    // Each image that a stop may leave is opened again, and its file is empty or has the bytes.
     fn check_moments(rt: &(impl Abort + AllocGlobal), device: &MemPm) -> Result<(), AllocError> {
         for moment in 0..=device.moment() {
             for pick in 0..8 {
                 let image = device.image_at(rt.alloc(), moment, pick)?;
-                let (tail, bytes) = (image.get(1042), image.get(4096));
-                assert!(rt;
-                    tail == Some(&0) || tail == Some(&449) && bytes == Some(&6_513_249),
-                    "at moment {moment}, pick {pick}"
-                );
+                let new = image.get(1042) != Some(&0);
+                let (status, text) = replies(rt.alloc(), image, "read f 0 8")?;
+                let wanted: &[u8] = if new {
+                    b"1 1 bytes 3 616263\nend 1 55\n"
+                } else {
+                    b"1 1 bytes 0\nend 1 57\n"
+                };
+                assert_eq!(rt; status, 0, "at moment {moment}, pick {pick}");
+                assert_eq!(rt; text.as_slice(), wanted, "at moment {moment}, pick {pick}");
             }
         }
         Ok(())
@@ -589,6 +599,23 @@ mod tests {
             }
             check_moments(&rt, &device)?;
         }
+        Ok(())
+    }
+
+    #[test]
+    fn a_fault_comes_at_each_call(rt: HostRuntime) -> Result<(), Fail> {
+        let job = "write f 0 61\nread f 0 1\n";
+        let text = "1 1 done\n1 2 bytes 1 61\nend 2 55\n";
+        for (take, status, text) in [(1, 5, "read-fault\n"), (2, 5, "read-fault\n"), (3, 0, text)] {
+            check(&rt, APPLY, job, (take, 0), status, text)?;
+        }
+        check(&rt, APPLY, job, (0, 2), 0, text)?;
+        let first = image_of(rt.alloc(), &[&FIRST])?;
+        let (status, told, device) = ended(rt.alloc(), APPLY, first, job, (0, 1, 0))?;
+        let left = device.image_at(rt.alloc(), device.moment(), 0)?;
+        assert_eq!(rt; status, 6);
+        assert_eq!(rt; told.as_slice(), b"".as_slice());
+        assert_eq!(rt; left.get(4096), Some(&0x61));
         Ok(())
     }
 
