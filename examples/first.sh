@@ -27,8 +27,8 @@ put 3075 'f'
 
 job='write f 0 68656c6c6f
 read f 0 64
-write f 0 4a
-read f 0 64
+write f 5000 4a
+read f 4996 64
 read nobody 0 1'
 echo "$job" | sed 's/^/> /'
 echo "$job" | "$here/denova" "$image" apply
