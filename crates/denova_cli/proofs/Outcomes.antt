@@ -20,8 +20,10 @@ use Rattle.one_file.specs.Session.{ops_of, HasRun, HasStopped, LacksMemory}
 use Rattle.one_file.specs.declared.file.OneFile.{OneFile}
 use Rattle.one_file.specs.declared.answer.RunFault.{RunFault}
 use Rattle.one_file.specs.declared.answer.RunFault.TheVariants as run
+use Rattle.denova_cli.specs.Words.{IsCommand}
 use Rattle.denova_cli.specs.Job.{Ops, BadAt, job_of}
-use Rattle.denova_cli.specs.Tool.{HasText, status_of, text_of, Writes, EndTells, HasRunAll, HasStoppedIn, HasRunPart, between, in_one, OfOneFile, RunTells, OpsTell, ApplyTells, Tells, Ended, HasJob, ops_in, lines_in, HasLackedMemory, untouched, begun, IsNoCommand, IsApplied, IsUsage, IsBadJob, IsUnbuilt, IsStopped, IsUnread, IsUnwritten, IsWithoutMemory, IsTooLong, IsServable}
+use Rattle.denova_cli.specs.Tool.{HasText, status_of, text_of, Writes, EndTells, HasRunAll, HasStoppedIn, HasRunPart, between, in_one, OfOneFile, RunTells, OpsTell, ApplyTells, Tells, Ended, HasJob, ops_in, lines_in, untouched, begun, IsNoCommand, IsApplied, IsUsage, IsBadJob, IsUnbuilt, IsStopped, IsUnread, IsUnwritten, IsWithoutMemory, IsTooLong, IsServable}
+use Rattle.denova_cli.specs.declared.words.Command.{Command}
 use Rattle.denova_cli.specs.declared.words.Command.TheVariants as command
 use Rattle.denova_cli.specs.declared.job.NumberedOp.{NumberedOp}
 use Rattle.denova_cli.specs.declared.tool.Outcome.{Outcome}
@@ -123,6 +125,21 @@ apply_tells left old new ops s t job (BadLine text) told = absurd told
 apply_tells left old new ops s t job Usage told = absurd told
 apply_tells left old new ops s t job Unread told = absurd told
 apply_tells left old new ops s t job TooLong told = absurd told
+
+-- there is one command
+pub sole : (given : Command) → given ≡ command.Apply
+sole Command.Apply = refl
+
+-- the call of a command
+pub call_tells : (words : List (List ℕ)) (left : Option (List ℕ)) (old new : ℕ) (s t : State) → IsCommand words command.Apply → (outcome : Outcome) → ApplyTells left old new s t outcome → Tells words left old new s t outcome
+call_tells words left old new s t is (Applied text) told = (is, told)
+call_tells words left old new s t is (Stopped text) told = (is, told)
+call_tells words left old new s t is Unbuilt told = (is, told)
+call_tells words left old new s t is NoMemory told = (is, told)
+call_tells words left old new s t is (BadLine text) told = (is, told.0, told.1)
+call_tells words left old new s t is Unread told = (is, told.0, told.1)
+call_tells words left old new s t is TooLong told = (is, told.0, told.1)
+call_tells words left old new s t is Usage told = absurd told
 
 -- a status that isn't that of a failed write is the outcome's, whose text was taken
 told_at : (want : ℕ) (text : List ℕ) (had has : Option (List ℕ)) (old new status n : ℕ) → Writes want text had has old new status → status ≡ n → (n ≡ 6 → ⊥) → (want ≡ n) × (has ≡ with_back had text)
