@@ -39,12 +39,6 @@ module _ (s t : State) (same : IsSame s t) where
   pub same_still : Agree s.now s.past → Still s → Still t
   same_still agree still a lt = settled-stores Nowhere s t a (stores_only-same Nowhere s t agree same) (λ none. none) (still a (omega (arith, lt, ap length same.now)))
 
-  pub leaves_before : (v : State) (P : List ℕ → Type 0) → LeavesOnly t v P → LeavesOnly s v P
-  leaves_before v P leaves = record {
-    extends = subst (λ (p : Option Past). Extends p v.past) same.past leaves.extends;
-    each = λ m c le left. leaves.each m c (subst (λ (p : Option Past). moment p ≤ m) (sym same.past) le) left;
-  }
-
   leaves_after : (P : List ℕ → Type 0) → LeavesOnly s s P → LeavesOnly s t P
   leaves_after P leaves = record {
     extends = subst (Extends s.past) (sym same.past) leaves.extends;
@@ -59,10 +53,6 @@ still_leaves g s agree still = started s (IsFormatting g s.now) (λ c left.
 
 pub same_leaves : (g : Geometry) (s t : State) → IsSame s t → Agree s.now s.past → Still s → LeavesOnly s t (IsFormatting g s.now)
 same_leaves g s t same agree still = leaves_after s t same (IsFormatting g s.now) (still_leaves g s agree still)
-
--- and then more was done
-pub then_leaves : (g : Geometry) (s t v : State) → IsSame s t → LeavesOnly t v (IsFormatting g t.now) → LeavesOnly s v (IsFormatting g s.now)
-then_leaves g s t v same leaves = subst (λ (w : List ℕ). LeavesOnly s v (IsFormatting g w)) same.now (leaves_before s t same v (IsFormatting g t.now) leaves)
 
 -- the magic is cleared
 module _ (g : Geometry) (who : ℕ) (s t : State) (still : Still s) (some : 0 < length s.now) (long : length t.now ≡ length s.now) where

@@ -7,5 +7,7 @@
 pub mod empty;
 pub mod laws;
 mod tables;
+#[cfg(test)]
+mod tests;
 
 pub use empty::{FormatFault, format};
