@@ -1,0 +1,4 @@
+pub mod EmptyDisk
+pub mod Making
+pub mod Parts
+pub mod Formatted
