@@ -4,7 +4,7 @@ use Rattle.pm_device.specs.State.{State}
 use Rattle.pm_device.specs.Reading.{Reads, Stands}
 use Rattle.pm_layout.specs.declared.Geometry.{Geometry}
 use Rattle.pm_layout.specs.Geometry.{IsAccepted, directs, slots}
-use Rattle.page_alloc.specs.Free.{FreePages}
+use Rattle.page_alloc.specs.Free.{FreePages, Takes, GivesBack}
 use Rattle.dn_model.specs.Table.{Row}
 use Rattle.dn_model.specs.Disk.{Disk, ChainsSay, PointersSay, rows}
 use Rattle.dn_model.specs.Valid.{IsRow, AreApart}
@@ -68,3 +68,15 @@ pub record IsSettledTable (d : Disk) (s : State) (t : Table) : Type 0 where
 pub record HasTable (words : List ℕ) (t : Table) : Type 0 where
   pub disk : Disk
   pub is : IsTable disk words t
+
+-- the least indirect slot of the set is in it no more, and nothing else changed
+pub record TakesSlot (slot : ℕ) (old new : Table) : Type 0 where
+  pub geometry : new.geometry ≡ old.geometry
+  pub indirect : directs old.geometry ≤ slot
+  pub small : slot < slots old.geometry
+  pub takes : Takes (slot - directs old.geometry) old.free new.free
+
+-- the indirect slot is in the set, and nothing else changed
+pub record GivesBackSlot (slot : ℕ) (old new : Table) : Type 0 where
+  pub geometry : new.geometry ≡ old.geometry
+  pub gives_back : GivesBack (slot - directs old.geometry) old.free new.free

@@ -1,11 +1,11 @@
 // The table as the volume holds it.
-ghost use Rattle.std.specs.Prelude.{◌≡◌, ◌+◌, ◌*◌, ◌<◌, ◌≤◌, ◌↔◌, ℕ, length, IfSome, IfNone, IsTrue};
+ghost use Rattle.std.specs.Prelude.{◌≡◌, ◌+◌, ◌-◌, ◌*◌, ◌<◌, ◌≤◌, ◌↔◌, ℕ, [], length, IfSome, IfNone, IsNone, IsTrue, Contains};
 ghost use Rattle.pm_layout.specs.Geometry.{IsAccepted, directs, slots};
 ghost use Rattle.dn_model.specs.Table.{prefix_of};
 ghost use Rattle.dn_model.specs.Disk.{Disk, rows};
 ghost use Rattle.fact_table.specs.Seen.{as_row};
 ghost use Rattle.fact_table.specs.Chained.{IsFound, HasNoRow};
-ghost use Rattle.fact_table.specs.Table.{IsTable, HasTable, IsAtSlot, IsOfPage, IsUnused, HasNoneAt, HasNoneOf};
+ghost use Rattle.fact_table.specs.Table.{IsTable, HasTable, IsAtSlot, IsOfPage, IsUnused, HasNoneAt, HasNoneOf, TakesSlot, GivesBackSlot};
 
 use crate::chain::find_chained;
 use crate::row::{Row, has_row};
@@ -34,8 +34,8 @@ impl Model for Fact {
     ghost view = { λ f. record { geometry = f.geometry; free = f.free } };
 }
 
-// The direct slot of a fingerprint's prefix.
-fn direct_of(g: &Geometry, print: &[u8; 20]) -> u64
+/// The direct slot of a fingerprint's prefix.
+pub fn direct_of(g: &Geometry, print: &[u8; 20]) -> u64
     requires { IsAccepted g.now }
     ensures slot { result ≡ prefix_of g.now print.now }
     ensures direct { result < directs g.now }
@@ -45,6 +45,40 @@ fn direct_of(g: &Geometry, print: &[u8; 20]) -> u64
 }
 
 impl Fact {
+    /// The geometry of the device that the table stands on.
+    pub fn geometry(&self) -> Geometry
+        ensures { result ≡ self.now.geometry }
+    {
+        self.geometry
+    }
+
+    /// Takes the least indirect slot from those that are kept as having no row, or None where there is none.
+    pub fn take_slot(&mut self) -> Option<u64>
+        requires accepted { IsAccepted self.old.geometry }
+        requires set { self.old.free.pages ≡ self.old.geometry.pages }
+        ensures none { IsNone result → self.old.free.free ≡ [] }
+        ensures takes { IfSome result (λ slot. TakesSlot slot self.old self.new) }
+    {
+        if self.free.count() == 0 {
+            return None;
+        }
+        let place = self.free.take()?;
+        Some(self.geometry.directs() + place)
+    }
+
+    /// Gives an indirect slot back to those that are kept as having no row. It isn't one of them.
+    pub fn give_back_slot(&mut self, slot: u64)
+        requires accepted { IsAccepted self.old.geometry }
+        requires set { self.old.free.pages ≡ self.old.geometry.pages }
+        requires indirect { directs self.old.geometry ≤ slot }
+        requires slot { slot < slots self.old.geometry }
+        requires taken { ¬ Contains self.old.free.free (slot - directs self.old.geometry) }
+        ensures gives_back { GivesBackSlot slot self.old self.new }
+    {
+        let place = slot - self.geometry.directs();
+        self.free.give_back(place);
+    }
+
     // Whether it is an indirect slot without a row.
     fn is_unused(&self, slot: u64) -> bool
         requires { IsAccepted self.now.geometry }

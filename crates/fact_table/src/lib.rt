@@ -8,5 +8,5 @@ pub mod chain;
 pub mod fact;
 pub mod row;
 
-pub use fact::Fact;
+pub use fact::{Fact, direct_of};
 pub use row::Row;

@@ -1,0 +1,4 @@
+pub mod Standing
+pub mod Counted
+pub mod Put
+pub mod Gone

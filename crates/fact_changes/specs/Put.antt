@@ -1,0 +1,68 @@
+-- A row comes into the table.
+use Rattle.std.specs.Prelude.{◌≡◌, ◌≢◌, ◌⊎◌, ℕ, ◌+◌, ◌<◌, List, length}
+use Rattle.pm_device.specs.State.{State}
+use Rattle.pm_device.specs.Settled.{IsFlushed, LeavesOnly}
+use Rattle.pm_device.specs.Reading.{Stands}
+use Rattle.pm_device.specs.Words.{IsIn}
+use Rattle.pm_layout.specs.declared.Geometry.{Geometry}
+use Rattle.pm_layout.specs.Geometry.{slot_word, pointer_word}
+use Rattle.dn_model.specs.Table.{Row}
+use Rattle.dn_model.specs.Disk.{Disk, DiskSays}
+use Rattle.dn_model.specs.Valid.{IsValid}
+use Rattle.dn_model.specs.Image.{StandsFor}
+use Rattle.dn_table_changes.specs.Changes.{repointed, opened, linked}
+use Rattle.dn_table_changes.specs.RowLaws.{IsNewRow}
+
+-- a row with no reference yet, and the update under way that brings the first
+abbrev pub new_row : ℕ → List ℕ → ℕ → Row
+new_row slot print page = record { slot = slot; print = print; page = page; rfc = 0; uc = 1 }
+
+-- the pointer of its page leads to its slot
+abbrev pub pointed : Disk → Row → Disk
+pointed d row = repointed d row.page (row.slot + 1)
+
+-- then it stands in its direct slot, or behind that of its prefix
+abbrev pub opened_with : Disk → ℕ → List ℕ → ℕ → Disk
+opened_with d direct print page = opened (pointed d (new_row direct print page)) direct (new_row direct print page)
+
+abbrev pub linked_with : Disk → ℕ → ℕ → List ℕ → ℕ → Disk
+linked_with d direct slot print page = linked (pointed d (new_row slot print page)) direct (new_row slot print page)
+
+-- the device stands for this disk, which may get this row in the chain of this prefix
+pub record MayPutAt (d : Disk) (s : State) (g : Geometry) (prefix slot : ℕ) (print : List ℕ) (page : ℕ) : Type 0 where
+  pub geometry : d.geometry ≡ g
+  pub stands : Stands (DiskSays d) s
+  pub valid : IsValid d
+  pub new_row_is : IsNewRow d prefix (new_row slot print page)
+
+pub record CanPutAt (s : State) (g : Geometry) (prefix slot : ℕ) (print : List ℕ) (page : ℕ) : Type 0 where
+  pub disk : Disk
+  pub may : MayPutAt disk s g prefix slot print page
+
+-- an image of before, of the pointer alone, or of after
+abbrev pub StandsForOneOf : List ℕ → Disk → Disk → Disk → Type 0
+StandsForOneOf c d middle new = StandsFor c d ⊎ StandsFor c middle ⊎ StandsFor c new
+
+-- a word of the slot, the pointer of the page, or the word that decides
+abbrev pub IsPutWord : Geometry → ℕ → ℕ → ℕ → ℕ → Type 0
+IsPutWord g slot page gate a = IsIn (slot_word g slot 0) 8 a ⊎ (a ≡ pointer_word g page) ⊎ (a ≡ gate)
+
+-- what other actors had flushed of other words is flushed still
+abbrev pub KeepsOthers : ℕ → (ℕ → Type 0) → State → State → Type 0
+KeepsOthers who W s t = (q a : ℕ) → q ≢ who → (W a → ⊥) → a < length s.now → IsFlushed q s a → IsFlushed q t a
+
+-- a row comes into a direct slot: what images stand for on the way, and the device in the end
+abbrev pub LeavesOpened : Geometry → ℕ → List ℕ → ℕ → State → State → Type 0
+LeavesOpened g direct print page old new = (d : Disk) → MayPutAt d old g direct direct print page
+    → LeavesOnly old new (λ c. StandsForOneOf c d (pointed d (new_row direct print page)) (opened_with d direct print page))
+
+abbrev pub MakesOpened : Geometry → ℕ → List ℕ → ℕ → State → State → Type 0
+MakesOpened g direct print page old new = (d : Disk) → MayPutAt d old g direct direct print page → Stands (DiskSays (opened_with d direct print page)) new
+
+-- a row comes in behind a direct slot
+abbrev pub LeavesLinked : Geometry → ℕ → ℕ → List ℕ → ℕ → State → State → Type 0
+LeavesLinked g direct slot print page old new = (d : Disk) → MayPutAt d old g direct slot print page
+    → LeavesOnly old new (λ c. StandsForOneOf c d (pointed d (new_row slot print page)) (linked_with d direct slot print page))
+
+abbrev pub MakesLinked : Geometry → ℕ → ℕ → List ℕ → ℕ → State → State → Type 0
+MakesLinked g direct slot print page old new = (d : Disk) → MayPutAt d old g direct slot print page → Stands (DiskSays (linked_with d direct slot print page)) new
