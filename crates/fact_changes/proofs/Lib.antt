@@ -3,3 +3,5 @@ pub mod Counting
 pub mod Pointed
 pub mod Inserted
 pub mod Removal
+pub mod Pigeons
+pub mod Slotted
