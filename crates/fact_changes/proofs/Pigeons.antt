@@ -1,5 +1,5 @@
 -- More numbers than values: two have one value.
-use Rattle.std.proofs.Common.{◌≡◌, ◌≢◌, ◌⊎◌, inl, inr, ⊎_elim, ℕ, zero, suc, ◌+◌, ◌<◌, ◌≤◌, subst, arith}
+use Rattle.std.proofs.Common.{◌≡◌, ◌≢◌, ◌⊎◌, inl, inr, ⊎_elim, ℕ, zero, suc, ◌+◌, ◌<◌, subst, arith}
 use Rattle.std.proofs.lemmas.Bool.{cases_eq}
 
 -- k is related to a value below n

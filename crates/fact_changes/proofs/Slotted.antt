@@ -1,30 +1,27 @@
 -- A row gets a slot, and the table with it.
-use Rattle.std.proofs.Common.{◌≡◌, ◌≢◌, ◌⊎◌, inl, inr, ⊎_elim, ℕ, ◌+◌, ◌-◌, ◌*◌, ◌<◌, ◌≤◌, List, [], ◌∷◌, length, refl, sym, ◌∙◌, ap, subst, arith}
-use Rattle.std.specs.Prelude.{slice_index, Contains, Result, Ok, Err, OnOk}
+use Rattle.std.proofs.Common.{◌≡◌, ◌≢◌, inl, inr, ⊎_elim, ℕ, ◌+◌, ◌-◌, ◌*◌, ◌<◌, ◌≤◌, List, [], length, refl, sym, ◌∙◌, ap, subst, arith}
+use Rattle.std.specs.Prelude.{slice_index, Contains}
 use Rattle.std.proofs.lemmas.Bool.{cases_eq}
 use Rattle.pm_device.specs.State.{State}
-use Rattle.pm_device.specs.Settled.{StoresOnly}
-use Rattle.pm_device.specs.Reading.{Reads, Stands}
+use Rattle.pm_device.specs.Reading.{Stands}
 use Rattle.pm_layout.specs.declared.Geometry.{Geometry}
-use Rattle.pm_layout.specs.Geometry.{IsAccepted, InData, slot_word, directs, slots, first_data}
-use Rattle.page_alloc.specs.Free.{Takes}
-use Rattle.dn_model.specs.Table.{Row, prefix_of, direct_page_word, at_direct_page, at_row}
+use Rattle.pm_layout.specs.Geometry.{IsAccepted, slot_word, directs, slots, first_data}
+use Rattle.dn_model.specs.Table.{Row, prefix_of, at_row}
 use Rattle.dn_model.specs.Disk.{Disk, DiskSays, of_chains, of_pointers, rows}
 use Rattle.dn_model.specs.Valid.{IsValid}
-use Rattle.dn_table_changes.specs.Changes.{repointed, opened, linked}
 use Rattle.dn_table_changes.specs.RowLaws.{IsNewRow, MayPut, PutsRow}
 use Rattle.dn_table_changes.proofs.Repointed.{rows_repointed}
 use Rattle.dn_table_changes.proofs.PutPointers.{pointed_may_put}
 use Rattle.dn_table_changes.proofs.Opened.{open_one_word, open_puts_row}
 use Rattle.dn_table_changes.proofs.Linked.{link_one_word, link_puts_row}
-use Rattle.dn_table_changes.proofs.Rows.{distinct_same, at_listed}
+use Rattle.dn_table_changes.proofs.Rows.{distinct_same}
 use Rattle.dn_table_changes.proofs.Slots.{field_said}
-use Rattle.dn_table_changes.proofs.TableRows.{of_chain, in_table, is_row, prefix_small}
-use Rattle.fact_table.specs.Table.{Table, IsTable, HasRow, HasNoneAt, IsAtSlot, TakesSlot}
+use Rattle.dn_table_changes.proofs.TableRows.{of_chain, is_row, prefix_small}
+use Rattle.fact_table.specs.Table.{Table, IsTable, HasRow, HasNoneAt, TakesSlot}
 use Rattle.fact_table.proofs.Tables.{page_word, head_of, in_rows}
 use Rattle.fact_changes.specs.Standing.{StandsWith}
 use Rattle.fact_changes.specs.Put.{new_row, pointed, opened_with, linked_with, MayPutAt, CanPutAt, LeavesOpened, MakesOpened, LeavesLinked, MakesLinked}
-use Rattle.fact_changes.specs.Insertion.{MayInsert, Inserts, opens, links, LeavesInserted, MakesInserted}
+use Rattle.fact_changes.specs.Insertion.{MayInsert, opens, links, LeavesInserted, MakesInserted}
 use Rattle.fact_changes.proofs.Pigeons.{Hits, pigeons}
 
 -- page 0 isn't one of the data area

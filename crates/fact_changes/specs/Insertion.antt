@@ -1,5 +1,5 @@
 -- A row comes into the table at the slot that it gets.
-use Rattle.std.specs.Prelude.{ℕ, List, ◌⊎◌}
+use Rattle.std.specs.Prelude.{ℕ, List}
 use Rattle.pm_device.specs.State.{State}
 use Rattle.pm_device.specs.Settled.{LeavesOnly}
 use Rattle.fingerprint.specs.Print.{IsPrint}

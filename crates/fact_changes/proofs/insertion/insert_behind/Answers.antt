@@ -1,7 +1,5 @@
-use Rattle.std.proofs.Common.{sym, ◌∙◌, ap, refl}
-use Rattle.pm_layout.specs.declared.Geometry.{Geometry}
-use Rattle.dn_model.specs.Table.{prefix_of}
-use Rattle.fact_changes.proofs.Slotted.{never_full, can_open, insert_opens, made_opens, can_link, insert_links, made_links}
+use Rattle.std.proofs.Common.{refl}
+use Rattle.fact_changes.proofs.Slotted.{never_full, can_link, insert_links, made_links}
 use Rattle.fact_changes.proofs.insertion.insert_behind.Goals as goal
 
 pub insert_chained-requires-clause-can : goal.insert_chained-requires-clause-can
