@@ -5,3 +5,4 @@ pub mod Inserted
 pub mod Removal
 pub mod Pigeons
 pub mod Slotted
+pub mod InsertWords

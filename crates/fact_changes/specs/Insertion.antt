@@ -1,7 +1,9 @@
 -- A row comes into the table at the slot that it gets.
-use Rattle.std.specs.Prelude.{ℕ, List}
+use Rattle.std.specs.Prelude.{◌≡◌, ◌⊎◌, ℕ, List}
 use Rattle.pm_device.specs.State.{State}
 use Rattle.pm_device.specs.Settled.{LeavesOnly}
+use Rattle.pm_device.specs.Words.{IsIn}
+use Rattle.pm_layout.specs.Geometry.{slot_word, pointer_word}
 use Rattle.fingerprint.specs.Print.{IsPrint}
 use Rattle.dn_model.specs.Table.{prefix_of}
 use Rattle.dn_model.specs.Disk.{Disk, IsMapped, rows}
@@ -48,3 +50,13 @@ Leaves t t' print page old new = (d : Disk) → MayInsert d old t print page →
 
 abbrev pub Makes : Table → Table → List ℕ → ℕ → State → State → ℕ → Type 0
 Makes t t' print page old new slot = (d : Disk) → MayInsert d old t print page → MakesInserted d t t' print page slot new
+
+-- a word of the slot that was taken
+pub record IsTakenWord (t t' : Table) (a : ℕ) : Type 0 where
+  pub slot : ℕ
+  pub takes : TakesSlot slot t t'
+  pub inside : IsIn (slot_word t.geometry slot 0) 8 a
+
+-- a word of the direct slot of the prefix, the pointer of the page, or a word of the slot that was taken
+abbrev pub IsInsertWord : Table → Table → List ℕ → ℕ → ℕ → Type 0
+IsInsertWord t t' print page a = IsIn (slot_word t.geometry (prefix_of t.geometry print) 0) 8 a ⊎ (a ≡ pointer_word t.geometry page) ⊎ IsTakenWord t t' a

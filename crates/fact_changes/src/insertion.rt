@@ -1,9 +1,11 @@
 // A row comes into the table at the slot that it gets.
 ghost use Rattle.std.specs.Prelude.{◌≡◌, ◌≢◌, ◌+◌, ◌≤◌, slice_index, IfOk, IsErr};
 ghost use Rattle.pm_device.specs.State.{Rose};
+ghost use Rattle.pm_device.specs.Settled.{StoresOnly};
 ghost use Rattle.pm_layout.specs.Geometry.{slot_word};
 ghost use Rattle.dn_model.specs.Table.{prefix_of};
-ghost use Rattle.fact_changes.specs.Insertion.{CanInsert, Leaves, Makes};
+ghost use Rattle.fact_changes.specs.Put.{KeepsOthers};
+ghost use Rattle.fact_changes.specs.Insertion.{CanInsert, IsInsertWord, Leaves, Makes};
 
 use crate::put::{INSERT_UNITS, insert_chained, insert_direct};
 use fact_slot::load_field;
@@ -26,6 +28,8 @@ fn insert_behind<D: Pm>(
     requires room { INSERT_UNITS ≤ (D.state device.old).spare }
     ensures images { Leaves fact.old fact.new print.now page (D.state device.old) (D.state device.new) }
     ensures done { IfOk result (Makes fact.old fact.new print.now page (D.state device.old) (D.state device.new)) }
+    ensures only { StoresOnly (IsInsertWord fact.old fact.new print.now page) (D.state device.old) (D.state device.new) }
+    ensures others { KeepsOthers who (IsInsertWord fact.old fact.new print.now page) (D.state device.old) (D.state device.new) }
     ensures spare { (D.state device.old).spare ≤ (D.state device.new).spare + INSERT_UNITS }
     ensures faults { (D.state device.old).faults ≤ (D.state device.new).faults }
     ensures failed { IsErr result → Rose (D.state device.old).faults (D.state device.new).faults }
@@ -58,6 +62,8 @@ pub fn insert<D: Pm>(
     requires room { INSERT_UNITS ≤ (D.state device.old).spare }
     ensures images { Leaves fact.old fact.new print.now page (D.state device.old) (D.state device.new) }
     ensures done { IfOk result (Makes fact.old fact.new print.now page (D.state device.old) (D.state device.new)) }
+    ensures only { StoresOnly (IsInsertWord fact.old fact.new print.now page) (D.state device.old) (D.state device.new) }
+    ensures others { KeepsOthers who (IsInsertWord fact.old fact.new print.now page) (D.state device.old) (D.state device.new) }
     ensures spare { (D.state device.old).spare ≤ (D.state device.new).spare + INSERT_UNITS }
     ensures faults { (D.state device.old).faults ≤ (D.state device.new).faults }
     ensures failed { IsErr result → Rose (D.state device.old).faults (D.state device.new).faults }
