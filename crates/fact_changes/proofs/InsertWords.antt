@@ -1,12 +1,12 @@
 -- The words to which a row's insertion stores.
-use Rattle.std.proofs.Common.{◌≡◌, ◌⊎◌, inl, inr, ⊎_elim, ℕ, ◌+◌, ◌*◌, ◌<◌, ◌≤◌, List, sym, subst, arith}
+use Rattle.std.proofs.Common.{◌≡◌, ◌⊎◌, inl, inr, ⊎_elim, ℕ, List, sym, subst, arith}
 use Rattle.pm_device.specs.Words.{IsIn}
 use Rattle.pm_layout.specs.declared.Geometry.{Geometry}
 use Rattle.pm_layout.specs.Geometry.{slot_word, pointer_word}
 use Rattle.dn_model.specs.Table.{prefix_of}
 use Rattle.fact_table.specs.Table.{Table, TakesSlot}
 use Rattle.fact_changes.specs.Put.{IsPutWord}
-use Rattle.fact_changes.specs.Insertion.{IsTakenWord, IsInsertWord}
+use Rattle.fact_changes.specs.Insertion.{IsInsertWord}
 
 module _ (t t' : Table) (print : List ℕ) (page direct : ℕ) (k : Geometry) (direct_is : direct ≡ prefix_of t.geometry print) (same : k ≡ t.geometry) (a : ℕ) where
   abbrev prefix : ℕ
