@@ -1,6 +1,6 @@
 -- The counts of a row are committed: what images have on the way, and what stands in the end.
-use Rattle.std.proofs.Common.{◌≡◌, ◌≢◌, ◌⊎◌, inl, inr, ⊎_elim, ℕ, ◌+◌, ◌*◌, ◌^◌, ◌<◌, ◌≤◌, List, [], length, refl, sym, ◌∙◌, ap, subst, arith}
-use Rattle.std.specs.Prelude.{slice_index, Contains, Result, Ok, Err, OnOk}
+use Rattle.std.proofs.Common.{◌≡◌, ◌⊎◌, inl, inr, ⊎_elim, ℕ, ◌+◌, ◌*◌, ◌^◌, ◌<◌, ◌≤◌, List, [], length, sym, ◌∙◌, ap, subst, arith}
+use Rattle.std.specs.Prelude.{slice_index, Result, Ok, Err, OnOk}
 use Rattle.pm_device.specs.State.{State, Agree}
 use Rattle.pm_device.specs.Settled.{IsSettled, LeavesOnly, StoresOnly}
 use Rattle.pm_device.specs.Reading.{Reads, Stands, DiffersAt, IsReady}
@@ -9,13 +9,13 @@ use Rattle.pm_device.proofs.OneWord.{reads_old_or_new, stands_new}
 use Rattle.pm_device.proofs.Layers.{stands-both, stands-weaken}
 use Rattle.pm_device.proofs.Moments.{leaves_only-weaken}
 use Rattle.pm_layout.specs.declared.Geometry.{Geometry}
-use Rattle.pm_layout.specs.Geometry.{slot_word, directs, slots, first_data}
+use Rattle.pm_layout.specs.Geometry.{slot_word, directs, slots}
 use Rattle.fingerprint.specs.Count.{count_word}
 use Rattle.fingerprint.specs.declared.count.CountWord.{CountWord}
 use Rattle.fingerprint.proofs.SlotLaws.{count_word-one}
 use Rattle.fact_slot.proofs.Places.{slot_word-below_data}
 use Rattle.dn_model.specs.Table.{Row, at_row}
-use Rattle.dn_model.specs.Disk.{Disk, DiskSays, of_chains, of_pointers, ChainsSay, PointersSay, rows}
+use Rattle.dn_model.specs.Disk.{Disk, DiskSays, of_chains, of_pointers, ChainsSay, PointersSay}
 use Rattle.dn_model.specs.Image.{StandsFor}
 use Rattle.dn_table_changes.specs.Changes.{recounted}
 use Rattle.dn_table_changes.specs.CountLaws.{MayRecount}

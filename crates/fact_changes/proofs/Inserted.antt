@@ -1,8 +1,8 @@
 -- A row comes into the table: what images stand for on the way, and the device in the end.
-use Rattle.std.proofs.Common.{◌≡◌, ◌≢◌, ◌⊎◌, inl, inr, ⊎_elim, ℕ, ◌+◌, ◌*◌, ◌<◌, ◌≤◌, List, [], ◌∷◌, ◌++◌, length, refl, sym, ◌∙◌, ap, subst, arith}
+use Rattle.std.proofs.Common.{◌≡◌, ◌⊎◌, inl, inr, ⊎_elim, ℕ, ◌+◌, ◌*◌, ◌<◌, ◌≤◌, List, [], ◌∷◌, ◌++◌, length, refl, sym, ◌∙◌, ap, subst, arith}
 use Rattle.std.specs.Prelude.{slice_index}
 use Rattle.pm_device.specs.State.{State, Agree}
-use Rattle.pm_device.specs.Settled.{IsSettled, IsFlushed, LeavesOnly, StoresOnly, KeepsFlushed, Others}
+use Rattle.pm_device.specs.Settled.{IsSettled, LeavesOnly, StoresOnly, KeepsFlushed, Others}
 use Rattle.pm_device.specs.Reading.{Stands, IsReady}
 use Rattle.pm_device.specs.Words.{IsIn}
 use Rattle.pm_device.specs.Pages.{SaysRun}
@@ -12,15 +12,15 @@ use Rattle.pm_device.proofs.Layers.{leaves_only-then}
 use Rattle.pm_device.proofs.Moments.{leaves_only-weaken}
 use Rattle.pm_device.proofs.Only.{stores_only-then, stores_only-weaken}
 use Rattle.pm_layout.specs.declared.Geometry.{Geometry}
-use Rattle.pm_layout.specs.Geometry.{slot_word, pointer_word, directs, slots, first_data}
+use Rattle.pm_layout.specs.Geometry.{slot_word, pointer_word, directs, slots}
 use Rattle.dn_model.specs.Table.{Row, first_slot, chained, at_direct_next}
-use Rattle.dn_model.specs.Disk.{Disk, DiskSays, of_chains, of_pointers, IsMapped}
+use Rattle.dn_model.specs.Disk.{Disk, DiskSays, of_chains, of_pointers}
 use Rattle.dn_model.specs.Image.{StandsFor}
 use Rattle.dn_changes.proofs.Unread.{read_in_data, pointer_word_low}
-use Rattle.dn_table_changes.specs.Changes.{repointed, opened, linked}
+use Rattle.dn_table_changes.specs.Changes.{repointed}
 use Rattle.dn_table_changes.specs.OneWord.{IsOneWord, IsUnread, LeavesOneWord}
 use Rattle.dn_table_changes.specs.PointerLaws.{MayRepoint}
-use Rattle.dn_table_changes.specs.RowLaws.{MayPut, opened_words, linked_words}
+use Rattle.dn_table_changes.specs.RowLaws.{opened_words, linked_words}
 use Rattle.dn_table_changes.proofs.OneWord.{one_word_images, one_word_any_order, one_word_stands, one_word_may_commit, stored_run_ready, front_ready, ready_through, nothing_ready, unread_stands, unread_images}
 use Rattle.dn_table_changes.proofs.Repointed.{repoint_one_word}
 use Rattle.dn_table_changes.proofs.PutPointers.{may_point, pointed_may_put}

@@ -1,9 +1,9 @@
 -- A settled word is stored, flushed and fenced: what images have on the way, and what is settled in the end.
-use Rattle.std.proofs.Common.{◌≡◌, ◌≢◌, ◌⊎◌, inl, inr, ℕ, ◌-◌, ◌/◌, ◌<◌, Bool, true, List, [], ◌∷◌, length, refl, ◌∙◌, ap, arith, length-set}
-use Rattle.std.specs.Prelude.{slice_index, slice_set}
-use Rattle.pm_device.specs.Past.{Stored, Flushed, Fenced, Left, moment}
+use Rattle.std.proofs.Common.{◌≡◌, ◌≢◌, ◌⊎◌, inl, inr, ℕ, ◌-◌, ◌/◌, ◌<◌, Bool, true, [], ◌∷◌, length, refl, ◌∙◌, ap, arith, length-set}
+use Rattle.std.specs.Prelude.{slice_index}
+use Rattle.pm_device.specs.Past.{Stored, Flushed, Fenced}
 use Rattle.pm_device.specs.State.{State, Stores, Flushes, Fences, Agree}
-use Rattle.pm_device.specs.Settled.{EachLeft, IsRead, IsSettled, IsFlushed, LeavesOnly, LeavesNow, StoresOnly, KeepsFlushed, Anyone, Others}
+use Rattle.pm_device.specs.Settled.{EachLeft, IsRead, IsSettled, LeavesOnly, LeavesNow, StoresOnly, KeepsFlushed, Anyone, Others}
 use Rattle.pm_device.specs.Commit.{IsDone}
 use Rattle.pm_device.specs.Words.{IsIn}
 use Rattle.pm_device.proofs.Calls.{each_left-store_in, each_left-weaken, each_left-flush, each_left-fence, settled-store_out, settled-flush, settled-fence, flushed-fence, read-store_out, image_has, flush_flushes}

@@ -1,14 +1,9 @@
 -- The row at one slot gets other counts: what the chains then say, and that the table makes sense.
-use Rattle.std.proofs.Common.{◌≡◌, ◌≢◌, ◌⊎◌, inl, inr, ⊎_elim, ℕ, zero, suc, ◌+◌, ◌*◌, ◌^◌, ◌<◌, ◌≤◌, Bool, true, false, List, [], ◌∷◌, length, map, refl, sym, ◌∙◌, ap, subst, arith}
-use Rattle.std.specs.Prelude.{slice_get, if◌then◌else◌, ◌==◌, Some, All, Contains}
+use Rattle.std.proofs.Common.{◌≡◌, ◌≢◌, ◌⊎◌, inl, inr, ⊎_elim, ℕ, zero, suc, ◌+◌, ◌^◌, ◌<◌, Bool, true, false, List, [], ◌∷◌, map, refl, sym, ◌∙◌, ap, subst, arith}
+use Rattle.std.specs.Prelude.{slice_get, if◌then◌else◌, ◌==◌, Some, All}
 use Rattle.std.proofs.lemmas.Bool.{cases_eq}
 use Rattle.std.proofs.lemmas.List.Elements.{All-contains, All-map}
-use Rattle.pm_device.specs.State.{State}
-use Rattle.pm_device.specs.Settled.{LeavesOnly, StoresOnly}
-use Rattle.pm_device.specs.Reading.{Reads, Stands, DiffersAt, IsReady}
-use Rattle.pm_device.specs.Commit.{IsCommitted, IsDone}
-use Rattle.pm_device.proofs.OneWord.{reads_old_or_new, stands_new}
-use Rattle.pm_device.proofs.Layers.{stands-both, stands-weaken}
+use Rattle.pm_device.specs.Reading.{DiffersAt}
 use Rattle.pm_layout.specs.declared.Geometry.{Geometry}
 use Rattle.pm_layout.specs.Geometry.{slot_word, directs, slots}
 use Rattle.fingerprint.specs.Count.{count_word}
@@ -16,13 +11,11 @@ use Rattle.dn_model.specs.Table.{Row, RowsSay, at_field, at_next, at_later, Chai
 use Rattle.dn_model.specs.Disk.{Disk, ChainsSay, PointersSay, rows}
 use Rattle.dn_model.specs.Valid.{IsRow}
 use Rattle.dn_table_changes.specs.Changes.{recount, recounted}
-use Rattle.dn_table_changes.specs.CountLaws.{RecountsRows}
 use Rattle.dn_table_changes.proofs.Recounted.{rows_recounted, recounts_rows}
 use Rattle.dn_table_changes.proofs.Slots.{slot_word_one}
 use Rattle.dn_table_changes.proofs.TableDiffers.{pointer_above}
 use Rattle.dn_table_changes.proofs.Rows.{same_test, other_test, all_listed, IsDistinct, mapped_at, distinct_map}
-use Rattle.fact_table.specs.Table.{Table, IsTable, IsSettledTable, IsAtSlot, HasGoodRows, HasRow, HasNoneAt}
-use Rattle.fact_changes.specs.Standing.{HasTableOf}
+use Rattle.fact_table.specs.Table.{HasGoodRows, HasRow, HasNoneAt}
 
 module _ (slot rfc uc : ℕ) where
   abbrev f : Row → Row

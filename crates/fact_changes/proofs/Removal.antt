@@ -1,5 +1,5 @@
 -- A row goes out of the table: what images stand for on the way, and the device in the end.
-use Rattle.std.proofs.Common.{◌≡◌, ◌≢◌, ◌⊎◌, inl, inr, ⊎_elim, ℕ, ◌+◌, ◌*◌, ◌<◌, ◌≤◌, List, [], ◌∷◌, length, refl, sym, ◌∙◌, ap, subst, arith}
+use Rattle.std.proofs.Common.{◌≡◌, ◌≢◌, inl, inr, ⊎_elim, ℕ, ◌*◌, ◌<◌, ◌≤◌, List, [], ◌∷◌, length, sym, ◌∙◌, ap, subst, arith}
 use Rattle.std.specs.Prelude.{slice_index, Contains}
 use Rattle.std.proofs.lemmas.Bool.{cases_eq}
 use Rattle.pm_device.specs.State.{State, Agree}
@@ -12,13 +12,11 @@ use Rattle.pm_device.proofs.Only.{stores_only-then, stores_only-weaken}
 use Rattle.pm_device.proofs.Flushed.{keeps-then, keeps-weaken}
 use Rattle.pm_layout.specs.declared.Geometry.{Geometry}
 use Rattle.pm_layout.specs.Geometry.{slot_word, pointer_word, directs, slots}
-use Rattle.dn_model.specs.Table.{Row, RowsSay, at_next, at_later, at_row, first_slot}
+use Rattle.dn_model.specs.Table.{Row, RowsSay, at_next, at_later, at_row}
 use Rattle.dn_model.specs.Disk.{Disk, DiskSays, of_chains, rows}
-use Rattle.dn_model.specs.Image.{StandsFor}
 use Rattle.dn_changes.proofs.Unread.{read_in_data}
-use Rattle.dn_table_changes.specs.Changes.{repointed, removed, slot_before, slot_after}
+use Rattle.dn_table_changes.specs.Changes.{removed, slot_before, slot_after}
 use Rattle.dn_table_changes.specs.OneWord.{IsOneWord, LeavesOneWord}
-use Rattle.dn_table_changes.specs.RowLaws.{MayRemove}
 use Rattle.dn_table_changes.proofs.OneWord.{one_word_images, one_word_any_order, one_word_stands, one_word_may_commit, nothing_ready}
 use Rattle.dn_table_changes.proofs.Repointed.{repoint_one_word}
 use Rattle.dn_table_changes.proofs.PutPointers.{removed_may_clear}

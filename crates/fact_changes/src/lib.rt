@@ -4,11 +4,13 @@
 #![tactic(auto)]
 
 pub mod counts;
+pub mod insertion;
 pub mod pointer;
 pub mod put;
 pub mod remove;
 
 pub use counts::{raise, recount, settle_down, settle_up};
+pub use insertion::insert;
 pub use pointer::store_pointer;
 pub use put::{insert_chained, insert_direct};
 pub use remove::{remove_chained, remove_direct};

@@ -1,8 +1,5 @@
-use Rattle.std.proofs.Common.{◌≡◌, ◌+◌, ◌-◌, ℕ, ◌∙◌, ap, arith}
+use Rattle.std.proofs.Common.{◌≡◌, ◌-◌, ◌∙◌, ap, arith}
 use Rattle.fingerprint.specs.declared.count.CountWord.{CountWord}
-use Rattle.dn_model.specs.Table.{Row}
-use Rattle.dn_model.specs.Disk.{Disk}
-use Rattle.fact_table.specs.Table.{IsTable, IsAtSlot}
 use Rattle.fact_changes.specs.Counted.{down}
 use Rattle.fact_changes.proofs.Counting.{same_tables, same_table, same_disks, same_disk, on_ok_map}
 use Rattle.fact_changes.proofs.counts.settle_down.Goals as goal
