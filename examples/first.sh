@@ -1,5 +1,6 @@
 #!/bin/sh
-# Makes a sample image of 64 pages with one empty file `f`, runs a job on it, and shows the replies.
+# Makes a file system of 64 pages and 8 inodes, puts one empty file `f` into it (by hand: creating files isn't built
+# yet), runs a job on it, and shows the replies.
 set -eu
 here=$(cd "$(dirname "$0")/.." && pwd)
 folder=$(mktemp -d)
@@ -11,15 +12,11 @@ put() {
     printf "$2" | dd of="$image" bs=1 seek=$(($1 * 8)) conv=notrunc 2>/dev/null
 }
 
-dd if=/dev/zero of="$image" bs=4096 count=64 2>/dev/null
-put 0 'DENOVA01'        # the superblock: mark, version, pages, inodes
-put 1 '\001'
-put 2 '\100'
-put 3 '\010'
-put 1024 '\001'         # inode 0, the directory: in use, its log's first page and its tail
-put 1025 '\006'
+"$here/denova" "$image" format 64 8
+
+put 1025 '\006'         # inode 0, the directory: its log's first page and its tail
 put 1026 '\201\001'
-put 1040 '\001'         # inode 1, the empty file
+put 1040 '\001'         # inode 1, the empty file, is in use
 put 3072 '\003'         # the directory's one item: the name `f` is inode 1
 put 3073 '\001'
 put 3074 '\001'

@@ -1,5 +1,7 @@
 pub mod Jobs
 pub mod Outcomes
+pub mod Calls
+pub mod Makes
 pub mod Reports
 pub mod Served
 pub mod StillDevices

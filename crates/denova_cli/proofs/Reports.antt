@@ -4,7 +4,7 @@ use Rattle.std.proofs.lemmas.List.Concat.{flat_map-append}
 use Rattle.std.proofs.lemmas.List.{append-nil}
 use Rattle.dn_model.specs.declared.op.Entry.{Entry}
 use Rattle.denova_cli.specs.Report.{Answered, history_line, history_text, report_text, last_line}
-use Rattle.denova_cli.specs.Tool.{answered}
+use Rattle.denova_cli.specs.Apply.{answered}
 
 abbrev one_line : ℕ → Entry → Answered
 one_line line entry = record { who = 1; line = line; reply = entry.reply }

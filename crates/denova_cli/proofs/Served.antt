@@ -9,7 +9,7 @@ use Rattle.dn_script.specs.declared.line.LineMeaning.TheVariants.{Skip, Do, Coun
 use Rattle.dn_script.specs.Line.{meaning_of}
 use Rattle.one_file.specs.Answer.{IsServed}
 use Rattle.denova_cli.specs.Job.{JobText, Ops, BadAt, is_served, part_of, with_part, job_of}
-use Rattle.denova_cli.specs.Tool.{ops_in, HasJob}
+use Rattle.denova_cli.specs.Apply.{ops_in, HasJob}
 use Rattle.denova_cli.specs.declared.job.NumberedOp.{NumberedOp}
 use Rattle.denova_cli.specs.declared.job.JobPart.{JobPart}
 use Rattle.denova_cli.specs.declared.job.JobPart.TheVariants.{Passed, Served, Refused}

@@ -6,6 +6,8 @@ use Rattle.dn_model.specs.declared.op.Refusal.{Refusal}
 use Rattle.dn_model.specs.declared.op.Refusal.TheVariants.{BadName, NotFound, Exists, TooLong, TooBig, NoInode, NoSpace}
 use Rattle.dn_model.specs.declared.op.Reply.{Reply}
 use Rattle.dn_model.specs.declared.op.Reply.TheVariants.{Done, Bytes, Number, Names, Refused}
+use Rattle.denova_cli.specs.declared.report.Cause.{Cause}
+use Rattle.denova_cli.specs.declared.report.Cause.TheVariants.{TooFewPages, TooManyPages, BadInodes, WrongSize}
 
 -- a text behind a space
 abbrev pub spaced : List ℕ → List ℕ
@@ -77,6 +79,20 @@ bad_line_text line = codes "bad-line" ++ spaced_number line ++ line_end
 -- the text of an image with a length that none has
 abbrev pub bad_length_text : ℕ → List ℕ
 bad_length_text bytes = codes "denova: bad length" ++ spaced_number bytes ++ line_end
+
+-- why a call was refused
+abbrev pub cause_text : Cause → List ℕ
+cause_text TooFewPages = codes "too-few-pages"
+cause_text TooManyPages = codes "too-many-pages"
+cause_text BadInodes = codes "bad-inodes"
+cause_text (WrongSize words) = codes "wrong-size" ++ spaced_number words
+
+abbrev pub refused_text : Cause → List ℕ
+refused_text cause = codes "refused" ++ spaced (cause_text cause) ++ line_end
+
+-- the text of a file system that was made: its pages, inodes and free pages
+abbrev pub formatted_text : ℕ → ℕ → ℕ → List ℕ
+formatted_text pages inodes free = codes "formatted" ++ spaced_number pages ++ spaced_number inodes ++ spaced_number free ++ line_end
 
 -- the texts of the other statuses
 abbrev pub usage_text : List ℕ

@@ -1,21 +1,31 @@
 -- The words after the program's name.
-use Rattle.std.specs.Prelude.{◌≡◌, ◌≢◌, ℕ, List, [], ◌∷◌, codes, slice_index, All}
+use Rattle.std.specs.Prelude.{◌≡◌, ℕ, Bool, not, ◌&&◌, ◌==◌, if◌then◌else◌, List, [], ◌∷◌, length, codes, slice_index, bytes_eq, Option, Some, None, option_map, option_and_then}
+use Rattle.std.specs.List.{list_all}
+use Rattle.dn_script.specs.Text.{number_of}
 use Rattle.denova_cli.specs.declared.words.Command.{Command}
-use Rattle.denova_cli.specs.declared.words.Command.TheVariants.{Apply}
+use Rattle.denova_cli.specs.declared.words.Command.TheVariants.{Apply, Format}
 
 -- a word that doesn't begin with the byte 45, `-`
-abbrev pub IsPlain : List ℕ → Type 0
-IsPlain word = slice_index word 0 ≢ 45
+abbrev pub is_plain : List ℕ → Bool
+is_plain word = not (slice_index word 0 == 45)
 
--- the words that a command takes behind the image: its own name first
-abbrev pub IsOrder : List (List ℕ) → Command → Type 0
-IsOrder words Apply = words ≡ codes "apply" ∷ []
+-- the command of two words that spell the numbers of a file system
+abbrev pub format_of : List ℕ → List ℕ → Option Command
+format_of first second = option_and_then (λ pages. option_map (λ inodes. Format pages inodes) (number_of second)) (number_of first)
 
--- words that give a command: the image, which isn't empty, and the words of the command; all are plain
-pub record IsCommand (words : List (List ℕ)) (command : Command) : Type 0 where
-  pub image : List ℕ
-  pub others : List (List ℕ)
-  pub parts : words ≡ image ∷ others
-  pub named : image ≢ []
-  pub order : IsOrder others command
-  pub plain : All IsPlain words
+-- the command of the words behind the image: its own name first
+abbrev pub order_of : List (List ℕ) → Option Command
+order_of [] = None
+order_of (name ∷ []) = if bytes_eq name (codes "apply") then Some Apply else None
+order_of (name ∷ first ∷ []) = None
+order_of (name ∷ first ∷ second ∷ []) = if bytes_eq name (codes "format") then format_of first second else None
+order_of (name ∷ first ∷ second ∷ third ∷ words) = None
+
+-- the command that words give: the first is the image, which isn't empty, and the others are those of the command; all
+-- are plain
+abbrev pub command_of : List (List ℕ) → Option Command
+command_of [] = None
+command_of (image ∷ others) = if not (length image == 0) && list_all is_plain (image ∷ others) then order_of others else None
+
+abbrev pub IsCommand : List (List ℕ) → Command → Type 0
+IsCommand words command = command_of words ≡ Some command

@@ -2,18 +2,25 @@
 #![tactic(auto)]
 
 ghost use Rattle.std.specs.Prelude.{◌≡◌, ◌⊎◌, IfOk};
+ghost use Rattle.pm_device.specs.Settled.{Still};
 ghost use Rattle.denova_cli.specs.Report.{bad_length_text};
 
+mod apply;
 mod job;
+mod make;
 mod report;
 mod streams;
+#[cfg(test)]
+mod tests;
 mod tool;
 mod words;
 
 use dn_script::write_all;
 use fingerprint::Sha1Print;
+use pm_device::{MemPm, Pm};
 use pm_file::{FilePm, OpenFault};
-use report::{CANNOT_OPEN, NO_MEMORY, USAGE, write_bad_length};
+use pm_layout::Geometry;
+use report::{CANNOT_OPEN, NO_MEMORY, write_bad_length};
 use std::alloc::{AllocError, Global};
 use std::io::{Input, Write};
 use std::process::ExitCode;
@@ -21,10 +28,7 @@ use std::rt::{Env, Files};
 use std::{env, io};
 use streams::{StdSink, StdSource};
 use tool::tool;
-use words::command_of;
-
-// The status where the words give no command.
-const BAD_WORDS: u8 = 1;
+use words::{Command, command_of};
 
 // The status where memory ran out.
 const WITHOUT_MEMORY: u8 = 7;
@@ -71,14 +75,40 @@ fn end_unopened<W: Write>(alloc: Global, out: &mut StdSink<W>, fault: OpenFault)
     }
 }
 
-// Opens the image and does what the words say.
+// What the words want of the image file.
+#[derive(Clone, Copy)]
+enum ImageFile {
+    // It is opened as it is.
+    Kept,
+    // It is made anew, with so many pages.
+    New { pages: u64 },
+    // It isn't opened.
+    Unopened,
+}
+
+// What these words want of the file that the first one names.
+fn image_file_of(words: &[String]) -> ImageFile {
+    match command_of(words) {
+        Some(Command::Apply) => ImageFile::Kept,
+        Some(Command::Format { pages, inodes }) if Geometry::of(pages, inodes).is_ok() => {
+            ImageFile::New { pages }
+        }
+        _ => ImageFile::Unopened,
+    }
+}
+
+// Opens the image, or makes it, and does what the words say.
 fn serve<R: Files + Input + AllocGlobal, W: Write>(
     rt: &R,
-    path: &str,
+    wanted: Option<u64>,
     words: &[String],
     out: &mut StdSink<W>,
 ) -> u8 {
-    match FilePm::open(rt, path, None) {
+    let path = match words {
+        [path, ..] => path.as_str(),
+        [] => "",
+    };
+    match FilePm::open(rt, path, wanted) {
         Ok(device) => {
             let mut input = StdSource::of(rt.reader());
             let (status, _device) = tool(rt.alloc(), words, device, Sha1Print, &mut input, out);
@@ -88,15 +118,40 @@ fn serve<R: Files + Input + AllocGlobal, W: Write>(
     }
 }
 
-// Does what the words say, where they say something.
+// A device without words.
+fn no_device(alloc: Global) -> Result<MemPm, AllocError>
+    ensures { IfOk result (λ device. Still (⟦<MemPm as Pm>⟧.state device)) }
+{
+    let device = MemPm::of_words(alloc, Vec::new(alloc), Vec::new(alloc))?;
+    Ok(device)
+}
+
+// Does what the words say without an image.
+fn serve_unopened<R: Input + AllocGlobal, W: Write>(
+    rt: &R,
+    words: &[String],
+    out: &mut StdSink<W>,
+) -> u8 {
+    match no_device(rt.alloc()) {
+        Ok(device) => {
+            let mut input = StdSource::of(rt.reader());
+            let (status, _device) = tool(rt.alloc(), words, device, Sha1Print, &mut input, out);
+            status
+        }
+        Err(_) => end_with(out, NO_MEMORY, WITHOUT_MEMORY),
+    }
+}
+
+// Does what the words say.
 fn obey<R: Files + Input + AllocGlobal, W: Write>(
     rt: &R,
     words: &[String],
     out: &mut StdSink<W>,
 ) -> u8 {
-    match words {
-        [path, ..] if command_of(words).is_some() => serve(rt, path.as_str(), words, out),
-        _ => end_with(out, USAGE, BAD_WORDS),
+    match image_file_of(words) {
+        ImageFile::Kept => serve(rt, None, words, out),
+        ImageFile::New { pages } => serve(rt, Some(pages), words, out),
+        ImageFile::Unopened => serve_unopened(rt, words, out),
     }
 }
 

@@ -1,11 +1,24 @@
 // The texts that the program writes.
 ghost use Rattle.std.specs.Prelude.{◌≡◌, ◌++◌, OnOk};
-ghost use Rattle.denova_cli.specs.Report.{spaced, spaced_number, spaced_digits, bytes_text, names_text, refusal_text, reply_text, history_line, line_end, last_line, bad_line_text, bad_length_text};
+ghost use Rattle.denova_cli.specs.Report.{spaced, spaced_number, spaced_digits, bytes_text, names_text, refusal_text, reply_text, history_line, line_end, last_line, bad_line_text, bad_length_text, cause_text, refused_text, formatted_text};
 
 use dn_model::{Refusal, Reply};
 use itoa::Buffer;
 use log_entry::Name;
 use std::alloc::AllocError;
+
+/// Why a call was refused.
+#[derive(Clone, Copy, Debug, PartialEq, Eq)]
+pub enum Cause {
+    /// A file system has 64 pages at least.
+    TooFewPages,
+    /// It has 65,536 pages at most.
+    TooManyPages,
+    /// It has 8 to 4,096 inodes, and 32 pages for data at least.
+    BadInodes,
+    /// The device has so many words, which aren't those of the pages.
+    WrongSize { words: u64 },
+}
 
 /// What is written where the words give no command.
 pub const USAGE: &[u8] = b"usage\n";
@@ -144,6 +157,46 @@ pub fn write_bad_line(text: &mut Vec<u8>, line: u64) -> Result<(), AllocError>
 {
     text.extend_from_slice(b"bad-line")?;
     write_number(text, line)?;
+    end_line(text)
+}
+
+fn write_cause(text: &mut Vec<u8>, cause: Cause) -> Result<(), AllocError>
+    ensures { OnOk result (text.new.items ≡ text.old.items ++ cause_text cause) }
+{
+    match cause {
+        Cause::TooFewPages => text.extend_from_slice(b"too-few-pages"),
+        Cause::TooManyPages => text.extend_from_slice(b"too-many-pages"),
+        Cause::BadInodes => text.extend_from_slice(b"bad-inodes"),
+        Cause::WrongSize { words } => {
+            text.extend_from_slice(b"wrong-size")?;
+            write_number(text, words)
+        }
+    }
+}
+
+/// Appends what is written where a call was refused.
+pub fn write_refused(text: &mut Vec<u8>, cause: Cause) -> Result<(), AllocError>
+    ensures { OnOk result (text.new.items ≡ text.old.items ++ refused_text cause) }
+{
+    text.extend_from_slice(b"refused")?;
+    text.push(b' ')?;
+    write_cause(text, cause)?;
+    end_line(text)
+}
+
+/// Appends what is written where a file system was made: its pages, inodes and free pages.
+pub fn write_formatted(
+    text: &mut Vec<u8>,
+    pages: u64,
+    inodes: u64,
+    free: u64,
+) -> Result<(), AllocError>
+    ensures { OnOk result (text.new.items ≡ text.old.items ++ formatted_text pages inodes free) }
+{
+    text.extend_from_slice(b"formatted")?;
+    write_number(text, pages)?;
+    write_number(text, inodes)?;
+    write_number(text, free)?;
     end_line(text)
 }
 

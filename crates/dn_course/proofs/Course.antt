@@ -1,9 +1,9 @@
 -- The images of a run, as the run goes on.
-use Rattle.std.proofs.Common.{◌≡◌, ◌⊎◌, inl, inr, ⊎_elim, ℕ, zero, suc, ◌+◌, ◌<◌, ◌≤◌, List, [], ◌∷◌, ◌++◌, length, take, refl, sym, ◌∙◌, ap, subst, arith, length-append}
+use Rattle.std.proofs.Common.{◌≡◌, inl, inr, ⊎_elim, ℕ, ◌+◌, ◌<◌, ◌≤◌, List, [], ◌∷◌, ◌++◌, length, take, refl, sym, ◌∙◌, ap, subst, arith, length-append}
 use Rattle.std.specs.Prelude.{slice_index, Option, Some, None}
 use Rattle.std.proofs.lemmas.List.{take-append-le, take_all, append_assoc, append-nil, get_or_append_left, get_or_at}
 use Rattle.std.proofs.lemmas.Bool.{cases_lt}
-use Rattle.pm_device.specs.Past.{Past, Left, LeftOf, moment}
+use Rattle.pm_device.specs.Past.{Past, Left, moment}
 use Rattle.pm_device.specs.State.{State}
 use Rattle.pm_device.specs.Settled.{Extends, LeavesOnly, LeavesNow}
 use Rattle.pm_device.proofs.Only.{left-extends}
@@ -16,7 +16,7 @@ use Rattle.dn_model.specs.History.{Step, Legal}
 use Rattle.dn_model.specs.Course.{Course, IsAfter, IsCountAt, IsFilesAt, after_k, one_more, in_flight}
 use Rattle.dn_model.specs.declared.op.Op.{Op}
 use Rattle.dn_model.specs.declared.op.Entry.{Entry}
-use Rattle.dn_course.specs.Laws.{IsImageOf, LeavesOneOf, IsOnCourse}
+use Rattle.dn_model.specs.OnCourse.{IsImageOf, LeavesOneOf, IsOnCourse}
 
 -- a longer past has no fewer moments
 moment-extends : (p q : Option Past) → Extends p q → moment p ≤ moment q

@@ -1,13 +1,11 @@
 -- A write that didn't happen.
-use Rattle.std.proofs.Common.{◌≡◌, ℕ, ◌+◌, ◌≤◌, List, length, refl, sym, ◌∙◌, ap, subst}
-use Rattle.std.specs.Prelude.{Result, Ok, Err, IfOk}
+use Rattle.std.proofs.Common.{◌≡◌, ℕ, ◌+◌, ◌≤◌, List, length, sym, ap, subst}
+use Rattle.std.specs.Prelude.{Result, Err, IfOk}
 use Rattle.pm_device.specs.State.{State, Agree, Rose}
 use Rattle.log_entry.specs.Name.{IsLegal}
 use Rattle.dn_model.specs.Disk.{Disk}
 use Rattle.dn_model.specs.declared.op.Op.TheVariants.{Write}
 use Rattle.dn_model.specs.declared.op.Reply.{Reply}
-use Rattle.dn_model.specs.declared.op.Reply.TheVariants.{Refused}
-use Rattle.dn_model.specs.declared.op.Refusal.TheVariants.{NoSpace}
 use Rattle.file_write.specs.Held.{IsHeld, LacksPages, LeavesWrite}
 use Rattle.file_write.specs.declared.write.WriteFault.{WriteFault}
 use Rattle.file_write.specs.declared.write.WriteFault.TheVariants as short

@@ -1,6 +1,6 @@
 -- The files of an open image: its one file.
 use Rattle.std.proofs.Common.{◌≡◌, ◌≢◌, ℕ, Bool, true, false, List, refl, ◌∙◌, ap, subst}
-use Rattle.std.specs.Prelude.{if◌then◌else◌, Option, Some, None}
+use Rattle.std.specs.Prelude.{if◌then◌else◌, Some, None}
 use Rattle.std.specs.Option.{option_map}
 use Rattle.pm_device.specs.State.{State}
 use Rattle.log_entry.specs.Name.{same_name}

@@ -3,7 +3,7 @@ use Rattle.std.proofs.Common.{◌≡◌, ◌⊎◌, inl, ℕ, ◌*◌, ◌<◌, 
 use Rattle.std.specs.Prelude.{◌↔◌, slice_index, Contains, Option, Some, None}
 use Rattle.std.specs.Ordering.{nat_cmp}
 use Rattle.pm_device.specs.Past.{Past, Left, moment}
-use Rattle.pm_device.specs.State.{State, IsSame, Agree}
+use Rattle.pm_device.specs.State.{State, Agree}
 use Rattle.pm_device.specs.Settled.{Extends, LeavesOnly, LeavesNow, Each, OfWord}
 use Rattle.pm_device.specs.Reading.{Stands}
 use Rattle.pm_device.proofs.Layers.{leaves_now-stands}
@@ -16,10 +16,10 @@ use Rattle.file_index.specs.declared.page_map.Mapping.{Mapping}
 use Rattle.file_content.specs.Content.{IsFileOf}
 use Rattle.log_entry.specs.declared.item.LogItem.TheVariants.{Add}
 use Rattle.dn_model.specs.Counts.{IsFree}
-use Rattle.dn_model.specs.Files.{Files, files}
+use Rattle.dn_model.specs.Files.{files}
 use Rattle.dn_model.specs.Own.{Print, IsOwn}
 use Rattle.dn_changes.proofs.WriteEvent.{length-left, stands_for_read}
-use Rattle.dn_course.specs.Laws.{IsImageOf, LeavesOneOf}
+use Rattle.dn_model.specs.OnCourse.{IsImageOf, LeavesOneOf}
 use Rattle.one_file.specs.declared.file.OneFile.{OneFile}
 use Rattle.dn_model.specs.declared.op.Op.{Op}
 use Rattle.dn_model.specs.declared.op.Reply.{Reply}

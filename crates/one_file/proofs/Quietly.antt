@@ -1,5 +1,4 @@
 -- Operations that change nothing are answered.
-use Rattle.std.proofs.Common.{◌≡◌, refl}
 use Rattle.std.specs.Prelude.{Result, Ok, Err, IfOk}
 use Rattle.pm_device.specs.State.{State, Agree}
 use Rattle.dn_model.specs.Disk.{Disk}
@@ -7,7 +6,7 @@ use Rattle.dn_model.specs.declared.op.Op.{Op}
 use Rattle.dn_model.specs.declared.op.Reply.{Reply}
 use Rattle.one_file.specs.declared.file.OneFile.{OneFile}
 use Rattle.one_file.specs.Held.{IsDiskOf}
-use Rattle.one_file.specs.Run.{IsStep}
+use Rattle.dn_model.specs.Runs.{IsStep}
 use Rattle.one_file.specs.Answer.{Answers}
 use Rattle.one_file.proofs.Quiet.{images-quiet}
 

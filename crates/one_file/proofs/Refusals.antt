@@ -1,5 +1,5 @@
 -- Steps of a read, and of operations that are refused.
-use Rattle.std.proofs.Common.{◌≡◌, inl, inr, ⊎_elim, ℕ, ◌+◌, ◌<◌, ◌≤◌, List, [], ◌∷◌, length, take, drop, refl, sym, ◌∙◌, ap, subst, arith}
+use Rattle.std.proofs.Common.{◌≡◌, inl, ⊎_elim, ℕ, ◌+◌, ◌<◌, ◌≤◌, List, [], ◌∷◌, length, take, drop, refl, sym, ◌∙◌, ap, subst, arith}
 use Rattle.std.specs.Prelude.{◌⊎◌, Option, Some, None, IsSome, All}
 use Rattle.std.proofs.lemmas.List.Elements.{All-nil, All-cons, All-head}
 use Rattle.log_entry.specs.Name.{IsLegal}
@@ -13,7 +13,7 @@ use Rattle.dn_model.specs.declared.op.Reply.TheVariants.{Done, Bytes, Refused}
 use Rattle.dn_model.specs.declared.op.Refusal.{Refusal}
 use Rattle.dn_model.specs.declared.op.Refusal.TheVariants.{BadName, NotFound, Exists, TooLong, TooBig, NoInode, NoSpace}
 use Rattle.one_file.specs.Answer.{IsRefusalOf}
-use Rattle.one_file.specs.Run.{IsStep}
+use Rattle.dn_model.specs.Runs.{IsStep}
 
 -- the one name of an operation is legal, or it isn't
 pub legal_one : (name : List ℕ) → IsLegal name → All IsLegal (name ∷ [])

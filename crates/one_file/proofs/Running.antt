@@ -1,21 +1,22 @@
 -- One operation more is run.
-use Rattle.std.proofs.Common.{◌≡◌, ◌⊎◌, inl, ℕ, suc, ◌+◌, ◌≤◌, List, [], ◌∷◌, ◌++◌, length, map, refl, sym, ◌∙◌, ap, subst, arith, append_assoc}
+use Rattle.std.proofs.Common.{◌≡◌, suc, ◌≤◌, List, [], ◌∷◌, ◌++◌, refl, sym, ◌∙◌, ap, subst, arith, append_assoc}
 use Rattle.std.specs.Prelude.{All}
 use Rattle.std.proofs.lemmas.List.{append-nil}
 use Rattle.pm_device.specs.Past.{moment}
-use Rattle.pm_device.specs.State.{State, Agree, IsSame, Rose}
+use Rattle.pm_device.specs.State.{State, Agree, IsSame}
 use Rattle.dn_model.specs.Disk.{Disk}
 use Rattle.dn_model.specs.Files.{files}
 use Rattle.dn_model.specs.Own.{Print, IsOwn}
 use Rattle.dn_model.specs.declared.op.Op.{Op}
 use Rattle.dn_model.specs.declared.op.Entry.{Entry}
-use Rattle.dn_course.specs.Laws.{IsOnCourse, IsImageOf}
+use Rattle.dn_model.specs.OnCourse.{IsImageOf}
 use Rattle.dn_course.proofs.Course.{begins, goes_on, stays, stops}
 use Rattle.one_file.specs.declared.file.OneFile.{OneFile}
 use Rattle.one_file.specs.Held.{IsDiskOf, Agrees}
-use Rattle.one_file.specs.Run.{IsStep, Runs, no_more, one_more}
+use Rattle.dn_model.specs.Runs.{IsStep, Runs, no_more, one_more}
 use Rattle.one_file.specs.Answer.{IsServed, Answers, IsStopped}
-use Rattle.one_file.specs.Session.{ops_of, HasRun, HasStopped, LacksMemory}
+use Rattle.dn_model.specs.Runs.{ops_of, HasStopped, LacksMemory}
+use Rattle.one_file.specs.Session.{HasRun}
 use Rattle.one_file.specs.RunLoop.{RanTo, HasRunSome}
 use Rattle.one_file.proofs.Quiet.{image-now, leaves-quiet}
 

@@ -1,27 +1,24 @@
 -- A write of an open image.
-use Rattle.std.proofs.Common.{◌≡◌, ◌≢◌, ◌⊎◌, inl, inr, ℕ, ◌+◌, ◌<◌, ◌≤◌, List, [], ◌∷◌, length, refl, sym, ◌∙◌, ap, subst, arith}
-use Rattle.std.specs.Prelude.{Option, Some, None, IsSome}
+use Rattle.std.proofs.Common.{◌≡◌, ◌⊎◌, inl, inr, ℕ, ◌+◌, ◌<◌, ◌≤◌, List, [], ◌∷◌, length, refl, sym, ◌∙◌, ap, subst, arith}
+use Rattle.std.specs.Prelude.{Some, IsSome}
 use Rattle.pm_device.specs.State.{State}
-use Rattle.pm_device.specs.Settled.{LeavesOnly}
-use Rattle.page_alloc.specs.Free.{FreePages}
 use Rattle.pm_layout.specs.declared.Geometry.{Geometry}
 use Rattle.log_entry.specs.Name.{IsLegal}
 use Rattle.log_entry.specs.declared.item.LogItem.TheVariants.{Add}
-use Rattle.dn_model.specs.Log.{Log}
 use Rattle.dn_model.specs.Disk.{Disk, Inode}
-use Rattle.dn_model.specs.Files.{Files, files, named, bytes, IsSameFiles}
+use Rattle.dn_model.specs.Files.{Files, files, named, IsSameFiles}
 use Rattle.dn_model.specs.Own.{Print, IsOwn}
 use Rattle.dn_model.specs.Apply.{IsGranted, after_op}
-use Rattle.dn_model.specs.History.{done, no_space, needed, touched, extra, inode_of}
+use Rattle.dn_model.specs.History.{done, no_space, touched, extra, inode_of}
 use Rattle.dn_model.specs.declared.op.Op.TheVariants.{Write}
 use Rattle.dn_model.specs.declared.op.Reply.TheVariants.{Done, Refused}
 use Rattle.dn_model.specs.declared.op.Refusal.TheVariants.{NoSpace}
-use Rattle.file_write.specs.Held.{IsHeld, HasWritten, IsWritten, IsOldOrWritten, is_old, is_new, LeavesWrite, LacksPages}
-use Rattle.dn_course.specs.Laws.{IsImageOf, LeavesOneOf}
+use Rattle.file_write.specs.Held.{IsHeld, HasWritten, IsOldOrWritten, is_old, is_new, LeavesWrite, LacksPages}
+use Rattle.dn_model.specs.OnCourse.{IsImageOf, LeavesOneOf}
 use Rattle.one_file.specs.declared.file.OneFile.{OneFile}
 use Rattle.one_file.specs.Held.{IsDiskOf}
-use Rattle.one_file.specs.Run.{IsStep, LacksSpace}
-use Rattle.one_file.specs.Answer.{Answers, IsAnswered, IsStopped}
+use Rattle.dn_model.specs.Runs.{IsStep}
+use Rattle.one_file.specs.Answer.{Answers, IsStopped}
 use Rattle.one_file.proofs.HeldFiles.{files_own, named_own}
 use Rattle.one_file.proofs.Refusals.{legal_one}
 use Rattle.one_file.proofs.Counted.{free_counted}

@@ -1,5 +1,4 @@
 pub mod Held
-pub mod Run
 pub mod Answer
 pub mod Session
 pub mod RunLoop

@@ -7,12 +7,12 @@ use Rattle.dn_model.specs.Files.{files}
 use Rattle.dn_model.specs.Own.{Print, IsOwn}
 use Rattle.dn_model.specs.declared.op.Op.{Op}
 use Rattle.dn_model.specs.declared.op.Entry.{Entry}
-use Rattle.dn_course.specs.Laws.{IsOnCourse}
+use Rattle.dn_model.specs.OnCourse.{IsOnCourse}
 use Rattle.one_file.specs.declared.file.OneFile.{OneFile}
 use Rattle.one_file.specs.Held.{IsDiskOf, Agrees}
-use Rattle.one_file.specs.Run.{Runs}
+use Rattle.dn_model.specs.Runs.{Runs}
 use Rattle.one_file.specs.Answer.{IsServed}
-use Rattle.one_file.specs.Session.{ops_of}
+use Rattle.dn_model.specs.Runs.{ops_of}
 
 -- from the disk of before these operations were run, and the image agrees with a disk of after
 pub record RanTo {D : Type 0} (state : D → State) (print : Print) (d : Disk) (s : State) (history : List Entry) (v : OneFile D) : Type 0 where

@@ -2,7 +2,7 @@
 ghost use Rattle.std.specs.Prelude.{◌≡◌, IfOk, IfErr};
 ghost use Rattle.dn_model.specs.Disk.{Disk};
 ghost use Rattle.one_file.specs.Held.{Agrees, IsDiskOf};
-ghost use Rattle.one_file.specs.Run.{IsStep};
+ghost use Rattle.dn_model.specs.Runs.{IsStep};
 
 use crate::answer::RunFault;
 use crate::file::OneFile;

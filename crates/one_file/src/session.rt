@@ -6,7 +6,8 @@ ghost use Rattle.dn_model.specs.Own.{Print, IsOwn};
 ghost use Rattle.dn_model.specs.Faults.{HasFree};
 ghost use Rattle.one_file.specs.Held.{Agrees, IsDiskOf};
 ghost use Rattle.one_file.specs.Answer.{IsServed};
-ghost use Rattle.one_file.specs.Session.{HasRun, HasStopped, LacksMemory};
+ghost use Rattle.one_file.specs.Session.{HasRun};
+ghost use Rattle.dn_model.specs.Runs.{HasStopped, LacksMemory};
 
 use crate::answer::{RunFault, answer};
 use crate::file::OneFile;

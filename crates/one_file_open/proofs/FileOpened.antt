@@ -31,7 +31,8 @@ use Rattle.file_scan.specs.declared.index.FileIndex.{FileIndex}
 use Rattle.page_alloc.specs.Free.{FreePages}
 use Rattle.one_file_open.specs.declared.session.Image.{Image}
 use Rattle.one_file_open.specs.declared.session.Opened.{Opened}
-use Rattle.one_file_open.specs.Image.{file_disk, HasOneFile, IsOneFile}
+use Rattle.one_file_open.specs.Image.{file_disk}
+use Rattle.dn_model.specs.OneFile.{HasOneFile, IsOneFile}
 use Rattle.one_file_open.specs.Parts.{HasGeometry, IsHeaded}
 use Rattle.one_file_open.specs.Used.{IsScanOf, IsUnshared, HasTwoLeft, IsFreeBy}
 use Rattle.one_file_open.specs.Opened.{IsFileIn, HasNoFile, IsImageIn, IsOpened}

@@ -12,7 +12,7 @@ use Rattle.dn_model.specs.Disk.{Disk, DiskSays, of_head, of_inodes, of_logs, of_
 use Rattle.dn_model.specs.Valid.{IsLog, IsValid}
 use Rattle.dn_model.proofs.Regions.{inode_word_low}
 use Rattle.dn_changes.proofs.Unread.{slot_word_low, pointer_word_low, read_in_data}
-use Rattle.one_file_open.specs.Image.{HasOneFile}
+use Rattle.dn_model.specs.OneFile.{HasOneFile}
 
 module _ (d : Disk) (valid : IsValid d) (name : List ℕ) (one : HasOneFile d name) (n : ℕ) (size : n ≡ 512 * d.geometry.pages) where
   abbrev g : Geometry

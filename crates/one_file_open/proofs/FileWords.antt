@@ -10,7 +10,8 @@ use Rattle.log_entry.specs.declared.item.LogItem.TheVariants.{Add}
 use Rattle.dn_model.specs.Log.{Log, LogSays, at_tail, at_head, at_footer, at_slot, count, tail_at, spelled_word}
 use Rattle.dn_model.specs.Table.{Row, ChainSays, at_direct_page, at_direct_next, at_row}
 use Rattle.dn_model.specs.Disk.{Disk, Free, IsUsed, state_number, DiskSays, of_head, of_inodes, of_logs, of_chains, of_pointers, of_pages, HeadSays, at_magic, at_version, at_pages, at_inodes, at_gate, InodesSay, at_state, at_cut}
-use Rattle.one_file_open.specs.Image.{first_log, file_inode, file_disk, HasOneFile}
+use Rattle.dn_model.specs.OneFile.{first_log, HasOneFile}
+use Rattle.one_file_open.specs.Image.{file_inode, file_disk}
 use Rattle.one_file_open.specs.Parts.{HasGeometry, HasFirstRoot, IsFileLive, HasFreeInodes, HasNoRows, HasNoPointers, HasTable, HasFirstName, IsHeaded}
 use Rattle.one_file_open.proofs.NameSlot.{count-first}
 

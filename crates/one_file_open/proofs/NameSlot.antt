@@ -4,7 +4,7 @@ use Rattle.pm_layout.specs.declared.Geometry.{Geometry}
 use Rattle.log_entry.specs.Spelling.{spelling, name_words, more_slots, more_count}
 use Rattle.log_entry.specs.declared.item.LogItem.TheVariants.{Add}
 use Rattle.dn_model.specs.Log.{count}
-use Rattle.one_file_open.specs.Image.{first_log}
+use Rattle.dn_model.specs.OneFile.{first_log}
 
 no_more : (name : List ℕ) → length name ≤ 40 → more_count name ≡ 0
 no_more name short = omega arith

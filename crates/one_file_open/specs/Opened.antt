@@ -12,7 +12,7 @@ use Rattle.file_scan.specs.Index.{IsIndexOf}
 use Rattle.one_file_open.specs.declared.session.FileParts.{FileParts}
 use Rattle.one_file_open.specs.declared.session.Image.{Image}
 use Rattle.one_file_open.specs.declared.session.Opened.{Opened}
-use Rattle.one_file_open.specs.Image.{IsOneFile}
+use Rattle.dn_model.specs.OneFile.{IsOneFile}
 use Rattle.one_file_open.specs.Parts.{IsHeaded}
 use Rattle.one_file_open.specs.Used.{IsUnshared, HasTwoLeft, IsFreeBy}
 

@@ -7,7 +7,7 @@ ghost use Rattle.dn_model.specs.Disk.{Disk};
 ghost use Rattle.log_walk.specs.Walk.{HasLog};
 ghost use Rattle.log_walk.specs.Laws.{ReadsAs};
 ghost use Rattle.one_file_open.specs.Parts.{HasGeometry};
-ghost use Rattle.one_file_open.specs.Image.{IsOneFile};
+ghost use Rattle.dn_model.specs.OneFile.{IsOneFile};
 ghost use Rattle.one_file_open.specs.Opened.{IsFileIn, HasNoFile, IsImageIn, IsOpened};
 
 use crate::marks::free_pages;

@@ -17,7 +17,8 @@ use Rattle.dn_model.specs.Valid.{MayStand, IsCut, IsLog, IsLinked, AreApart, IsS
 use Rattle.dn_model.specs.Own.{LivePlace, page_bytes}
 use Rattle.dn_changes.specs.Events.{IsReadPage}
 use Rattle.dn_changes.proofs.Counting.{total-zero}
-use Rattle.recovery.specs.Empty.{empty_inode, empty_disk, EmptyDisksAreValid, EmptyDisksHaveNoFiles, EmptyDisksAreOwn, EmptyDisksAreFree}
+use Rattle.dn_model.specs.Empty.{empty_inode, empty_disk}
+use Rattle.recovery.specs.Empty.{EmptyDisksAreValid, EmptyDisksHaveNoFiles, EmptyDisksAreOwn, EmptyDisksAreFree}
 
 pub count-none : count no_log ≡ 0
 unfolding count

@@ -20,9 +20,9 @@ use Rattle.dn_model.specs.Image.{StandsFor}
 use Rattle.dn_model.specs.Faults.{FaultOf, not_an_image}
 use Rattle.dn_model.specs.declared.fault.ImageFault.TheVariants.{NotAnImage}
 use Rattle.dn_changes.proofs.WriteEvent.{length-left, stands_for_read}
-use Rattle.recovery.specs.Empty.{empty_disk}
+use Rattle.dn_model.specs.Empty.{empty_disk}
 use Rattle.recovery.specs.Tables.{AllFlushed, IsBehindMagic, HasParts}
-use Rattle.recovery.specs.Formatting.{IsFormatting, IsFormatted}
+use Rattle.dn_model.specs.Empty.{IsFormatting, IsFormatted}
 use Rattle.recovery.proofs.EmptyDisk.{valid, own, no_files}
 use Rattle.recovery.proofs.Making.{some_tables}
 use Rattle.recovery.proofs.Parts.{IsMagic, Made, made, kept}

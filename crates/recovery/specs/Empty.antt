@@ -1,22 +1,12 @@
--- A file system without files, and its laws.
-use Rattle.std.specs.Prelude.{◌≡◌, ℕ, zero, suc, ◌-◌, List, [], None}
+-- The laws of a file system without files.
+use Rattle.std.specs.Prelude.{◌≡◌, ℕ, ◌-◌, List, None}
 use Rattle.pm_layout.specs.declared.Geometry.{Geometry}
 use Rattle.pm_layout.specs.Geometry.{IsAccepted, first_data}
-use Rattle.dn_model.specs.Log.{no_log}
-use Rattle.dn_model.specs.Disk.{Disk, Inode, Free, Live}
 use Rattle.dn_model.specs.Files.{files}
 use Rattle.dn_model.specs.Valid.{IsValid}
 use Rattle.dn_model.specs.Own.{Print, IsOwn}
 use Rattle.dn_model.specs.Faults.{HasFree}
-
--- the root, whose log is empty, and free inodes
-abbrev pub empty_inode : ℕ → Inode
-empty_inode zero = record { use_of = Live; log = no_log }
-empty_inode (suc k) = record { use_of = Free; log = no_log }
-
--- no page has a row, no pointer leads anywhere, and no page is mapped
-abbrev pub empty_disk : Geometry → Disk
-empty_disk g = record { geometry = g; inode = empty_inode; chain = λ p. []; pointer = λ page. 0; word = λ page k. 0 }
+use Rattle.dn_model.specs.Empty.{empty_disk}
 
 abbrev pub EmptyDisksAreValid : Type 0
 EmptyDisksAreValid = (g : Geometry) → IsAccepted g → IsValid (empty_disk g)

@@ -3,7 +3,7 @@ ghost use Rattle.std.specs.Prelude.{◌≡◌, ◌≢◌, ◌⊎◌, ◌+◌, �
 ghost use Rattle.pm_device.specs.State.{IsSame, Rose};
 ghost use Rattle.pm_device.specs.Settled.{Still, LeavesOnly};
 ghost use Rattle.pm_layout.specs.Geometry.{IsAccepted, first_data};
-ghost use Rattle.recovery.specs.Formatting.{IsFormatting, IsFormatted};
+ghost use Rattle.dn_model.specs.Empty.{IsFormatting, IsFormatted};
 
 use crate::tables::{PAGE_UNITS, make_parts};
 use pm_device::commit::commit;

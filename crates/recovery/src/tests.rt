@@ -83,7 +83,7 @@ fn is_formatting(
     before: &[u64],
     after: &[u64],
 ) -> Result<(), Fail> {
-    for pick in 0..3u64 {
+    for pick in 0..8u64 {
         assert!(rt; moment <= device.moment());
         let image = device.image_at(alloc, moment, pick)?;
         let none = image.get(0).copied() != Some(MAGIC);

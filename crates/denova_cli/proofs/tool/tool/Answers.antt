@@ -1,8 +1,8 @@
-use Rattle.denova_cli.proofs.Outcomes.{applied, usage, bad_job, unbuilt, stopped, unread, unwritten, no_memory, too_long, known, no_command, complete}
+use Rattle.denova_cli.proofs.Calls.{done, usage, bad_job, unbuilt, stopped, unread, unwritten, no_memory, too_long, known, no_command, refused, complete, makes, refuses}
 use Rattle.denova_cli.proofs.tool.tool.Goals as goal
 
-pub returns-clause-applied : goal.returns-clause-applied
-returns-clause-applied g c = applied _ _ _ _ _ _ _ _ _ _ _ c.call.ensures.ended
+pub returns-clause-done : goal.returns-clause-done
+returns-clause-done g c = done _ _ _ _ _ _ _ _ _ _ _ c.call.ensures.ended
 
 pub returns-clause-usage : goal.returns-clause-usage
 returns-clause-usage g c = usage _ _ _ _ _ _ _ _ _ _ _ c.call.ensures.ended
@@ -36,3 +36,12 @@ returns-clause-no_command g c = no_command _ _ _ _ _ _ _ _ _ _ _ c.call.ensures.
 
 pub returns-clause-complete : goal.returns-clause-complete
 returns-clause-complete g c = complete _ _ _ _ _ _ _ _ _ _ _ c.call.ensures.ended
+
+pub returns-clause-refused : goal.returns-clause-refused
+returns-clause-refused g c = refused _ _ _ _ _ _ _ _ _ _ _ c.call.ensures.ended
+
+pub returns-clause-makes : goal.returns-clause-makes
+returns-clause-makes g c = makes _ _ _ _ _ _ _ _ _ _ _ c.call.ensures.ended
+
+pub returns-clause-refuses : goal.returns-clause-refuses
+returns-clause-refuses g c = refuses _ _ _ _ _ _ _ _ _ _ _ c.call.ensures.ended

@@ -1,6 +1,6 @@
-use Rattle.std.proofs.Common.{◌≡◌, sym, subst}
+use Rattle.std.proofs.Common.{sym, subst}
 use Rattle.dn_model.specs.declared.op.Op.{Op}
-use Rattle.one_file.specs.Run.{IsStep}
+use Rattle.dn_model.specs.Runs.{IsStep}
 use Rattle.one_file.proofs.Quietly.{answers-same, if_ok_map}
 use Rattle.one_file.proofs.answer.reply_to.Goals as goal
 

@@ -1,9 +1,9 @@
-use Rattle.std.proofs.Common.{◌≡◌, ℕ, List, sym, ◌∙◌, subst, arith}
-use Rattle.std.specs.Prelude.{Some, None, take, drop}
+use Rattle.std.proofs.Common.{ℕ, List, ◌∙◌, subst, arith}
+use Rattle.std.specs.Prelude.{Some, None}
 use Rattle.dn_model.specs.Files.{bytes, files}
 use Rattle.file_content.proofs.Blocks.{blocks_in-file}
 use Rattle.one_file.specs.Answer.{IsRefusalOf}
-use Rattle.one_file.proofs.Refusals.{read_refused, read_too_long, read_step}
+use Rattle.one_file.proofs.Refusals.{read_refused, read_step}
 use Rattle.one_file.proofs.answer_read.answer_read.Goals as goal
 
 pub returns-in-Some-clause-step : goal.returns-in-Some-clause-step

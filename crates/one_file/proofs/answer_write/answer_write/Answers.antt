@@ -1,14 +1,12 @@
-use Rattle.std.proofs.Common.{◌≡◌, ◌⊎◌, inl, inr, ◌+◌, ◌<◌, ◌≤◌, ℕ, true, false, List, [], ◌∷◌, length, refl, sym, ◌∙◌, ap, subst, arith}
-use Rattle.std.specs.Prelude.{◌==◌, Option, Some, None, Result, Ok, Err, IfOk, IfSome}
+use Rattle.std.proofs.Common.{◌≡◌, ◌⊎◌, ◌≤◌, ℕ, true, false, List, [], ◌∷◌, length, refl, sym, ◌∙◌, ap, subst, arith}
+use Rattle.std.specs.Prelude.{◌==◌, Option, Some, None, IfSome}
 use Rattle.std.proofs.lemmas.Bool.Decides.{nat_tests}
 use Rattle.log_entry.specs.Name.{IsLegal}
-use Rattle.dn_model.specs.Disk.{Disk}
 use Rattle.dn_model.specs.Files.{bytes, files}
 use Rattle.dn_model.specs.declared.op.Op.TheVariants.{Write}
 use Rattle.dn_model.specs.declared.op.Reply.TheVariants.{Done, Refused}
 use Rattle.dn_model.specs.declared.op.Refusal.{Refusal}
 use Rattle.dn_model.specs.declared.op.Refusal.TheVariants.{TooLong, TooBig}
-use Rattle.one_file.specs.Run.{IsStep}
 use Rattle.one_file.specs.Answer.{IsRefusalOf, Answers, IsStopped}
 use Rattle.one_file.proofs.Refusals.{write_refused, write_nothing, placed}
 use Rattle.one_file.proofs.Quietly.{answers-same, if_ok_map}

@@ -1,6 +1,6 @@
-use Rattle.std.proofs.Common.{◌≡◌, refl}
+use Rattle.std.proofs.Common.{refl}
 use Rattle.one_file.proofs.Written.{answers-written}
-use Rattle.one_file.proofs.Faulted.{fault-answered, fault-stopped, fault-no_memory, fault-failed}
+use Rattle.one_file.proofs.Faulted.{fault-answered, fault-stopped}
 use Rattle.one_file.proofs.answer_write.write_bytes.Goals as goal
 
 pub returns-in-Ok-clause-answered : goal.returns-in-Ok-clause-answered

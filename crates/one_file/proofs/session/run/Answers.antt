@@ -1,11 +1,10 @@
-use Rattle.std.proofs.Common.{◌≡◌, ◌<◌, true, false, [], ◌∷◌, ◌++◌, List, length, refl, sym, ◌∙◌, ap, subst, arith}
-use Rattle.std.specs.Prelude.{All, Result, Err}
+use Rattle.std.proofs.Common.{◌≡◌, ◌<◌, true, false, [], ◌∷◌, List, length, refl, sym, ◌∙◌, ap, subst, arith}
+use Rattle.std.specs.Prelude.{Result, Err}
 use Rattle.std.specs.Vec.Iter.{into_iter_items}
 use Rattle.dn_model.specs.declared.op.Op.{Op}
 use Rattle.dn_model.specs.declared.op.Entry.{Entry}
 use Rattle.one_file.specs.declared.answer.RunFault.{RunFault}
 use Rattle.one_file.specs.declared.answer.RunFault.TheVariants as run
-use Rattle.one_file.specs.Answer.{IsServed}
 use Rattle.one_file.specs.RunLoop.{HasRunSome}
 use Rattle.one_file.proofs.Running.{ran_none, ran_one, ran_all, lacks_entry, lacks_reply, stopped_in, served_head}
 use Rattle.one_file.proofs.session.run.Goals as goal

@@ -1,9 +1,15 @@
--- Operations on an image of one file, one after another.
-use Rattle.std.specs.Prelude.{◌≡◌, ℕ, ◌+◌, ◌<◌, List, [], ◌∷◌}
+-- Operations of one client on a disk, one after another.
+use Rattle.std.specs.Prelude.{◌≡◌, ℕ, ◌+◌, ◌<◌, List, [], ◌∷◌, ◌++◌, map, Some}
+use Rattle.pm_device.specs.Past.{moment}
+use Rattle.pm_device.specs.State.{State}
 use Rattle.dn_model.specs.Disk.{Disk}
 use Rattle.dn_model.specs.Files.{files}
 use Rattle.dn_model.specs.Faults.{HasFree}
+use Rattle.dn_model.specs.Own.{Print}
+use Rattle.dn_model.specs.Apply.{IsGranted}
 use Rattle.dn_model.specs.History.{Step, needed, reserve}
+use Rattle.dn_model.specs.Course.{Course}
+use Rattle.dn_model.specs.OnCourse.{IsOnCourse}
 use Rattle.dn_model.specs.declared.op.Op.{Op}
 use Rattle.dn_model.specs.declared.op.Entry.{Entry}
 use Rattle.dn_model.specs.declared.op.Reply.{Reply}
@@ -27,3 +33,26 @@ pub record IsStep (d : Disk) (op : Op) (reply : Reply) (d' : Disk) : Type 0 wher
 pub data Runs : Disk → List Entry → Disk → Type 0 where
   no_more : {d : Disk} → Runs d [] d
   one_more : {d e f : Disk} {entry : Entry} {entries : List Entry} → entry.who ≡ 1 → IsStep d entry.op entry.reply e → Runs e entries f → Runs d (entry ∷ entries) f
+
+-- the operations of a history
+abbrev pub ops_of : List Entry → List Op
+ops_of history = map (λ (e : Entry). e.op) history
+
+-- The first operations were run, and the device stopped in the next one.
+pub record HasStopped (print : Print) (d : Disk) (s : State) (ops : List Op) (history : List Entry) (t : State) : Type 0 where
+  pub op : Op
+  pub rest : List Op
+  pub split : ops ≡ ops_of history ++ op ∷ rest
+  pub after : Disk
+  pub runs : Runs d history after
+  pub granted : IsGranted (files after) op
+  pub course : Course print (files d) (moment s.past) history (Some op) t
+
+-- Some of the operations were run, and no other was begun.
+pub record LacksMemory (print : Print) (d : Disk) (s : State) (ops : List Op) (t : State) : Type 0 where
+  pub history : List Entry
+  pub rest : List Op
+  pub split : ops ≡ ops_of history ++ rest
+  pub after : Disk
+  pub runs : Runs d history after
+  pub course : IsOnCourse print (files d) (moment s.past) history (files after) t

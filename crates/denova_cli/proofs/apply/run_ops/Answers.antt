@@ -1,9 +1,9 @@
 use Rattle.std.proofs.Common.{sym, subst}
 use Rattle.one_file.specs.declared.file.OneFile.{OneFile}
 use Rattle.one_file.specs.Held.{Agrees}
-use Rattle.denova_cli.specs.Tool.{RunTells}
+use Rattle.denova_cli.specs.Apply.{RunTells}
 use Rattle.denova_cli.proofs.Outcomes.{ops_tell, is_disk}
-use Rattle.denova_cli.proofs.tool.run_ops.Goals as goal
+use Rattle.denova_cli.proofs.apply.run_ops.Goals as goal
 
 pub run_opened-requires-clause-agrees : goal.run_opened-requires-clause-agrees
 run_opened-requires-clause-agrees g c =

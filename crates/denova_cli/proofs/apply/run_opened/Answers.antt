@@ -1,8 +1,8 @@
 use Rattle.std.proofs.Common.{List, subst}
 use Rattle.dn_model.specs.declared.op.Entry.{Entry}
-use Rattle.denova_cli.specs.Tool.{EndTells}
+use Rattle.denova_cli.specs.Apply.{EndTells}
 use Rattle.denova_cli.proofs.Outcomes.{run_tells}
-use Rattle.denova_cli.proofs.tool.run_opened.Goals as goal
+use Rattle.denova_cli.proofs.apply.run_opened.Goals as goal
 
 pub returns-clause-tells : goal.returns-clause-tells
 returns-clause-tells g c =

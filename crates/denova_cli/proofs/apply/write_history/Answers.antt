@@ -1,7 +1,7 @@
 use Rattle.std.proofs.Common.{◌<◌, ◌≤◌, length, min, sym, arith}
 use Rattle.std.proofs.lemmas.List.{append-nil}
 use Rattle.denova_cli.proofs.Reports.{history_text-none, history_text-more, history_text-all}
-use Rattle.denova_cli.proofs.tool.write_history.Goals as goal
+use Rattle.denova_cli.proofs.apply.write_history.Goals as goal
 
 pub loop-k-init : goal.loop-k-init
 loop-k-init c = rw (history_text-none c.args.lines.now c.args.history.now) (sym (append-nil c.args.text.now.items))

@@ -1,6 +1,6 @@
 use Rattle.std.proofs.Common.{◌≡◌}
-use Rattle.denova_cli.specs.Tool.{ops_in, lines_in}
-use Rattle.denova_cli.proofs.tool.split.Given as goal
+use Rattle.denova_cli.specs.Apply.{ops_in, lines_in}
+use Rattle.denova_cli.proofs.apply.split.Given as goal
 
 abbrev pub invariant-loop-line : goal.invariant-loop-line
 invariant-loop-line l = record {

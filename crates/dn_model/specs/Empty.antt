@@ -1,17 +1,26 @@
--- What a device is while it is formatted, and after.
-use Rattle.std.specs.Prelude.{◌≡◌, ◌⊎◌, ℕ, List, slice_index, None}
+-- A file system without files, and what a device is while one is made, and after.
+use Rattle.std.specs.Prelude.{◌≡◌, ◌⊎◌, ℕ, zero, suc, List, [], slice_index, None}
 use Rattle.pm_device.specs.State.{State}
 use Rattle.pm_device.specs.Settled.{Still}
 use Rattle.pm_device.specs.Reading.{Said}
 use Rattle.pm_layout.specs.declared.Geometry.{Geometry}
 use Rattle.pm_layout.specs.Geometry.{gate_word}
-use Rattle.dn_model.specs.Disk.{DiskSays}
+use Rattle.dn_model.specs.Log.{no_log}
+use Rattle.dn_model.specs.Disk.{Disk, DiskSays, Inode, Free, Live}
 use Rattle.dn_model.specs.Files.{files}
 use Rattle.dn_model.specs.Image.{StandsFor}
 use Rattle.dn_model.specs.Own.{Print, Own}
 use Rattle.dn_model.specs.Faults.{FaultOf}
 use Rattle.dn_model.specs.declared.fault.ImageFault.TheVariants.{NotAnImage}
-use Rattle.recovery.specs.Empty.{empty_disk}
+
+-- the root, whose log is empty, and free inodes
+abbrev pub empty_inode : ℕ → Inode
+empty_inode zero = record { use_of = Live; log = no_log }
+empty_inode (suc k) = record { use_of = Free; log = no_log }
+
+-- no page has a row, no pointer leads anywhere, and no page is mapped
+abbrev pub empty_disk : Geometry → Disk
+empty_disk g = record { geometry = g; inode = empty_inode; chain = λ p. []; pointer = λ page. 0; word = λ page k. 0 }
 
 -- An image that a stop leaves while words w are formatted: they are as they were, or the image isn't one yet, or it
 -- is one without files.
