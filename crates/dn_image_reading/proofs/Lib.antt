@@ -5,3 +5,4 @@ pub mod Logs
 pub mod Links
 pub mod Stay
 pub mod ImageRead
+pub mod Stands

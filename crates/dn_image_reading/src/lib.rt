@@ -4,7 +4,7 @@
 //! that no device holds.
 #![tactic(auto)]
 
-ghost use Rattle.dn_image_reading.specs.Laws.{AreReadToLinks, LinksStay};
+ghost use Rattle.dn_image_reading.specs.Laws.{AreReadToLinks, LinksStay, PassingStands};
 
 /// Words have the first fault of an image, by its head, its journal, its inodes, its logs or its links, or they
 /// pass these rules with a state whose inodes and logs they say. What passes them keeps to that with any
@@ -12,4 +12,10 @@ ghost use Rattle.dn_image_reading.specs.Laws.{AreReadToLinks, LinksStay};
 pub fn image_or_fault()
     ensures read { AreReadToLinks }
     ensures stay { LinksStay }
+{}
+
+/// Words that pass all rules up to the pointers of pages stand for the state, if they say its pages too, no page
+/// is used twice, the counts are near and two pages are free.
+pub fn passing_stands()
+    ensures { PassingStands }
 {}
