@@ -1,9 +1,10 @@
 -- Statements of which it is decided whether they hold.
-use Rattle.std.proofs.Common.{◌≡◌, ◌⊎◌, inl, inr, ⊎_elim, ℕ, zero, suc, ◌<◌, ◌≤◌, List, [], ◌∷◌, ◌++◌, refl, ap, subst, arith}
-use Rattle.std.specs.Prelude.{All}
+use Rattle.std.proofs.Common.{◌≡◌, ◌⊎◌, inl, inr, ⊎_elim, ℕ, zero, suc, ◌<◌, ◌≤◌, List, [], ◌∷◌, ◌++◌, length, get_or, refl, sym, ap, subst, arith}
+use Rattle.std.specs.Prelude.{All, Contains}
 use Rattle.std.proofs.lemmas.Bool.{cases_lt, cases_eq}
 use Rattle.std.proofs.lemmas.List.Elements.{All-nil, All-cons, All-head, All-tail}
 use Rattle.dn_model.specs.Faults.{IsLeast}
+use Rattle.dn_laws.proofs.Listings.{here, later, none_listed, cons_cases}
 
 abbrev pub Decided : Type 0 → Type 0
 Decided P = P ⊎ (P → ⊥)
@@ -89,3 +90,17 @@ module _ {X : Type 0} (P : X → Type 0) where
       by_parts (inl p) (inl all) = inl (All-cons P x xs p all)
       by_parts (inl p) (inr not) = inr (λ all. not (All-tail P x xs all))
       by_parts (inr not) d = inr (λ all. not (All-head P x xs all))
+
+  -- one of a list has P, or none
+  pub decide_listed : ((x : X) → Decided (P x)) → (xs : List X) → Decided ((x : X) × Contains xs x × P x)
+  decide_listed each [] = inr (λ some. none_listed some.0 some.1)
+  decide_listed each (x ∷ xs) = by_parts (each x) (decide_listed each xs)
+    where
+      by_parts : Decided (P x) → Decided ((y : X) × Contains xs y × P y) → Decided ((y : X) × Contains (x ∷ xs) y × P y)
+      by_parts (inl p) d = inl (x, here x xs, p)
+      by_parts (inr not) (inl found) = inl (found.0, later x found.0 xs found.1, found.2)
+      by_parts (inr not) (inr none) = inr (λ some. ⊎_elim (λ (e : x ≡ some.0). not (subst P (sym e) some.2)) (λ (more : Contains xs some.0). none (some.0, more, some.2)) (cons_cases x some.0 xs some.1))
+
+-- a number is listed or not
+pub decide_contains : (xs : List ℕ) (x : ℕ) → Decided (Contains xs x)
+decide_contains xs x = decide_below (λ k. get_or xs k x ≡ x) (length xs) (λ k lt. cases_eq (get_or xs k x) x)
