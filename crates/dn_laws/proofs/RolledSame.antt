@@ -9,7 +9,7 @@ use Rattle.dn_model.proofs.L1.{rolled_closed, gate_closed}
 use Rattle.dn_model.proofs.RollBack.{length-put_back}
 use Rattle.dn_laws.specs.Images.{IsKnownByWordsRolled, RollingKeeps}
 
-length-rolled : (c : List ℕ) → length (rolled c) ≡ length c
+pub length-rolled : (c : List ℕ) → length (rolled c) ≡ length c
 unfolding rolled
 length-rolled c = length-set (put_back c (slice_index c gate_word) c) gate_word 0 ∙ length-put_back c c (slice_index c gate_word)
 
@@ -31,7 +31,7 @@ to_rolled c d stands =
       valid = stands.valid;
     }
 
-rolled_gate : (c : List ℕ) → gate_word < length c → slice_index (rolled c) gate_word ≡ 0
+pub rolled_gate : (c : List ℕ) → gate_word < length c → slice_index (rolled c) gate_word ≡ 0
 unfolding rolled
 rolled_gate c long =
     get_or-set_same (put_back c (slice_index c gate_word) c) gate_word 0 0 (omega (arith, long, length-put_back c c (slice_index c gate_word)))

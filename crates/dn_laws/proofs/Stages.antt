@@ -243,7 +243,7 @@ module _ (c : List ℕ) where
       ne (sym a.2 ∙ get_or_default free.0 a.0 p 0 a.1 ∙ ap (slice_index free.0) same ∙ sym (get_or_default free.0 b.0 q 0 b.1) ∙ b.2)
 
 -- What an image that stands for a state has passed.
-rolled_low : (c : List ℕ) (n a : ℕ) → IsGate n c → a < 512 → slice_index (rolled c) a ≡ slice_index c a
+pub rolled_low : (c : List ℕ) (n a : ℕ) → IsGate n c → a < 512 → slice_index (rolled c) a ≡ slice_index c a
 unfolding rolled
 rolled_low c n a gate low =
     get_or-set_other (put_back c (slice_index c gate_word) c) gate_word a 0 0 (λ e. omega (arith, e, low))

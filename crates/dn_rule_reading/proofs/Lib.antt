@@ -1,0 +1,4 @@
+pub mod Pages
+pub mod Frees
+pub mod ReadDisk
+pub mod Judged
