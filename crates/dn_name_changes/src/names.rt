@@ -1,0 +1,52 @@
+//! Laws of the operations that create, remove and rename files.
+//!
+//! Each function states laws of all disks; it does nothing.
+ghost use Rattle.dn_name_changes.specs.NameLaws.{CreationsMayChange, RemovalsMayChange, RenamingsMayChange, NameChangesStayValid, NameChangesKeepData, NameChangesStayOwn, NameChangesAreAllOrNone, FreshNamesAreReady, FreshNamesSuffice, FreshNamesAreUnread, FreshStoresChangeNothing, CreationsName, RemovalsName, RenamingsName, CreationsCreate, RemovalsRemove, RenamingsRename};
+
+/// The premises of each operation suffice for its change of the disk: each inode keeps to its names.
+pub fn operations_change_names()
+    ensures creations { CreationsMayChange }
+    ensures removals { RemovalsMayChange }
+    ensures renamings { RenamingsMayChange }
+{}
+
+/// A valid disk stays valid.
+pub fn name_changes_stay_valid()
+    ensures { NameChangesStayValid }
+{}
+
+/// Mappings, rows, counts and the bytes of files stay, and only the root's new pages are taken. What every image of
+/// this program has stays too.
+pub fn name_changes_keep_data()
+    ensures data { NameChangesKeepData }
+    ensures own { NameChangesStayOwn }
+{}
+
+/// The root's tail and the state of the inode decide together, once the fresh words stand: those past the root's
+/// tail, and those of the inode.
+pub fn name_changes_are_all_or_none()
+    ensures decide { NameChangesAreAllOrNone }
+    ensures ready { FreshNamesAreReady }
+    ensures suffice { FreshNamesSuffice }
+{}
+
+/// Of these words the disk says nothing before: while they are stored it stands, and so does each image that a stop
+/// may leave.
+pub fn fresh_names_are_unread()
+    ensures unread { FreshNamesAreUnread }
+    ensures stores { FreshStoresChangeNothing }
+{}
+
+/// Which inode each name leads to afterwards.
+pub fn operations_name()
+    ensures creations { CreationsName }
+    ensures removals { RemovalsName }
+    ensures renamings { RenamingsName }
+{}
+
+/// The files are those of the map after the operation.
+pub fn operations_change_files()
+    ensures creations { CreationsCreate }
+    ensures removals { RemovalsRemove }
+    ensures renamings { RenamingsRename }
+{}
