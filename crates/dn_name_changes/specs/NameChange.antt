@@ -55,6 +55,16 @@ renamed d change = record {
   word = d.word;
 }
 
+-- the parts of the disk afterwards, one by one
+pub record ChangesNames (old : Disk) (change : NameChange) (new : Disk) : Type 0 where
+  pub geometry : new.geometry ≡ old.geometry
+  pub root : new.inode 0 ≡ record { use_of = (old.inode 0).use_of; log = root_after old change }
+  pub here : new.inode change.ino ≡ turned change.turn (old.inode change.ino)
+  pub others : (i : ℕ) → 1 ≤ i → i ≢ change.ino → new.inode i ≡ old.inode i
+  pub chain : (prefix : ℕ) → new.chain prefix ≡ old.chain prefix
+  pub pointer : (page : ℕ) → new.pointer page ≡ old.pointer page
+  pub word : (page k : ℕ) → new.word page k ≡ old.word page k
+
 -- a free page that isn't taken
 pub record IsSpared (d : Disk) (fresh : List ℕ) (page : ℕ) : Type 0 where
   pub free : IsFree d page

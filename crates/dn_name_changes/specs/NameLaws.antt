@@ -1,5 +1,5 @@
 -- The laws of operations on names.
-use Rattle.std.specs.Prelude.{◌≡◌, ℕ, ◌*◌, List, length, Option, Some, None}
+use Rattle.std.specs.Prelude.{◌≡◌, ℕ, ◌*◌, ◌≤◌, List, length, Option, Some, None}
 use Rattle.pm_device.specs.State.{State, Agree}
 use Rattle.pm_device.specs.Settled.{LeavesOnly, StoresOnly}
 use Rattle.pm_device.specs.Reading.{Said, Stands, IsReady}
@@ -11,7 +11,7 @@ use Rattle.dn_model.specs.Valid.{IsValid}
 use Rattle.dn_model.specs.Own.{Print, IsOwn}
 use Rattle.dn_model.specs.Image.{StandsFor}
 use Rattle.dn_model.specs.declared.op.Op.TheVariants.{Create, Remove, Rename}
-use Rattle.dn_name_changes.specs.NameChange.{NameChange, MayChange, TurnSays, FreshNames, root_after, name_changes, renamed}
+use Rattle.dn_name_changes.specs.NameChange.{NameChange, ChangesNames, MayChange, TurnSays, FreshNames, root_after, name_changes, renamed}
 use Rattle.dn_name_changes.specs.Operations.{MayCreate, MayRemove, MayRename, creation, removal, renaming, created_disk, unnamed_disk, renamed_disk, with_name}
 use Rattle.dn_name_changes.specs.Keeping.{KeepsData}
 use Rattle.dn_name_changes.specs.AllOrNoneLaws.{FreshWord, AreAllOrNone}
@@ -25,6 +25,10 @@ RemovalsMayChange = (d : Disk) (name : List ℕ) (ino : ℕ) (fresh : List ℕ) 
 
 abbrev pub RenamingsMayChange : Type 0
 RenamingsMayChange = (d : Disk) (from to : List ℕ) (ino : ℕ) (replaced : Option ℕ) (fresh : List ℕ) → MayRename d from to ino replaced fresh → MayChange d (renaming from to ino replaced fresh)
+
+-- the parts of the disk afterwards
+abbrev pub RenamedDisksChange : Type 0
+RenamedDisksChange = (d : Disk) (change : NameChange) → 1 ≤ change.ino → ChangesNames d change (renamed d change)
 
 -- a valid disk stays valid
 abbrev pub NameChangesStayValid : Type 0

@@ -1,7 +1,7 @@
 //! Laws of the operations that create, remove and rename files.
 //!
 //! Each function states laws of all disks; it does nothing.
-ghost use Rattle.dn_name_changes.specs.NameLaws.{CreationsMayChange, RemovalsMayChange, RenamingsMayChange, NameChangesStayValid, NameChangesKeepData, NameChangesStayOwn, NameChangesAreAllOrNone, FreshNamesAreReady, FreshNamesSuffice, FreshNamesAreUnread, FreshStoresChangeNothing, CreationsName, RemovalsName, RenamingsName, CreationsCreate, RemovalsRemove, RenamingsRename};
+ghost use Rattle.dn_name_changes.specs.NameLaws.{CreationsMayChange, RemovalsMayChange, RenamingsMayChange, RenamedDisksChange, NameChangesStayValid, NameChangesKeepData, NameChangesStayOwn, NameChangesAreAllOrNone, FreshNamesAreReady, FreshNamesSuffice, FreshNamesAreUnread, FreshStoresChangeNothing, CreationsName, RemovalsName, RenamingsName, CreationsCreate, RemovalsRemove, RenamingsRename};
 
 /// The premises of each operation suffice for its change of the disk: each inode keeps to its names.
 pub fn operations_change_names()
@@ -10,9 +10,10 @@ pub fn operations_change_names()
     ensures renamings { RenamingsMayChange }
 {}
 
-/// A valid disk stays valid.
+/// A valid disk stays valid. Its parts are those of before, but for the root's log and the inode that turns.
 pub fn name_changes_stay_valid()
-    ensures { NameChangesStayValid }
+    ensures parts { RenamedDisksChange }
+    ensures valid { NameChangesStayValid }
 {}
 
 /// Mappings, rows, counts and the bytes of files stay, and only the root's new pages are taken. What every image of

@@ -1,7 +1,7 @@
 use Rattle.dn_name_changes.proofs.Changed.{same_geometry, same_rows, same_pointer, same_word}
-use Rattle.dn_name_changes.proofs.Kept.{maps_same, mappings_same, mapped_kept, mapped_only, near_kept, exact_kept, free_kept, free_only, fresh_taken}
+use Rattle.dn_name_changes.proofs.Kept.{maps_same, mappings_same, mapped_kept, mapped_only, near_kept, exact_kept, log_page_kept, log_page_cases, free_kept, free_only, fresh_taken}
 use Rattle.dn_name_changes.proofs.ChangedFiles.{bytes_same}
-use Rattle.dn_name_changes.proofs.ChangedOwn.{own_kept, settled_kept}
+use Rattle.dn_name_changes.proofs.ChangedOwn.{live_was, own_kept, settled_kept}
 use Rattle.dn_name_changes.proofs.names.name_changes_keep_data.Goals as goal
 
 pub returns-clause-data : goal.returns-clause-data
@@ -17,7 +17,10 @@ returns-clause-data c = λ d change may. record {
   near = near_kept d change may;
   exact = exact_kept d change may;
   settled = settled_kept d change may;
+  live_only = live_was d change may;
   bytes_same = bytes_same d change may;
+  log_pages_kept = log_page_kept d change may;
+  log_pages_only = log_page_cases d change may;
   free_kept = free_kept d change may;
   free_only = free_only d change may;
   fresh_taken = fresh_taken d change may;
