@@ -1,10 +1,15 @@
 -- A change of names is made by one commit of the journal.
-use Rattle.std.proofs.Common.{◌≡◌, ◌≢◌, ◌⊎◌, inl, inr, ⊎_elim, ℕ, zero, suc, ◌*◌, ◌<◌, ◌≤◌, List, [], ◌∷◌, length, refl, ◌∙◌, arith}
+use Rattle.std.proofs.Common.{◌≡◌, ◌≢◌, ◌⊎◌, inl, inr, ⊎_elim, ℕ, zero, suc, ◌+◌, ◌-◌, ◌*◌, ◌<◌, ◌≤◌, List, [], ◌∷◌, length, refl, ◌∙◌, subst, arith}
 use Rattle.pm_device.specs.State.{State, Agree}
 use Rattle.pm_device.specs.Settled.{StoresOnly}
 use Rattle.pm_device.specs.Reading.{Said, Stands, IsReady}
 use Rattle.pm_device.proofs.OneWord.{stands-stores}
-use Rattle.pm_device.proofs.Layers.{leaves_only-stores, ready-weaken, ready-both}
+use Rattle.pm_device.specs.Words.{IsIn}
+use Rattle.pm_device.specs.Pages.{SaysRun}
+use Rattle.pm_device.specs.Lines.{StoresRun}
+use Rattle.pm_device.proofs.Layers.{leaves_only-stores, ready-weaken, ready-both, run_is_ready}
+use Rattle.dn_model.proofs.Regions.{inode_word_low}
+use Rattle.std.specs.Prelude.{slice_index}
 use Rattle.pm_layout.specs.Geometry.{inode_word}
 use Rattle.dn_model.specs.Rolled.{IsJournaled}
 use Rattle.dn_model.specs.Disk.{Disk, DiskSays, of_inodes, at_state, state_number}
@@ -13,7 +18,7 @@ use Rattle.dn_changes.proofs.WriteEvent.{length-left, stands_for_read}
 use Rattle.name_journal.specs.declared.change.Change.{Change}
 use Rattle.name_journal.specs.Changes.{address, AreChanges, IsNamed, NewValues}
 use Rattle.name_journal.specs.AllOrNone.{DiffersBy}
-use Rattle.dn_name_changes.specs.NameChange.{NameChange, Turn, Stays, Comes, Goes, turned, root_after, renamed, MayChange, TurnSays, FreshNames, in_root, in_inode, tail_change, state_changes, name_changes}
+use Rattle.dn_name_changes.specs.NameChange.{NameChange, Turn, Stays, Comes, Goes, turned, root_after, renamed, MayChange, TurnSays, FreshNames, turn_field, turn_words, in_root, in_inode, tail_change, state_changes, name_changes}
 use Rattle.dn_name_changes.specs.AllOrNoneLaws.{FreshWord, AreAllOrNone}
 use Rattle.dn_name_changes.specs.NameLaws.{StandsStill}
 use Rattle.dn_name_changes.proofs.Changed.{same_geometry}
@@ -150,17 +155,49 @@ module _ (d : Disk) (change : NameChange) (may : MayChange d change) where
   pub names_suffice : (who : ℕ) (s : State) → IsReady who (FreshNames d change) s → IsReady who (FreshWord d new (name_changes d change)) s
   names_suffice who s ready = ready-weaken who s (FreshNames d change) (FreshWord d new (name_changes d change)) fresh_is ready
 
-  -- stores to them change nothing
-  pub fresh_stores : (s t : State) → StoresOnly (Said (FreshNames d change)) s t → Stands (DiskSays d) s → Agree t.now t.past → length t.now ≡ 512 * d.geometry.pages → StandsStill d s t
-  fresh_stores s t only stands agree size = record {
-    stands = stands-stores (Said (FreshNames d change)) s t only (DiskSays d) apart stands;
+  -- stores to words of which the disk says nothing leave it standing
+  still : (W : ℕ → Type 0) → ((a v : ℕ) → DiskSays d a v → W a → ⊥) → (s t : State) → StoresOnly W s t → Stands (DiskSays d) s → Agree t.now t.past → length t.now ≡ 512 * d.geometry.pages → StandsStill d s t
+  still W apart s t only stands agree size = record {
+    stands = stands-stores W s t only (DiskSays d) apart stands;
     images =
-        let reads = leaves_only-stores (Said (FreshNames d change)) s t (DiskSays d) only apart stands in
+        let reads = leaves_only-stores W s t (DiskSays d) only apart stands in
         record { extends = reads.extends; each = λ m c late left. stands_for_read d c may.root.valid (reads.each m c late left) (length-left t.past t.now m c agree left ∙ size) };
   }
-    where
-      apart : (a v : ℕ) → DiskSays d a v → Said (FreshNames d change) a → ⊥
-      apart a v says fresh = fresh_unsaid d change may a fresh.value v fresh.told says
+
+  pub root_stores : (s t : State) → StoresOnly (Said (Prepared 0 (d.inode 0).log (root_after d change))) s t
+      → Stands (DiskSays d) s → Agree t.now t.past → length t.now ≡ 512 * d.geometry.pages → StandsStill d s t
+  root_stores = still (Said (Prepared 0 (d.inode 0).log (root_after d change))) (λ a v says told. fresh_unsaid d change may a told.value v (in_root told.told) says)
+
+  abbrev turn_at : ℕ
+  turn_at = inode_word change.ino (turn_field change.turn)
+
+  abbrev turn_values : List ℕ
+  turn_values = turn_words change.turn (d.inode change.ino).log
+
+  pub turn_stores : (s t : State) → StoresOnly (IsIn turn_at (length turn_values)) s t → Stands (DiskSays d) s → Agree t.now t.past → length t.now ≡ 512 * d.geometry.pages → StandsStill d s t
+  turn_stores = still (IsIn turn_at (length turn_values)) (λ a v says here. fresh_unsaid d change may a (slice_index turn_values (a - turn_at)) v (in_inode (here, refl)) says)
+
+  -- the run of the inode lies in the device
+  turn_inside : (turn : Turn) → inode_word change.ino (turn_field turn) + length (turn_words turn (d.inode change.ino).log) ≤ 512 * d.geometry.pages
+  turn_inside Stays = let low = inode_word_low d.geometry change.ino 1 may.in_table (omega arith) in omega (arith, low, may.root.valid.accepted.room)
+  turn_inside Comes = let low = inode_word_low d.geometry change.ino 3 may.in_table (omega arith) in omega (arith, low, may.root.valid.accepted.room)
+  turn_inside Goes = let low = inode_word_low d.geometry change.ino 3 may.in_table (omega arith) in omega (arith, low, may.root.valid.accepted.room)
+
+  pub turn_ready : (who : ℕ) (s t : State) → length s.now ≡ 512 * d.geometry.pages → StoresRun who turn_at turn_values s t → IsReady who (TurnSays d change) t
+  turn_ready who s t size stores = run_is_ready who turn_at turn_values t (omega (arith, turn_inside change.turn, stores.only.words, size)) (record { reads = stores.reads; flushed = stores.flushed })
+
+pub no_turn_ready : (d : Disk) (change : NameChange) → change.turn ≡ Stays → (who : ℕ) (s : State) → IsReady who (TurnSays d change) s
+no_turn_ready d change stays who s = record {
+  within = λ a v told. absurd (none a v told);
+  reads = λ a v told. absurd (none a v told);
+  flushed = λ a v told. absurd (none a v told);
+}
+  where
+    nothing : (a v : ℕ) → SaysRun (inode_word change.ino 1) [] a v → ⊥
+    nothing a v told = omega (arith, told.0.0, told.0.1)
+
+    none : (a v : ℕ) → TurnSays d change a v → ⊥
+    none a v told = nothing a v (subst (λ (t : Turn). SaysRun (inode_word change.ino (turn_field t)) (turn_words t (d.inode change.ino).log) a v) stays told)
 
 pub fresh_ready : (d : Disk) (change : NameChange) (who : ℕ) (s : State) → IsReady who (Prepared 0 (d.inode 0).log (root_after d change)) s → IsReady who (TurnSays d change) s → IsReady who (FreshNames d change) s
 fresh_ready d change who s root inode = ready-weaken who s (λ a v. Prepared 0 (d.inode 0).log (root_after d change) a v ⊎ TurnSays d change a v) (FreshNames d change) parts

@@ -3,6 +3,9 @@ use Rattle.std.specs.Prelude.{◌≡◌, ℕ, ◌*◌, ◌≤◌, List, length, 
 use Rattle.pm_device.specs.State.{State, Agree}
 use Rattle.pm_device.specs.Settled.{LeavesOnly, StoresOnly}
 use Rattle.pm_device.specs.Reading.{Said, Stands, IsReady}
+use Rattle.pm_device.specs.Words.{IsIn}
+use Rattle.pm_device.specs.Lines.{StoresRun}
+use Rattle.pm_layout.specs.Geometry.{inode_word}
 use Rattle.dn_model.specs.Disk.{Disk, DiskSays}
 use Rattle.dn_model.specs.Files.{named, files, IsSameFiles}
 use Rattle.dn_model.specs.Apply.{after_op}
@@ -11,7 +14,7 @@ use Rattle.dn_model.specs.Valid.{IsValid}
 use Rattle.dn_model.specs.Own.{Print, IsOwn}
 use Rattle.dn_model.specs.Image.{StandsFor}
 use Rattle.dn_model.specs.declared.op.Op.TheVariants.{Create, Remove, Rename}
-use Rattle.dn_name_changes.specs.NameChange.{NameChange, ChangesNames, MayChange, TurnSays, FreshNames, root_after, name_changes, renamed}
+use Rattle.dn_name_changes.specs.NameChange.{NameChange, Stays, ChangesNames, MayChange, TurnSays, FreshNames, turn_field, turn_words, root_after, name_changes, renamed}
 use Rattle.dn_name_changes.specs.Operations.{MayCreate, MayRemove, MayRename, creation, removal, renaming, created_disk, unnamed_disk, renamed_disk, with_name}
 use Rattle.dn_name_changes.specs.Keeping.{KeepsData}
 use Rattle.dn_name_changes.specs.AllOrNoneLaws.{FreshWord, AreAllOrNone}
@@ -52,6 +55,15 @@ abbrev pub FreshNamesSuffice : Type 0
 FreshNamesSuffice = (d : Disk) (change : NameChange) → MayChange d change
     → (who : ℕ) (s : State) → IsReady who (FreshNames d change) s → IsReady who (FreshWord d (renamed d change) (name_changes d change)) s
 
+-- the inode's words are ready once they were stored and flushed; there are none where it stays
+abbrev pub StoredTurnIsReady : Type 0
+StoredTurnIsReady = (d : Disk) (change : NameChange) → MayChange d change
+    → (who : ℕ) (s t : State) → length s.now ≡ 512 * d.geometry.pages → StoresRun who (inode_word change.ino (turn_field change.turn)) (turn_words change.turn (d.inode change.ino).log) s t
+    → IsReady who (TurnSays d change) t
+
+abbrev pub NoTurnIsReady : Type 0
+NoTurnIsReady = (d : Disk) (change : NameChange) → change.turn ≡ Stays → (who : ℕ) (s : State) → IsReady who (TurnSays d change) s
+
 -- the disk says nothing of them before
 abbrev pub FreshNamesAreUnread : Type 0
 FreshNamesAreUnread = (d : Disk) (change : NameChange) → MayChange d change → (a v w : ℕ) → FreshNames d change a v → DiskSays d a w → ⊥
@@ -61,9 +73,14 @@ pub record StandsStill (d : Disk) (s t : State) : Type 0 where
   pub stands : Stands (DiskSays d) t
   pub images : LeavesOnly s t (λ c. StandsFor c d)
 
-abbrev pub FreshStoresChangeNothing : Type 0
-FreshStoresChangeNothing = (d : Disk) (change : NameChange) → MayChange d change
-    → (s t : State) → StoresOnly (Said (FreshNames d change)) s t → Stands (DiskSays d) s → Agree t.now t.past → length t.now ≡ 512 * d.geometry.pages → StandsStill d s t
+abbrev pub RootStoresChangeNothing : Type 0
+RootStoresChangeNothing = (d : Disk) (change : NameChange) → MayChange d change → (s t : State) → StoresOnly (Said (Prepared 0 (d.inode 0).log (root_after d change))) s t
+    → Stands (DiskSays d) s → Agree t.now t.past → length t.now ≡ 512 * d.geometry.pages → StandsStill d s t
+
+abbrev pub TurnStoresChangeNothing : Type 0
+TurnStoresChangeNothing = (d : Disk) (change : NameChange) → MayChange d change
+    → (s t : State) → StoresOnly (IsIn (inode_word change.ino (turn_field change.turn)) (length (turn_words change.turn (d.inode change.ino).log))) s t
+    → Stands (DiskSays d) s → Agree t.now t.past → length t.now ≡ 512 * d.geometry.pages → StandsStill d s t
 
 -- which names there are afterwards
 abbrev pub CreationsName : Type 0

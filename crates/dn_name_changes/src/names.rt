@@ -1,7 +1,7 @@
 //! Laws of the operations that create, remove and rename files.
 //!
 //! Each function states laws of all disks; it does nothing.
-ghost use Rattle.dn_name_changes.specs.NameLaws.{CreationsMayChange, RemovalsMayChange, RenamingsMayChange, RenamedDisksChange, NameChangesStayValid, NameChangesKeepData, NameChangesStayOwn, NameChangesAreAllOrNone, FreshNamesAreReady, FreshNamesSuffice, FreshNamesAreUnread, FreshStoresChangeNothing, CreationsName, RemovalsName, RenamingsName, CreationsCreate, RemovalsRemove, RenamingsRename};
+ghost use Rattle.dn_name_changes.specs.NameLaws.{CreationsMayChange, RemovalsMayChange, RenamingsMayChange, RenamedDisksChange, NameChangesStayValid, NameChangesKeepData, NameChangesStayOwn, NameChangesAreAllOrNone, FreshNamesAreReady, FreshNamesSuffice, StoredTurnIsReady, NoTurnIsReady, FreshNamesAreUnread, RootStoresChangeNothing, TurnStoresChangeNothing, CreationsName, RemovalsName, RenamingsName, CreationsCreate, RemovalsRemove, RenamingsRename};
 
 /// The premises of each operation suffice for its change of the disk: each inode keeps to its names.
 pub fn operations_change_names()
@@ -23,19 +23,26 @@ pub fn name_changes_keep_data()
     ensures own { NameChangesStayOwn }
 {}
 
-/// The root's tail and the state of the inode decide together, once the fresh words stand: those past the root's
-/// tail, and those of the inode.
+/// The root's tail and the state of the inode decide together, once the fresh words stand.
 pub fn name_changes_are_all_or_none()
     ensures decide { NameChangesAreAllOrNone }
-    ensures ready { FreshNamesAreReady }
     ensures suffice { FreshNamesSuffice }
+{}
+
+/// The fresh words are those past the root's tail, as `prepare` stores them, and those of the inode: head, tail and cut
+/// of one that comes to life, the cut of one that is dying.
+pub fn fresh_names_are_ready()
+    ensures parts { FreshNamesAreReady }
+    ensures stored { StoredTurnIsReady }
+    ensures none { NoTurnIsReady }
 {}
 
 /// Of these words the disk says nothing before: while they are stored it stands, and so does each image that a stop
 /// may leave.
 pub fn fresh_names_are_unread()
     ensures unread { FreshNamesAreUnread }
-    ensures stores { FreshStoresChangeNothing }
+    ensures root { RootStoresChangeNothing }
+    ensures inode { TurnStoresChangeNothing }
 {}
 
 /// Which inode each name leads to afterwards.
