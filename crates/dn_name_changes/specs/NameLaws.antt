@@ -1,5 +1,5 @@
 -- The laws of operations on names.
-use Rattle.std.specs.Prelude.{◌≡◌, ℕ, ◌*◌, ◌≤◌, List, length, Option, Some, None}
+use Rattle.std.specs.Prelude.{◌≡◌, ◌⊎◌, ℕ, ◌*◌, ◌≤◌, List, length, Option, Some, None}
 use Rattle.pm_device.specs.State.{State, Agree}
 use Rattle.pm_device.specs.Settled.{LeavesOnly, StoresOnly}
 use Rattle.pm_device.specs.Reading.{Said, Stands, IsReady}
@@ -14,6 +14,7 @@ use Rattle.dn_model.specs.Valid.{IsValid}
 use Rattle.dn_model.specs.Own.{Print, IsOwn}
 use Rattle.dn_model.specs.Image.{StandsFor}
 use Rattle.dn_model.specs.declared.op.Op.TheVariants.{Create, Remove, Rename}
+use Rattle.name_journal.specs.AllOrNone.{AllOrNone, IsAllDone}
 use Rattle.dn_name_changes.specs.NameChange.{NameChange, Stays, ChangesNames, MayChange, TurnSays, FreshNames, turn_field, turn_words, root_after, name_changes, renamed}
 use Rattle.dn_name_changes.specs.Operations.{MayCreate, MayRemove, MayRename, creation, removal, renaming, created_disk, unnamed_disk, renamed_disk, with_name}
 use Rattle.dn_name_changes.specs.Keeping.{KeepsData}
@@ -46,6 +47,18 @@ NameChangesStayOwn = (print : Print) (d : Disk) (change : NameChange) → MayCha
 -- the words of one commit decide
 abbrev pub NameChangesAreAllOrNone : Type 0
 NameChangesAreAllOrNone = (d : Disk) (change : NameChange) → MayChange d change → AreAllOrNone d (renamed d change) (name_changes d change)
+
+-- while they change, each image that a stop may leave stands for the disk of before or the disk of after
+abbrev pub NameChangesLeaveOldOrNew : Type 0
+NameChangesLeaveOldOrNew = (d : Disk) (change : NameChange) → MayChange d change
+    → (who : ℕ) (s t : State) → Agree s.now s.past → length s.now ≡ 512 * d.geometry.pages → Stands (DiskSays d) s → IsReady who (FreshNames d change) s
+    → LeavesOnly s t (AllOrNone d.geometry.inodes who (name_changes d change) s) → LeavesOnly s t (λ c. StandsFor c d ⊎ StandsFor c (renamed d change))
+
+-- once they have changed, the device stands for the disk of after
+abbrev pub NameChangesStand : Type 0
+NameChangesStand = (d : Disk) (change : NameChange) → MayChange d change
+    → (who : ℕ) (s t : State) → Agree s.now s.past → length s.now ≡ 512 * d.geometry.pages → Stands (DiskSays d) s → IsReady who (FreshNames d change) s
+    → IsAllDone who (name_changes d change) s t → Stands (DiskSays (renamed d change)) t
 
 -- what was prepared for the root, and what stands in the inode, are all that has to stand before
 abbrev pub FreshNamesAreReady : Type 0

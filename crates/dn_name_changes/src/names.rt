@@ -1,7 +1,7 @@
 //! Laws of the operations that create, remove and rename files.
 //!
 //! Each function states laws of all disks; it does nothing.
-ghost use Rattle.dn_name_changes.specs.NameLaws.{CreationsMayChange, RemovalsMayChange, RenamingsMayChange, RenamedDisksChange, NameChangesStayValid, NameChangesKeepData, NameChangesStayOwn, NameChangesAreAllOrNone, FreshNamesAreReady, FreshNamesSuffice, StoredTurnIsReady, NoTurnIsReady, FreshNamesAreUnread, RootStoresChangeNothing, TurnStoresChangeNothing, CreationsName, RemovalsName, RenamingsName, CreationsCreate, RemovalsRemove, RenamingsRename};
+ghost use Rattle.dn_name_changes.specs.NameLaws.{CreationsMayChange, RemovalsMayChange, RenamingsMayChange, RenamedDisksChange, NameChangesStayValid, NameChangesKeepData, NameChangesStayOwn, NameChangesAreAllOrNone, NameChangesLeaveOldOrNew, NameChangesStand, FreshNamesAreReady, FreshNamesSuffice, StoredTurnIsReady, NoTurnIsReady, FreshNamesAreUnread, RootStoresChangeNothing, TurnStoresChangeNothing, CreationsName, RemovalsName, RenamingsName, CreationsCreate, RemovalsRemove, RenamingsRename};
 
 /// The premises of each operation suffice for its change of the disk: each inode keeps to its names.
 pub fn operations_change_names()
@@ -23,10 +23,14 @@ pub fn name_changes_keep_data()
     ensures own { NameChangesStayOwn }
 {}
 
-/// The root's tail and the state of the inode decide together, once the fresh words stand.
+/// The root's tail and the state of the inode decide together, once the fresh words stand: while one commit of the
+/// journal changes them, each image that a stop may leave stands for what was or for what comes, and at its end the
+/// device stands for what comes.
 pub fn name_changes_are_all_or_none()
     ensures decide { NameChangesAreAllOrNone }
     ensures suffice { FreshNamesSuffice }
+    ensures images { NameChangesLeaveOldOrNew }
+    ensures stands { NameChangesStand }
 {}
 
 /// The fresh words are those past the root's tail, as `prepare` stores them, and those of the inode: head, tail and cut
