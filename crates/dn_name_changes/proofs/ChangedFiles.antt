@@ -7,7 +7,7 @@ use Rattle.dn_model.specs.Maps.{Mapping, size_of}
 use Rattle.dn_model.specs.Disk.{Disk, Inode, IsUsed, maps}
 use Rattle.dn_model.specs.Files.{bytes, mapped_byte}
 use Rattle.dn_changes.proofs.WriteBytes.{length-bytes, byte_at}
-use Rattle.dn_name_changes.specs.NameChange.{NameChange, Turn, Stays, Comes, Goes, MayTurn, turned, renamed, MayChange}
+use Rattle.dn_name_changes.specs.NameChange.{NameChange, Turn, Stays, Comes, Goes, MayTurn, turned, names_changed, MayChange}
 use Rattle.dn_name_changes.proofs.Changed.{at_ino, at_other, same_word, Where, is_root, is_here, elsewhere, where_is}
 use Rattle.dn_name_changes.proofs.Kept.{maps_same}
 
@@ -26,7 +26,7 @@ no_size = refl
 
 module _ (d : Disk) (change : NameChange) (may : MayChange d change) where
   abbrev new : Disk
-  new = renamed d change
+  new = names_changed d change
 
   size_at : (i : ℕ) → 1 ≤ i → IsUsed (d.inode i).use_of → Where d change i → size_of (new.inode i).log ≡ size_of (d.inode i).log
   size_at i some used (is_root e) = absurd (omega (arith, e, some))

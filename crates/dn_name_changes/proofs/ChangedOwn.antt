@@ -8,7 +8,7 @@ use Rattle.dn_model.specs.Table.{Row, row_of}
 use Rattle.dn_model.specs.Disk.{Disk, Inode, Use, Free, Live, Dying, IsUsed, maps, maps_by_use, rows}
 use Rattle.dn_model.specs.Files.{byte_of}
 use Rattle.dn_model.specs.Own.{Print, page_bytes, LivePlace, IsAlone, HasRow, IsOwn, Settled}
-use Rattle.dn_name_changes.specs.NameChange.{NameChange, Turn, Stays, Comes, Goes, MayTurn, turned, renamed, MayChange}
+use Rattle.dn_name_changes.specs.NameChange.{NameChange, Turn, Stays, Comes, Goes, MayTurn, turned, names_changed, MayChange}
 use Rattle.dn_name_changes.proofs.Changed.{at_ino, at_other, same_rows, Where, is_root, is_here, elsewhere, where_is}
 use Rattle.dn_name_changes.proofs.Kept.{use_of_root, root_maps, maps_same, below}
 use Rattle.dn_name_changes.proofs.ChangedFiles.{size_same}
@@ -25,7 +25,7 @@ free_maps d i idx free = ap (λ (u : Use). maps_by_use u (d.inode i).log idx) fr
 
 module _ (d : Disk) (change : NameChange) (may : MayChange d change) where
   abbrev new : Disk
-  new = renamed d change
+  new = names_changed d change
 
   turned_live : (turn : Turn) (idx : ℕ) (m : Mapping) → MayTurn turn (d.inode change.ino).use_of → (turned turn (d.inode change.ino)).use_of ≡ Live → maps d change.ino idx ≡ Some m → (d.inode change.ino).use_of ≡ Live
   turned_live Stays idx m turns live is = live
@@ -45,11 +45,11 @@ module _ (d : Disk) (change : NameChange) (may : MayChange d change) where
       record { in_table = below d change may i place.in_table; live = live_at i idx m place.live is (where_is d change i); maps = is }
 
   page_bytes_same : (page : ℕ) → page_bytes new page ≡ page_bytes d page
-  unfolding page_bytes renamed
+  unfolding page_bytes names_changed
   page_bytes_same page = refl
 
   byte_same : (page k : ℕ) → byte_of new page k ≡ byte_of d page k
-  unfolding renamed
+  unfolding names_changed
   byte_same page k = refl
 
   -- it isn't the root's

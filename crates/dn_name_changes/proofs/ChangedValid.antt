@@ -16,7 +16,7 @@ use Rattle.dn_changes.specs.Events.{IsUnused}
 use Rattle.dn_changes.proofs.MappedPlaces.{size-small}
 use Rattle.dn_changes.proofs.WriteValid.{not_mapped}
 use Rattle.dn_changes.proofs.WrittenDisk.{append-apart, append-in_data}
-use Rattle.dn_name_changes.specs.NameChange.{NameChange, Turn, Stays, Comes, Goes, MayTurn, turned, root_after, renamed, IsSpared, MayChange}
+use Rattle.dn_name_changes.specs.NameChange.{NameChange, Turn, Stays, Comes, Goes, MayTurn, turned, root_after, names_changed, IsSpared, MayChange}
 use Rattle.dn_name_changes.proofs.Changed.{at_root, at_ino, at_other, same_geometry, same_chain, same_pointer, same_rows, Where, is_root, is_here, elsewhere, where_is}
 use Rattle.dn_name_changes.proofs.Kept.{root_in_table, root_used, root_standing_after, below, mapped_only, log_page_cases, free_kept, near_kept, unshared_kept, turned_pages}
 
@@ -44,7 +44,7 @@ turned_cut g ino Goes node may is cut = small (size_of node.log) (size-small nod
 
 module _ (d : Disk) (change : NameChange) (may : MayChange d change) where
   abbrev new : Disk
-  new = renamed d change
+  new = names_changed d change
 
   abbrev valid : IsValid d
   valid = may.root.valid

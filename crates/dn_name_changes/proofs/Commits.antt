@@ -18,7 +18,7 @@ use Rattle.dn_changes.proofs.WriteEvent.{length-left, stands_for_read}
 use Rattle.name_journal.specs.declared.change.Change.{Change}
 use Rattle.name_journal.specs.Changes.{address, AreChanges, IsNamed, NewValues}
 use Rattle.name_journal.specs.AllOrNone.{DiffersBy}
-use Rattle.dn_name_changes.specs.NameChange.{NameChange, Turn, Stays, Comes, Goes, turned, root_after, renamed, MayChange, TurnSays, FreshNames, turn_field, turn_words, in_root, in_inode, tail_change, state_changes, name_changes}
+use Rattle.dn_name_changes.specs.NameChange.{NameChange, Turn, Stays, Comes, Goes, turned, root_after, names_changed, MayChange, TurnSays, FreshNames, turn_field, turn_words, in_root, in_inode, tail_change, state_changes, name_changes}
 use Rattle.dn_name_changes.specs.AllOrNoneLaws.{FreshWord, AreAllOrNone}
 use Rattle.dn_name_changes.specs.NameLaws.{StandsStill}
 use Rattle.dn_name_changes.proofs.Changed.{same_geometry}
@@ -79,7 +79,7 @@ module _ (inodes ino tail : ℕ) (some : 0 < inodes) (file : 1 ≤ ino) (in_tabl
 
 module _ (d : Disk) (change : NameChange) (may : MayChange d change) where
   abbrev new : Disk
-  new = renamed d change
+  new = names_changed d change
 
   abbrev tail : Change
   tail = tail_change d change

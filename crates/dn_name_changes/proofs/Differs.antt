@@ -13,7 +13,7 @@ use Rattle.dn_model.specs.Valid.{IsValid}
 use Rattle.dn_model.proofs.Append.{not_tail, says-grown}
 use Rattle.dn_changes.specs.Events.{IsReadPage}
 use Rattle.dn_changes.proofs.Unread.{read_in_data, prepared_unsaid}
-use Rattle.dn_name_changes.specs.NameChange.{NameChange, Turn, Stays, Comes, Goes, MayTurn, turned, root_after, renamed, MayChange, FreshNames, in_root, in_inode, turn_field, turn_words}
+use Rattle.dn_name_changes.specs.NameChange.{NameChange, Turn, Stays, Comes, Goes, MayTurn, turned, root_after, names_changed, MayChange, FreshNames, in_root, in_inode, turn_field, turn_words}
 use Rattle.dn_name_changes.proofs.Changed.{at_root, at_ino, at_other, same_rows, Where, is_root, is_here, elsewhere, where_is}
 use Rattle.dn_name_changes.proofs.Kept.{root_in_table, root_used, use_of_root, below, mapped_only}
 use Rattle.dn_name_changes.proofs.ChangedValid.{root_paged}
@@ -51,7 +51,7 @@ turned_says Goes node ino a v may used says = inl (subst IsUsed (sym may) tt, sa
 
 module _ (d : Disk) (change : NameChange) (may : MayChange d change) where
   abbrev new : Disk
-  new = renamed d change
+  new = names_changed d change
 
   abbrev valid : IsValid d
   valid = may.root.valid
@@ -84,7 +84,7 @@ module _ (d : Disk) (change : NameChange) (may : MayChange d change) where
   head_differs a v (at_gate place value) = rest (λ e. omega arith) (λ e. omega arith) (inl (of_head (at_gate place value)))
 
   pub head_same : (a v : ℕ) → HeadSays new a v → HeadSays d a v
-  unfolding renamed
+  unfolding names_changed
   head_same a v (at_magic place value) = at_magic place value
   head_same a v (at_version place value) = at_version place value
   head_same a v (at_pages place value) = at_pages place value
@@ -174,11 +174,11 @@ module _ (d : Disk) (change : NameChange) (may : MayChange d change) where
       (inl (of_logs (record { ino = i; in_table = lt; used = was_used; says = before })))
 
   chains_same : (a v : ℕ) → ChainsSay new a v → ChainsSay d a v
-  unfolding renamed
+  unfolding names_changed
   chains_same a v told = record { prefix = told.prefix; direct = told.direct; says = told.says }
 
   pointers_same : (a v : ℕ) → PointersSay new a v → PointersSay d a v
-  unfolding renamed
+  unfolding names_changed
   pointers_same a v told = record { page = told.page; in_image = told.in_image; place = told.place; value = told.value }
 
   read_before : (page : ℕ) → IsReadPage new page → IsReadPage d page
@@ -186,7 +186,7 @@ module _ (d : Disk) (change : NameChange) (may : MayChange d change) where
       (λ (row : IsSome (row_of (rows new) page)). inr (subst (λ (rs : List Row). IsSome (row_of rs page)) (same_rows d change) row)) read
 
   words_same : (page k v : ℕ) → v ≡ new.word page k → v ≡ d.word page k
-  unfolding renamed
+  unfolding names_changed
   words_same page k v value = value
 
   pub changed_differs : (a v : ℕ) → DiskSays new a v → Differs a v

@@ -16,7 +16,7 @@ use Rattle.dn_model.specs.Valid.{MayStand, IsValid}
 use Rattle.dn_changes.proofs.Counting.{total-same}
 use Rattle.dn_changes.proofs.MappedPlaces.{mapping-below}
 use Rattle.dn_changes.proofs.Unread.{IsSetBy, mapping_set_by}
-use Rattle.dn_name_changes.specs.NameChange.{NameChange, Turn, Stays, Comes, Goes, MayTurn, turned, root_after, renamed, MayChange}
+use Rattle.dn_name_changes.specs.NameChange.{NameChange, Turn, Stays, Comes, Goes, MayTurn, turned, root_after, names_changed, MayChange}
 use Rattle.dn_name_changes.proofs.Changed.{at_root, at_ino, at_other, same_geometry, same_rows, Where, is_root, is_here, elsewhere, where_is}
 
 -- a log of names maps nothing
@@ -68,7 +68,7 @@ turned_kept Goes node page may used listed = (tt, listed)
 
 module _ (d : Disk) (change : NameChange) (may : MayChange d change) where
   abbrev new : Disk
-  new = renamed d change
+  new = names_changed d change
 
   abbrev valid : IsValid d
   valid = may.root.valid

@@ -10,13 +10,13 @@ use Rattle.dn_model.specs.Disk.{Disk, Inode, Use, Free, Live, Dying}
 use Rattle.dn_model.specs.Files.{named, named_after}
 use Rattle.dn_model.specs.Valid.{MayStand, IsLinked, IsValid}
 use Rattle.dn_changes.proofs.WriteFiles.{named-in_table}
-use Rattle.dn_name_changes.specs.NameChange.{NameChange, turned, renamed, MayGrowRoot, MayChange}
+use Rattle.dn_name_changes.specs.NameChange.{NameChange, turned, names_changed, MayGrowRoot, MayChange}
 use Rattle.dn_name_changes.specs.Operations.{creation, removal, renaming, MayCreate, MayRemove, MayRename, with_name}
 use Rattle.dn_name_changes.proofs.Changed.{at_root, at_ino, at_other}
 use Rattle.dn_name_changes.proofs.Links.{named_after-append, with_name-here, with_name-other, LeadsOnce, IsUnnamed, LinkedBy, linked_by, linked_so, unnamed_put, linked_put, new_put, unnamed_forget, once_forget, linked_forget, gone_forget, put_over}
 
 -- the items tell which inode a name leads to
-pub named_changed : (d : Disk) (change : NameChange) (other : List ℕ) → named (renamed d change) other ≡ named_after other (named d other) change.more
+pub named_changed : (d : Disk) (change : NameChange) (other : List ℕ) → named (names_changed d change) other ≡ named_after other (named d other) change.more
 unfolding named
 named_changed d change other =
     ap (λ (n : Inode). named_after other None n.log.items) (at_root d change) ∙ named_after-append other None (d.inode 0).log.items change.more
@@ -38,16 +38,16 @@ module _ (d : Disk) (valid : IsValid d) (name : List ℕ) (i : ℕ) (leads : nam
   named_once = subst (LinkedBy (named d) i) named_live (linked_by d i (d.inode i).use_of (valid.links i named_file.0 named_file.1))
 
 -- an inode that isn't the one that turns is linked so, where its use is what it was
-module _ (d : Disk) (change : NameChange) (f : List ℕ → Option ℕ) (same : (other : List ℕ) → named (renamed d change) other ≡ f other) (file : 1 ≤ change.ino) where
+module _ (d : Disk) (change : NameChange) (f : List ℕ → Option ℕ) (same : (other : List ℕ) → named (names_changed d change) other ≡ f other) (file : 1 ≤ change.ino) where
   pub links_by : ((i : ℕ) → 1 ≤ i → i < d.geometry.inodes → i ≢ change.ino → LinkedBy f i (d.inode i).use_of) → LinkedBy f change.ino (turned change.turn (d.inode change.ino)).use_of
-      → (i : ℕ) → 1 ≤ i → i < d.geometry.inodes → IsLinked (renamed d change) i ((renamed d change).inode i).use_of
-  links_by others here i some lt = linked_so (renamed d change) f same i ((renamed d change).inode i).use_of (elim (cases_eq i change.ino) [
-    | inl e ↦ subst (λ (j : ℕ). LinkedBy f j ((renamed d change).inode j).use_of) (sym e) (subst (λ (n : Inode). LinkedBy f change.ino n.use_of) (sym (at_ino d change file)) here)
+      → (i : ℕ) → 1 ≤ i → i < d.geometry.inodes → IsLinked (names_changed d change) i ((names_changed d change).inode i).use_of
+  links_by others here i some lt = linked_so (names_changed d change) f same i ((names_changed d change).inode i).use_of (elim (cases_eq i change.ino) [
+    | inl e ↦ subst (λ (j : ℕ). LinkedBy f j ((names_changed d change).inode j).use_of) (sym e) (subst (λ (n : Inode). LinkedBy f change.ino n.use_of) (sym (at_ino d change file)) here)
     | inr ne ↦ subst (λ (n : Inode). LinkedBy f i n.use_of) (sym (at_other d change i some ne)) (others i some lt ne)
   ])
 
 module _ (d : Disk) (name : List ℕ) (ino : ℕ) (fresh : List ℕ) (may : MayCreate d name ino fresh) where
-  pub named_created : (other : List ℕ) → named (renamed d (creation name ino fresh)) other ≡ with_name (named d) name (Some ino) other
+  pub named_created : (other : List ℕ) → named (names_changed d (creation name ino fresh)) other ≡ with_name (named d) name (Some ino) other
   named_created other = named_changed d (creation name ino fresh) other
 
   unnamed_before : IsUnnamed (named d) ino
@@ -67,7 +67,7 @@ module _ (d : Disk) (name : List ℕ) (ino : ℕ) (fresh : List ℕ) (may : MayC
   }
 
 module _ (d : Disk) (name : List ℕ) (ino : ℕ) (fresh : List ℕ) (may : MayRemove d name ino fresh) where
-  pub named_removed : (other : List ℕ) → named (renamed d (removal name ino fresh)) other ≡ with_name (named d) name None other
+  pub named_removed : (other : List ℕ) → named (names_changed d (removal name ino fresh)) other ≡ with_name (named d) name None other
   named_removed other = named_changed d (removal name ino fresh) other
 
   abbrev file : (1 ≤ ino) × (ino < d.geometry.inodes)
@@ -177,6 +177,6 @@ may_rename d from to ino None fresh may = may_rename_plain d from to ino fresh m
 may_rename d from to ino (Some other) fresh may = may_rename_over d from to ino fresh may.root may.legal_from may.legal_to may.apart may.leads other may.replaces
 
 pub named_renamed : (d : Disk) (from to : List ℕ) (ino : ℕ) (replaced : Option ℕ) (fresh : List ℕ)
-    → (other : List ℕ) → named (renamed d (renaming from to ino replaced fresh)) other ≡ with_name (with_name (named d) from None) to (Some ino) other
+    → (other : List ℕ) → named (names_changed d (renaming from to ino replaced fresh)) other ≡ with_name (with_name (named d) from None) to (Some ino) other
 named_renamed d from to ino None fresh other = named_changed d (renaming from to ino None fresh) other
 named_renamed d from to ino (Some j) fresh other = named_changed d (renaming from to ino (Some j) fresh) other

@@ -43,8 +43,8 @@ abbrev pub root_after : Disk → NameChange → Log
 root_after d change = grown_log (d.inode 0).log change.fresh change.more
 
 -- the disk afterwards
-unfoldable pub renamed : Disk → NameChange → Disk
-renamed d change = record {
+unfoldable pub names_changed : Disk → NameChange → Disk
+names_changed d change = record {
   geometry = d.geometry;
   inode = λ i.
       if i == 0 then record { use_of = (d.inode 0).use_of; log = root_after d change }
@@ -86,7 +86,7 @@ pub record MayChange (d : Disk) (change : NameChange) : Type 0 where
   pub file : 1 ≤ change.ino
   pub in_table : change.ino < d.geometry.inodes
   pub may_turn : MayTurn change.turn (d.inode change.ino).use_of
-  pub links : (i : ℕ) → 1 ≤ i → i < d.geometry.inodes → IsLinked (renamed d change) i ((renamed d change).inode i).use_of
+  pub links : (i : ℕ) → 1 ≤ i → i < d.geometry.inodes → IsLinked (names_changed d change) i ((names_changed d change).inode i).use_of
 
 -- the words that change together: the root's tail, and the state of the inode that turns
 abbrev pub tail_change : Disk → NameChange → Change

@@ -15,7 +15,7 @@ use Rattle.dn_model.specs.Own.{Print, IsOwn}
 use Rattle.dn_model.specs.Image.{StandsFor}
 use Rattle.dn_model.specs.declared.op.Op.TheVariants.{Create, Remove, Rename}
 use Rattle.name_journal.specs.AllOrNone.{AllOrNone, IsAllDone}
-use Rattle.dn_name_changes.specs.NameChange.{NameChange, Stays, ChangesNames, MayChange, TurnSays, FreshNames, turn_field, turn_words, root_after, name_changes, renamed}
+use Rattle.dn_name_changes.specs.NameChange.{NameChange, Stays, ChangesNames, MayChange, TurnSays, FreshNames, turn_field, turn_words, root_after, name_changes, names_changed}
 use Rattle.dn_name_changes.specs.Operations.{MayCreate, MayRemove, MayRename, creation, removal, renaming, created_disk, unnamed_disk, renamed_disk, with_name}
 use Rattle.dn_name_changes.specs.Keeping.{KeepsData}
 use Rattle.dn_name_changes.specs.AllOrNoneLaws.{FreshWord, AreAllOrNone}
@@ -31,34 +31,34 @@ abbrev pub RenamingsMayChange : Type 0
 RenamingsMayChange = (d : Disk) (from to : List ℕ) (ino : ℕ) (replaced : Option ℕ) (fresh : List ℕ) → MayRename d from to ino replaced fresh → MayChange d (renaming from to ino replaced fresh)
 
 -- the parts of the disk afterwards
-abbrev pub RenamedDisksChange : Type 0
-RenamedDisksChange = (d : Disk) (change : NameChange) → 1 ≤ change.ino → ChangesNames d change (renamed d change)
+abbrev pub NameChangesChangeParts : Type 0
+NameChangesChangeParts = (d : Disk) (change : NameChange) → 1 ≤ change.ino → ChangesNames d change (names_changed d change)
 
 -- a valid disk stays valid
 abbrev pub NameChangesStayValid : Type 0
-NameChangesStayValid = (d : Disk) (change : NameChange) → MayChange d change → IsValid (renamed d change)
+NameChangesStayValid = (d : Disk) (change : NameChange) → MayChange d change → IsValid (names_changed d change)
 
 abbrev pub NameChangesKeepData : Type 0
-NameChangesKeepData = (d : Disk) (change : NameChange) → MayChange d change → KeepsData d (renamed d change) change.fresh
+NameChangesKeepData = (d : Disk) (change : NameChange) → MayChange d change → KeepsData d (names_changed d change) change.fresh
 
 abbrev pub NameChangesStayOwn : Type 0
-NameChangesStayOwn = (print : Print) (d : Disk) (change : NameChange) → MayChange d change → IsOwn print d → IsOwn print (renamed d change)
+NameChangesStayOwn = (print : Print) (d : Disk) (change : NameChange) → MayChange d change → IsOwn print d → IsOwn print (names_changed d change)
 
 -- the words of one commit decide
 abbrev pub NameChangesAreAllOrNone : Type 0
-NameChangesAreAllOrNone = (d : Disk) (change : NameChange) → MayChange d change → AreAllOrNone d (renamed d change) (name_changes d change)
+NameChangesAreAllOrNone = (d : Disk) (change : NameChange) → MayChange d change → AreAllOrNone d (names_changed d change) (name_changes d change)
 
 -- while they change, each image that a stop may leave stands for the disk of before or the disk of after
 abbrev pub NameChangesLeaveOldOrNew : Type 0
 NameChangesLeaveOldOrNew = (d : Disk) (change : NameChange) → MayChange d change
     → (who : ℕ) (s t : State) → Agree s.now s.past → length s.now ≡ 512 * d.geometry.pages → Stands (DiskSays d) s → IsReady who (FreshNames d change) s
-    → LeavesOnly s t (AllOrNone d.geometry.inodes who (name_changes d change) s) → LeavesOnly s t (λ c. StandsFor c d ⊎ StandsFor c (renamed d change))
+    → LeavesOnly s t (AllOrNone d.geometry.inodes who (name_changes d change) s) → LeavesOnly s t (λ c. StandsFor c d ⊎ StandsFor c (names_changed d change))
 
 -- once they have changed, the device stands for the disk of after
 abbrev pub NameChangesStand : Type 0
 NameChangesStand = (d : Disk) (change : NameChange) → MayChange d change
     → (who : ℕ) (s t : State) → Agree s.now s.past → length s.now ≡ 512 * d.geometry.pages → Stands (DiskSays d) s → IsReady who (FreshNames d change) s
-    → IsAllDone who (name_changes d change) s t → Stands (DiskSays (renamed d change)) t
+    → IsAllDone who (name_changes d change) s t → Stands (DiskSays (names_changed d change)) t
 
 -- what was prepared for the root, and what stands in the inode, are all that has to stand before
 abbrev pub FreshNamesAreReady : Type 0
@@ -66,7 +66,7 @@ FreshNamesAreReady = (d : Disk) (change : NameChange) (who : ℕ) (s : State) �
 
 abbrev pub FreshNamesSuffice : Type 0
 FreshNamesSuffice = (d : Disk) (change : NameChange) → MayChange d change
-    → (who : ℕ) (s : State) → IsReady who (FreshNames d change) s → IsReady who (FreshWord d (renamed d change) (name_changes d change)) s
+    → (who : ℕ) (s : State) → IsReady who (FreshNames d change) s → IsReady who (FreshWord d (names_changed d change) (name_changes d change)) s
 
 -- the inode's words are ready once they were stored and flushed; there are none where it stays
 abbrev pub StoredTurnIsReady : Type 0

@@ -4,14 +4,14 @@ use Rattle.log_entry.specs.Name.{IsLegal, same_name}
 use Rattle.log_entry.specs.declared.item.LogItem.TheVariants.{Add, Forget}
 use Rattle.dn_model.specs.Disk.{Disk, Free}
 use Rattle.dn_model.specs.Files.{named}
-use Rattle.dn_name_changes.specs.NameChange.{NameChange, Stays, Comes, Goes, MayGrowRoot, renamed}
+use Rattle.dn_name_changes.specs.NameChange.{NameChange, Stays, Comes, Goes, MayGrowRoot, names_changed}
 
 -- a name gets a new file
 abbrev pub creation : List ℕ → ℕ → List ℕ → NameChange
 creation name ino fresh = record { fresh = fresh; more = Add ino name ∷ []; ino = ino; turn = Comes }
 
 abbrev pub created_disk : Disk → List ℕ → ℕ → List ℕ → Disk
-created_disk d name ino fresh = renamed d (creation name ino fresh)
+created_disk d name ino fresh = names_changed d (creation name ino fresh)
 
 pub record MayCreate (d : Disk) (name : List ℕ) (ino : ℕ) (fresh : List ℕ) : Type 0 where
   pub root : MayGrowRoot d fresh (Add ino name ∷ [])
@@ -26,7 +26,7 @@ abbrev pub removal : List ℕ → ℕ → List ℕ → NameChange
 removal name ino fresh = record { fresh = fresh; more = Forget name ∷ []; ino = ino; turn = Goes }
 
 abbrev pub unnamed_disk : Disk → List ℕ → ℕ → List ℕ → Disk
-unnamed_disk d name ino fresh = renamed d (removal name ino fresh)
+unnamed_disk d name ino fresh = names_changed d (removal name ino fresh)
 
 pub record MayRemove (d : Disk) (name : List ℕ) (ino : ℕ) (fresh : List ℕ) : Type 0 where
   pub root : MayGrowRoot d fresh (Forget name ∷ [])
@@ -39,7 +39,7 @@ renaming from to ino None fresh = record { fresh = fresh; more = Forget from ∷
 renaming from to ino (Some other) fresh = record { fresh = fresh; more = Forget from ∷ Add ino to ∷ []; ino = other; turn = Goes }
 
 abbrev pub renamed_disk : Disk → List ℕ → List ℕ → ℕ → Option ℕ → List ℕ → Disk
-renamed_disk d from to ino replaced fresh = renamed d (renaming from to ino replaced fresh)
+renamed_disk d from to ino replaced fresh = names_changed d (renaming from to ino replaced fresh)
 
 pub record MayRename (d : Disk) (from to : List ℕ) (ino : ℕ) (replaced : Option ℕ) (fresh : List ℕ) : Type 0 where
   pub root : MayGrowRoot d fresh (Forget from ∷ Add ino to ∷ [])

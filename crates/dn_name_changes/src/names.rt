@@ -1,7 +1,7 @@
 //! Laws of the operations that create, remove and rename files.
 //!
 //! Each function states laws of all disks; it does nothing.
-ghost use Rattle.dn_name_changes.specs.NameLaws.{CreationsMayChange, RemovalsMayChange, RenamingsMayChange, RenamedDisksChange, NameChangesStayValid, NameChangesKeepData, NameChangesStayOwn, NameChangesAreAllOrNone, NameChangesLeaveOldOrNew, NameChangesStand, FreshNamesAreReady, FreshNamesSuffice, StoredTurnIsReady, NoTurnIsReady, FreshNamesAreUnread, RootStoresChangeNothing, TurnStoresChangeNothing, CreationsName, RemovalsName, RenamingsName, CreationsCreate, RemovalsRemove, RenamingsRename};
+ghost use Rattle.dn_name_changes.specs.NameLaws.{CreationsMayChange, RemovalsMayChange, RenamingsMayChange, NameChangesChangeParts, NameChangesStayValid, NameChangesKeepData, NameChangesStayOwn, NameChangesAreAllOrNone, NameChangesLeaveOldOrNew, NameChangesStand, FreshNamesAreReady, FreshNamesSuffice, StoredTurnIsReady, NoTurnIsReady, FreshNamesAreUnread, RootStoresChangeNothing, TurnStoresChangeNothing, CreationsName, RemovalsName, RenamingsName, CreationsCreate, RemovalsRemove, RenamingsRename};
 
 /// The premises of each operation suffice for its change of the disk: each inode keeps to its names.
 pub fn operations_change_names()
@@ -12,7 +12,7 @@ pub fn operations_change_names()
 
 /// A valid disk stays valid. Its parts are those of before, but for the root's log and the inode that turns.
 pub fn name_changes_stay_valid()
-    ensures parts { RenamedDisksChange }
+    ensures parts { NameChangesChangeParts }
     ensures valid { NameChangesStayValid }
 {}
 
