@@ -1,0 +1,12 @@
+pub mod Changed
+pub mod Kept
+pub mod ChangedValid
+pub mod ChangedFiles
+pub mod ChangedOwn
+pub mod Links
+pub mod Operating
+pub mod OperatedFiles
+pub mod Places
+pub mod Differs
+pub mod Commits
+pub mod AllWords
