@@ -1,5 +1,5 @@
 -- Whether an image passes the rules behind the links.
-use Rattle.std.specs.Prelude.{◌≢◌, ◌⊎◌, ℕ, ◌<◌, List}
+use Rattle.std.specs.Prelude.{◌≢◌, ◌⊎◌, ◌↔◌, ℕ, ◌<◌, List}
 use Rattle.dn_model.specs.Disk.{Disk}
 use Rattle.dn_model.specs.Counts.{IsFree}
 use Rattle.dn_model.specs.Image.{HasNoFault}
@@ -25,3 +25,11 @@ FreePagesAreCounted = (d : Disk) → FreePages d
 -- an image that is read up to its links has a fault or none
 abbrev pub LinkedImagesAreJudged : Type 0
 LinkedImagesAreJudged = (c : List ℕ) (d : Disk) → HasLinks c d → ((fault : ImageFault) × FaultOf c fault) ⊎ HasNoFault c
+
+-- any words have a first fault, or stand for a valid disk
+abbrev pub ImagesAreJudged : Type 0
+ImagesAreJudged = (c : List ℕ) → ((fault : ImageFault) × FaultOf c fault) ⊎ HasNoFault c
+
+-- they have no fault exactly where they stand for one
+abbrev pub NoFaultIsState : Type 0
+NoFaultIsState = (c : List ℕ) → ((fault : ImageFault) → FaultOf c fault → ⊥) ↔ HasNoFault c

@@ -1,0 +1,8 @@
+use Rattle.dn_rule_reading.proofs.Images.{images_are_judged, no_fault_is_state}
+use Rattle.dn_rule_reading.proofs.fault_or_state.Goals as goal
+
+pub returns-clause-judged : goal.returns-clause-judged
+returns-clause-judged c = images_are_judged
+
+pub returns-clause-no_fault : goal.returns-clause-no_fault
+returns-clause-no_fault c = no_fault_is_state
