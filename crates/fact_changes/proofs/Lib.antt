@@ -1,8 +1,9 @@
-pub mod Recounted
-pub mod Counting
 pub mod Pointed
 pub mod Inserted
-pub mod Removal
+pub mod TakenOut
 pub mod Pigeons
 pub mod Slotted
 pub mod InsertWords
+pub mod SlotBefore
+pub mod Emptied
+pub mod Staled

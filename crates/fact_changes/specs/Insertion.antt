@@ -10,7 +10,7 @@ use Rattle.dn_model.specs.Disk.{Disk, IsMapped, rows}
 use Rattle.dn_model.specs.Valid.{IsValid}
 use Rattle.fact_table.specs.Chained.{HasNoRow}
 use Rattle.fact_table.specs.Table.{Table, HasRow, HasNoneAt, HasNoneOf, TakesSlot}
-use Rattle.fact_changes.specs.Standing.{StandsWith}
+use Rattle.fact_counts.specs.Standing.{StandsWith}
 use Rattle.fact_changes.specs.Put.{new_row, pointed, opened_with, linked_with, StandsForOneOf}
 
 -- the disk that the device stands for may get a row of this print and page

@@ -1,5 +1,5 @@
-pub mod Standing
-pub mod Counted
 pub mod Put
 pub mod Gone
 pub mod Insertion
+pub mod Removal
+pub mod Stale

@@ -1,8 +1,8 @@
 use Rattle.std.proofs.Common.{◌≡◌, ◌+◌, ◌∙◌, ap, arith}
 use Rattle.fingerprint.specs.declared.count.CountWord.{CountWord}
-use Rattle.fact_changes.specs.Counted.{raised}
-use Rattle.fact_changes.proofs.Counting.{same_tables, same_table, same_disks, same_disk, on_ok_map}
-use Rattle.fact_changes.proofs.counts.raise.Goals as goal
+use Rattle.fact_counts.specs.Counted.{raised}
+use Rattle.fact_counts.proofs.Counting.{same_tables, same_table, same_disks, same_disk, on_ok_map}
+use Rattle.fact_counts.proofs.counts.raise.Goals as goal
 
 pub raised-requires : goal.raised-requires
 raised-requires g c =

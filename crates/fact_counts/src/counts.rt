@@ -3,8 +3,8 @@ ghost use Rattle.std.specs.Prelude.{◌≡◌, ◌+◌, ◌^◌, ◌<◌, ◌≤
 ghost use Rattle.pm_device.specs.State.{Rose};
 ghost use Rattle.pm_device.specs.Settled.{StoresOnly, KeepsFlushed, Others};
 ghost use Rattle.pm_layout.specs.Geometry.{slot_word};
-ghost use Rattle.fact_changes.specs.Standing.{HasRowWith};
-ghost use Rattle.fact_changes.specs.Counted.{raised, up, down, counted, MayRaise, MaySettleUp, MaySettleDown, AnyRow, CountsAre, LeavesTables, MakesTable, LeavesDisks, MakesDisk};
+ghost use Rattle.fact_counts.specs.Standing.{HasRowWith};
+ghost use Rattle.fact_counts.specs.Counted.{raised, up, down, counted, MayRaise, MaySettleUp, MaySettleDown, AnyRow, CountsAre, LeavesTables, MakesTable, LeavesDisks, MakesDisk};
 
 use fact_slot::{commit_field, load_field};
 use fact_table::Fact;

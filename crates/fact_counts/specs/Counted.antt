@@ -9,7 +9,7 @@ use Rattle.dn_model.specs.Image.{StandsFor}
 use Rattle.dn_table_changes.specs.Changes.{recounted}
 use Rattle.dn_table_changes.specs.CountLaws.{MayRecount}
 use Rattle.fact_table.specs.Table.{Table, IsTable, IsSettledTable, IsAtSlot}
-use Rattle.fact_changes.specs.Standing.{StandsWith, HasTableOf}
+use Rattle.fact_counts.specs.Standing.{StandsWith, HasTableOf}
 
 -- what the counts of a row become: with one update more under way
 abbrev pub raised : Row → CountWord

@@ -1,5 +1,5 @@
-use Rattle.fact_changes.proofs.Counting.{slot_small, count_settled, set_tables, set_table, set_disks, set_disk, on_ok_map}
-use Rattle.fact_changes.proofs.counts.set_counts.Goals as goal
+use Rattle.fact_counts.proofs.Counting.{slot_small, count_settled, set_tables, set_table, set_disks, set_disk, on_ok_map}
+use Rattle.fact_counts.proofs.counts.set_counts.Goals as goal
 
 pub commit_field-requires-clause-slot : goal.commit_field-requires-clause-slot
 commit_field-requires-clause-slot g c = slot_small c.args.fact.now c.args.slot (g.D.Pm.state c.args.device.now) c.geometry.result c.geometry.ensures c.requires.row

@@ -26,9 +26,9 @@ use Rattle.dn_table_changes.proofs.Slots.{field_said}
 use Rattle.dn_table_changes.proofs.TableRows.{of_chain}
 use Rattle.dn_table_changes.proofs.Rows.{at_listed}
 use Rattle.fact_table.specs.Table.{Table, IsTable, IsSettledTable, IsAtSlot}
-use Rattle.fact_changes.specs.Standing.{StandsWith, HasTableOf, HasRowWith}
-use Rattle.fact_changes.specs.Counted.{LeavesTables, MakesTable, MayChange, LeavesDisks, MakesDisk, CountsAre, AnyRow}
-use Rattle.fact_changes.proofs.Recounted.{TableSays, NothingSaid, table_differs, good_rows, none_kept, row_kept}
+use Rattle.fact_counts.specs.Standing.{StandsWith, HasTableOf, HasRowWith}
+use Rattle.fact_counts.specs.Counted.{LeavesTables, MakesTable, MayChange, LeavesDisks, MakesDisk, CountsAre, AnyRow}
+use Rattle.fact_counts.proofs.Recounted.{TableSays, NothingSaid, table_differs, good_rows, none_kept, row_kept}
 
 -- what stands with a disk is settled as its table
 pub settled_table : (d : Disk) (s : State) (t : Table) → StandsWith d s t → IsSettledTable d s t

@@ -1,8 +1,8 @@
 use Rattle.std.proofs.Common.{◌≡◌, ◌-◌, ◌∙◌, ap, arith}
 use Rattle.fingerprint.specs.declared.count.CountWord.{CountWord}
-use Rattle.fact_changes.specs.Counted.{down}
-use Rattle.fact_changes.proofs.Counting.{same_tables, same_table, same_disks, same_disk, on_ok_map}
-use Rattle.fact_changes.proofs.counts.settle_down.Goals as goal
+use Rattle.fact_counts.specs.Counted.{down}
+use Rattle.fact_counts.proofs.Counting.{same_tables, same_table, same_disks, same_disk, on_ok_map}
+use Rattle.fact_counts.proofs.counts.settle_down.Goals as goal
 
 pub down-requires-clause-under_way : goal.down-requires-clause-under_way
 down-requires-clause-under_way g c =

@@ -2,8 +2,8 @@ use Rattle.std.proofs.Common.{◌≡◌, subst, arith}
 use Rattle.std.specs.Prelude.{slice_index}
 use Rattle.pm_layout.specs.declared.Geometry.{Geometry}
 use Rattle.pm_layout.specs.Geometry.{slot_word}
-use Rattle.fact_changes.proofs.Counting.{slot_small, counts_read}
-use Rattle.fact_changes.proofs.counts.counts_at.Goals as goal
+use Rattle.fact_counts.proofs.Counting.{slot_small, counts_read}
+use Rattle.fact_counts.proofs.counts.counts_at.Goals as goal
 
 pub load_field-requires-clause-slot : goal.load_field-requires-clause-slot
 load_field-requires-clause-slot g c = slot_small c.args.fact.now c.args.slot (g.D.Pm.state c.args.device.now) c.geometry.result c.geometry.ensures c.requires.row
