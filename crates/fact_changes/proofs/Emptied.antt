@@ -50,10 +50,10 @@ module _ (d : Disk) (row : Row) (s : State) (t : Table) (slot : ℕ) (may : MayR
   zero_small = row_small d s.now t is slot row may.at_slot
 
   -- the rows that are left
-  rows_left : TakesRow row (rows d) (rows (cleared d row))
+  pub rows_left : TakesRow row (rows d) (rows (cleared d row))
   rows_left = subst (λ (rs : List Row). TakesRow row (rows d) rs) (sym (rows_repointed (removed d row.slot) row.page 0)) (takes_row d row may.valid may.at_slot.there)
 
-  valid_left : IsValid (cleared d row)
+  pub valid_left : IsValid (cleared d row)
   valid_left = (repoint_one_word (removed d row.slot) row.page 0 (removed_may_clear d prefix row may_remove)).new_valid
 
   still : (other : ℕ) → other ≢ slot → HasRow d other → HasRow (cleared d row) other

@@ -134,10 +134,10 @@ module _ (d : Disk) (s : State) (t : Table) (print : List ℕ) (page : ℕ) (may
       direct_small : direct < slots d.geometry
       direct_small = subst (λ (g : Geometry). direct < slots g) (sym is.geometry) (omega (arith, prefix_lt))
 
-      put_direct : MayPut (pointed d direct_row) direct direct_row
+      pub put_direct : MayPut (pointed d direct_row) direct direct_row
       put_direct = pointed_may_put d direct direct_row may.valid (is_new direct direct refl none) direct_small
 
-      rows_direct : PutsRow direct_row (rows d) (rows (opened_with d direct print page))
+      pub rows_direct : PutsRow direct_row (rows d) (rows (opened_with d direct print page))
       rows_direct = subst (λ (rs : List Row). PutsRow direct_row rs (rows (opened_with d direct print page))) (rows_repointed d page (direct + 1)) (open_puts_row (pointed d direct_row) direct direct_row put_direct)
 
       pub opened_table : Stands (DiskSays (opened_with d direct print page)) u → StandsWith (opened_with d direct print page) u t
@@ -163,13 +163,13 @@ module _ (d : Disk) (s : State) (t : Table) (print : List ℕ) (page : ℕ) (may
       pub none_taken : HasNoneAt d slot
       none_taken = subst (HasNoneAt d) place (is.free (slot - directs t.geometry) listed_free)
 
-      slot_small : slot < slots d.geometry
+      pub slot_small : slot < slots d.geometry
       slot_small = subst (λ (g : Geometry). slot < slots g) (sym is.geometry) takes.small
 
-      put_chained : MayPut (pointed d chained) holder chained
+      pub put_chained : MayPut (pointed d chained) holder chained
       put_chained = pointed_may_put d holder chained may.valid (is_new holder slot refl none_taken) slot_small
 
-      rows_chained : PutsRow chained (rows d) (rows (linked_with d holder slot print page))
+      pub rows_chained : PutsRow chained (rows d) (rows (linked_with d holder slot print page))
       rows_chained = subst (λ (rs : List Row). PutsRow chained rs (rows (linked_with d holder slot print page))) (rows_repointed d page (slot + 1)) (link_puts_row (pointed d chained) holder chained put_chained)
 
       free_now : (k : ℕ) → Contains t'.free.free k → HasNoneAt (linked_with d holder slot print page) (directs t.geometry + k)

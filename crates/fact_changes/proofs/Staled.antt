@@ -220,4 +220,5 @@ front_ends d who p t s0 s may front all = record {
       let lt : q < t.geometry.pages = subst (λ (g : Geometry). q < g.pages) front.may.stands.table.geometry stale.in_image in
       front.tidy q (omega (arith, lt, all)) stale;
   stands = front.may.stands;
+  valid = front.may.valid;
 }

@@ -43,6 +43,7 @@ pub record IsTidied (d : Disk) (s : State) (t : Table) : Type 0 where
   pub clears : Clears d disk
   pub none_stale : (page : ℕ) → IsStale disk page → ⊥
   pub stands : StandsWith disk s t
+  pub valid : IsValid disk
 
 -- the word of a stale pointer
 pub record IsStaleWord (d : Disk) (a : ℕ) : Type 0 where

@@ -1,0 +1,95 @@
+-- What calls of the table make of its rows. Only lists of rows are spoken of, and the numbers of mappings of pages,
+-- which no call changes.
+use Rattle.std.specs.Prelude.{◌≡◌, ◌≢◌, ℕ, suc, ◌+◌, ◌^◌, ◌<◌, ◌≤◌, List, slice_get, Some, Contains}
+use Rattle.pm_layout.specs.declared.Geometry.{Geometry}
+use Rattle.pm_layout.specs.Geometry.{directs, slots}
+use Rattle.fingerprint.specs.Print.{IsPrint}
+use Rattle.fingerprint.specs.declared.count.CountWord.{CountWord}
+use Rattle.dn_model.specs.Table.{Row, prefix_of}
+use Rattle.dn_table_changes.specs.CountLaws.{RecountsRows}
+use Rattle.dn_table_changes.specs.RowLaws.{PutsRow, TakesRow}
+use Rattle.fact_table.specs.Chained.{HasNoRow}
+use Rattle.fact_counts.specs.Counted.{raised, up, down, counted, MayRaise, MaySettleUp, MaySettleDown, AnyRow}
+use Rattle.fact_changes.specs.Put.{new_row}
+use Rattle.fact_calls.specs.declared.call.TableCall.{TableCall}
+use Rattle.fact_calls.specs.declared.call.TableCall.TheVariants.{Insert, Raise, SettleUp, SettleDown, Recount, RemoveZero, ClearStale}
+
+-- a row with this slot has P
+pub record HasRowAt (rs : List Row) (slot : ℕ) (P : Row → Type 0) : Type 0 where
+  pub row : Row
+  pub there : Contains rs row
+  pub slot_is : row.slot ≡ slot
+  pub has : P row
+
+-- no row has it
+abbrev pub NoneAt : List Row → ℕ → Type 0
+NoneAt rs slot = (row : Row) → Contains rs row → row.slot ≢ slot
+
+-- a row of this print and page may come in: the page is mapped, and no row has either
+pub record MayComeIn (m : ℕ → ℕ) (rs : List Row) (print : List ℕ) (page : ℕ) : Type 0 where
+  pub twenty_bytes : IsPrint print
+  pub mapped : 1 ≤ m page
+  pub new_print : HasNoRow rs print
+  pub new_page : (row : Row) → Contains rs row → row.page ≢ page
+
+-- The call's condition, where each page has so many mappings: counts fit, and stay off the mappings by at most the
+-- updates that are under way.
+abbrev pub MayMake : (ℕ → ℕ) → List Row → TableCall → Type 0
+MayMake m rs (Insert print page) = MayComeIn m rs print page
+MayMake m rs (Raise slot) = HasRowAt rs slot MayRaise
+MayMake m rs (SettleUp slot) = HasRowAt rs slot (λ row. MaySettleUp row × (row.rfc + 2 ≤ m row.page + row.uc))
+MayMake m rs (SettleDown slot) = HasRowAt rs slot (λ row. MaySettleDown row × (m row.page + 2 ≤ row.rfc + row.uc))
+MayMake m rs (Recount slot rfc) = HasRowAt rs slot (λ row. (rfc < 2 ^ 32) × (rfc ≡ m row.page))
+MayMake m rs (RemoveZero slot) = HasRowAt rs slot (λ row. (row.rfc ≡ 0) × (row.uc ≡ 0))
+MayMake m rs ClearStale = Unit {0}
+
+-- the least indirect slot that no row has
+pub record IsLeastUnused (g : Geometry) (rs : List Row) (slot : ℕ) : Type 0 where
+  pub low : directs g ≤ slot
+  pub high : slot < slots g
+  pub unused : NoneAt rs slot
+  pub least : (other : ℕ) → directs g ≤ other → other < slot → HasRowAt rs other AnyRow
+
+-- a new row's slot: the direct slot of its prefix where no row has that, and else the least indirect one
+pub data IsSlotFor (g : Geometry) (rs : List Row) (print : List ℕ) (slot : ℕ) : Type 0 where
+  at_direct : slot ≡ prefix_of g print → NoneAt rs slot → IsSlotFor g rs print slot
+  at_indirect : HasRowAt rs (prefix_of g print) AnyRow → IsLeastUnused g rs slot → IsSlotFor g rs print slot
+
+-- this row came in, and nothing else changed
+pub record InsertsRow (g : Geometry) (print : List ℕ) (page : ℕ) (olds news : List Row) : Type 0 where
+  pub slot : ℕ
+  pub slot_for : IsSlotFor g olds print slot
+  pub puts : PutsRow (new_row slot print page) olds news
+
+-- the row at this slot has the counts that f makes of it
+pub record CountsRow (f : Row → CountWord) (slot : ℕ) (olds news : List Row) : Type 0 where
+  pub row : Row
+  pub there : Contains olds row
+  pub slot_is : row.slot ≡ slot
+  pub recounts : RecountsRows slot (f row).rfc (f row).uc olds news
+
+-- the row at this slot went
+pub record RemovesRow (slot : ℕ) (olds news : List Row) : Type 0 where
+  pub row : Row
+  pub there : Contains olds row
+  pub slot_is : row.slot ≡ slot
+  pub takes : TakesRow row olds news
+
+-- the rows after the call
+abbrev pub Follows : Geometry → List Row → TableCall → List Row → Type 0
+Follows g olds (Insert print page) news = InsertsRow g print page olds news
+Follows g olds (Raise slot) news = CountsRow raised slot olds news
+Follows g olds (SettleUp slot) news = CountsRow up slot olds news
+Follows g olds (SettleDown slot) news = CountsRow down slot olds news
+Follows g olds (Recount slot rfc) news = CountsRow (counted rfc) slot olds news
+Follows g olds (RemoveZero slot) news = RemovesRow slot olds news
+Follows g olds ClearStale news = news ≡ olds
+
+-- the rows after the first k calls
+pub data After (g : Geometry) (calls : List TableCall) (olds : List Row) : ℕ → List Row → Type 0 where
+  none_made : After g calls olds 0 olds
+  one_more : {k : ℕ} {mids news : List Row} {call : TableCall} → After g calls olds k mids → slice_get calls k ≡ Some call → Follows g mids call news → After g calls olds (suc k) news
+
+-- each call's condition holds of the rows after those before it
+abbrev pub Allows : Geometry → (ℕ → ℕ) → List TableCall → List Row → Type 0
+Allows g m calls olds = (k : ℕ) (rs : List Row) (call : TableCall) → After g calls olds k rs → slice_get calls k ≡ Some call → MayMake m rs call
