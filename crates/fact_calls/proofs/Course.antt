@@ -5,8 +5,8 @@ use Rattle.std.proofs.Math.Nat.{mul-le-mul_left}
 use Rattle.std.proofs.lemmas.Bool.{cases_lt}
 use Rattle.pm_device.specs.Past.{moment}
 use Rattle.pm_device.specs.State.{State, Agree}
-use Rattle.pm_device.specs.Settled.{LeavesOnly}
-use Rattle.pm_device.proofs.Only.{left-extends, extends_then}
+use Rattle.pm_device.specs.Settled.{LeavesOnly, StoresOnly}
+use Rattle.pm_device.proofs.Only.{left-extends, extends_then, stores_only-none, stores_only-then}
 use Rattle.pm_layout.specs.declared.Geometry.{Geometry}
 use Rattle.dn_model.specs.Table.{Row}
 use Rattle.dn_model.specs.Disk.{Disk, rows}
@@ -17,7 +17,7 @@ use Rattle.fact_table.specs.Table.{Table}
 use Rattle.fact_changes.proofs.Staled.{still_images}
 use Rattle.fact_calls.specs.declared.call.TableCall.{TableCall}
 use Rattle.fact_calls.specs.Follows.{MayMake, Follows, After, none_made, one_more}
-use Rattle.fact_calls.specs.Made.{IsSameBut, MayCall, HasCalled, IsCalled, MayCallAll, HasAfter, LeavesAfter, MakesAfter}
+use Rattle.fact_calls.specs.Made.{IsTableWord, IsSameBut, MayCall, HasCalled, IsCalled, MayCallAll, HasAfter, LeavesAfter, MakesAfter}
 
 module _ (d e : Disk) (same : IsSameBut d e) where
   geometry_same : e.geometry ≡ d.geometry
@@ -40,6 +40,7 @@ pub record IsMade (calls : List TableCall) (i : ℕ) (t0 t : Table) (s0 s : Stat
   pub spare : s0.spare ≤ s.spare + 3 * t0.geometry.pages * i
   pub faults : s0.faults ≤ s.faults
   pub pages : t.geometry ≡ t0.geometry
+  pub only : StoresOnly (IsTableWord t0.geometry) s0 s
   pub images : (d : Disk) → MayCallAll d s0 t0 calls → LeavesAfter d calls s0 s
   pub made : (d : Disk) → MayCallAll d s0 t0 calls → MakesAfter d calls i s t
 
@@ -48,6 +49,7 @@ made_none calls t s agree = record {
   spare = omega arith;
   faults = omega arith;
   pages = refl;
+  only = stores_only-none _ s agree;
   images = λ d may.
       let stands = still_images d s t (record { stands = may.stands; valid = may.valid }) agree in
       record {
@@ -56,6 +58,10 @@ made_none calls t s agree = record {
       };
   made = λ d may. record { disk = d; same = refl; after = none_made; valid = may.valid; stands = may.stands };
 }
+
+-- one call more stores to words of the table
+pub next_only : (calls : List TableCall) (i : ℕ) (t0 t : Table) (s0 s : State) → IsMade calls i t0 t s0 s → (u : State) → StoresOnly (IsTableWord t.geometry) s u → StoresOnly (IsTableWord t0.geometry) s0 u
+next_only calls i t0 t s0 s made u only = stores_only-then (IsTableWord t0.geometry) s0 s u made.only (subst (λ (g : Geometry). StoresOnly (IsTableWord g) s u) made.pages only)
 
 module _ (calls : List TableCall) (i : ℕ) (t0 t : Table) (s0 s : State) (made : IsMade calls i t0 t s0 s) (call : TableCall) (here : slice_get calls i ≡ Some call) where
   module _ (d : Disk) (may : MayCallAll d s0 t0 calls) where

@@ -1,8 +1,10 @@
 -- What a device stands for while calls of the table are made.
-use Rattle.std.specs.Prelude.{◌≡◌, ◌⊎◌, ℕ, ◌+◌, ◌≤◌, List, length, Option}
+use Rattle.std.specs.Prelude.{◌≡◌, ◌⊎◌, ℕ, ◌+◌, ◌*◌, ◌<◌, ◌≤◌, List, length, Option}
 use Rattle.pm_device.specs.Past.{Past, Left, moment}
 use Rattle.pm_device.specs.State.{State}
 use Rattle.pm_device.specs.Settled.{Extends, LeavesOnly}
+use Rattle.pm_layout.specs.declared.Geometry.{Geometry}
+use Rattle.pm_layout.specs.Geometry.{direct_page, first_data}
 use Rattle.dn_model.specs.Disk.{Disk, rows}
 use Rattle.dn_model.specs.Counts.{mappings}
 use Rattle.dn_model.specs.Valid.{IsValid}
@@ -12,6 +14,10 @@ use Rattle.fact_table.specs.Table.{Table}
 use Rattle.fact_counts.specs.Standing.{StandsWith}
 use Rattle.fact_calls.specs.declared.call.TableCall.{TableCall}
 use Rattle.fact_calls.specs.Follows.{MayMake, Follows, After, Allows}
+
+-- a word of the table: of a slot, or a page's pointer
+abbrev pub IsTableWord : Geometry → ℕ → Type 0
+IsTableWord g a = (512 * direct_page g ≤ a) × (a < 512 * first_data g)
 
 -- nothing of the disk differs but its table
 abbrev pub IsSameBut : Disk → Disk → Type 0

@@ -1,7 +1,8 @@
 // Calls are made, one after another.
 ghost use Rattle.std.specs.Prelude.{◌≡◌, ◌+◌, ◌*◌, ◌≤◌, length, OnOk, IsErr};
 ghost use Rattle.pm_device.specs.State.{Rose};
-ghost use Rattle.fact_calls.specs.Made.{CanCall, CanCallAll, LeavesCall, MakesCall, LeavesAll, MakesAll};
+ghost use Rattle.pm_device.specs.Settled.{StoresOnly};
+ghost use Rattle.fact_calls.specs.Made.{IsTableWord, CanCall, CanCallAll, LeavesCall, MakesCall, LeavesAll, MakesAll};
 
 use crate::call::TableCall;
 use fact_changes::{clear_stale, insert, remove_zero};
@@ -28,6 +29,7 @@ pub fn make<D: Pm>(
     requires room { CALL_UNITS * fact.old.geometry.pages ≤ (D.state device.old).spare }
     ensures images { LeavesCall fact.old call.now (D.state device.old) (D.state device.new) }
     ensures done { OnOk result (MakesCall fact.old fact.new call.now (D.state device.old) (D.state device.new)) }
+    ensures only { StoresOnly (IsTableWord fact.old.geometry) (D.state device.old) (D.state device.new) }
     ensures spare { (D.state device.old).spare ≤ (D.state device.new).spare + CALL_UNITS * fact.old.geometry.pages }
     ensures faults { (D.state device.old).faults ≤ (D.state device.new).faults }
     ensures failed { IsErr result → Rose (D.state device.old).faults (D.state device.new).faults }
@@ -62,6 +64,7 @@ pub fn make_all<D: Pm>(
     requires room { CALL_UNITS * fact.old.geometry.pages * length calls.now ≤ (D.state device.old).spare }
     ensures images { LeavesAll fact.old calls.now (D.state device.old) (D.state device.new) }
     ensures done { OnOk result (MakesAll fact.old fact.new calls.now (D.state device.old) (D.state device.new)) }
+    ensures only { StoresOnly (IsTableWord fact.old.geometry) (D.state device.old) (D.state device.new) }
     ensures spare { (D.state device.old).spare ≤ (D.state device.new).spare + CALL_UNITS * fact.old.geometry.pages * length calls.now }
     ensures faults { (D.state device.old).faults ≤ (D.state device.new).faults }
     ensures failed { IsErr result → Rose (D.state device.old).faults (D.state device.new).faults }

@@ -4,6 +4,7 @@ use Rattle.dn_model.specs.Counts.{mappings}
 use Rattle.std.proofs.Common.{◌≡◌, ◌+◌, ◌^◌, ◌<◌, ◌≤◌}
 use Rattle.fact_calls.specs.declared.call.TableCall.TheVariants.{Insert, Raise, SettleUp, SettleDown, Recount, RemoveZero, ClearStale}
 use Rattle.fact_calls.proofs.Called.{row_with, insert_may, insert_images, insert_made, zero_may, zero_images, zero_made, clear_images, clear_made, raise_leaves, raise_makes, up_leaves, up_makes, down_leaves, down_makes, counted_leaves, counted_makes, of_call-leaves, of_call-makes, of_call-may}
+use Rattle.fact_calls.proofs.Words.{counts_in, insert_in, zero_in, stale_in}
 use Rattle.fact_calls.proofs.calls.make.Goals as goal
 
 pub insert-requires-clause-can : goal.insert-requires-clause-can
@@ -128,3 +129,59 @@ pub returns-in-ClearStale-clause-done : goal.returns-in-ClearStale-clause-done
 returns-in-ClearStale-clause-done g c =
     let S = g.D.Pm.state in
     on_ok_map c.clear_stale.result _ _ (λ done. of_call-makes c.args.fact.now c.args.fact.now c.args.call.now ClearStale (S c.args.device.now) (S c.clear_stale.new.device) c.in-ClearStale.is (λ d may. clear_made d (S c.clear_stale.new.device) c.args.fact.now (done d (record { stands = may.stands; valid = may.valid })))) c.clear_stale.ensures.done
+
+pub returns-in_err-insert-in-Insert-clause-only : goal.returns-in_err-insert-in-Insert-clause-only
+returns-in_err-insert-in-Insert-clause-only g c =
+    let S = g.D.Pm.state in
+    let can = c.requires.can in
+    let may = of_call-may can.disk (S c.args.device.now) c.args.fact.now c.args.call.now (Insert c.in-Insert.print c.in-Insert.page) c.in-Insert.is can.may in
+    insert_in can.disk (S c.args.device.now) c.args.fact.now c.insert.new.fact c.in-Insert.print c.in-Insert.page (insert_may can.disk (S c.args.device.now) c.args.fact.now c.in-Insert.print c.in-Insert.page may.stands may.valid may.may) (S c.insert.new.device) c.insert.ensures.only
+
+pub returns-in_ok-insert-in-Insert-clause-only : goal.returns-in_ok-insert-in-Insert-clause-only
+returns-in_ok-insert-in-Insert-clause-only g c =
+    let S = g.D.Pm.state in
+    let can = c.requires.can in
+    let may = of_call-may can.disk (S c.args.device.now) c.args.fact.now c.args.call.now (Insert c.in-Insert.print c.in-Insert.page) c.in-Insert.is can.may in
+    insert_in can.disk (S c.args.device.now) c.args.fact.now c.insert.new.fact c.in-Insert.print c.in-Insert.page (insert_may can.disk (S c.args.device.now) c.args.fact.now c.in-Insert.print c.in-Insert.page may.stands may.valid may.may) (S c.insert.new.device) c.insert.ensures.only
+
+pub returns-in-Raise-clause-only : goal.returns-in-Raise-clause-only
+returns-in-Raise-clause-only g c =
+    let S = g.D.Pm.state in
+    let can = c.requires.can in
+    let may = of_call-may can.disk (S c.args.device.now) c.args.fact.now c.args.call.now (Raise c.in-Raise.slot) c.in-Raise.is can.may in
+    counts_in can.disk (S c.args.device.now).now c.args.fact.now may.stands.table c.in-Raise.slot may.may.row (record { there = may.may.there; slot_is = may.may.slot_is }) (S c.args.device.now) (S c.raise.new.device) c.raise.ensures.only
+
+pub returns-in-SettleUp-clause-only : goal.returns-in-SettleUp-clause-only
+returns-in-SettleUp-clause-only g c =
+    let S = g.D.Pm.state in
+    let can = c.requires.can in
+    let may = of_call-may can.disk (S c.args.device.now) c.args.fact.now c.args.call.now (SettleUp c.in-SettleUp.slot) c.in-SettleUp.is can.may in
+    counts_in can.disk (S c.args.device.now).now c.args.fact.now may.stands.table c.in-SettleUp.slot may.may.row (record { there = may.may.there; slot_is = may.may.slot_is }) (S c.args.device.now) (S c.settle_up.new.device) c.settle_up.ensures.only
+
+pub returns-in-SettleDown-clause-only : goal.returns-in-SettleDown-clause-only
+returns-in-SettleDown-clause-only g c =
+    let S = g.D.Pm.state in
+    let can = c.requires.can in
+    let may = of_call-may can.disk (S c.args.device.now) c.args.fact.now c.args.call.now (SettleDown c.in-SettleDown.slot) c.in-SettleDown.is can.may in
+    counts_in can.disk (S c.args.device.now).now c.args.fact.now may.stands.table c.in-SettleDown.slot may.may.row (record { there = may.may.there; slot_is = may.may.slot_is }) (S c.args.device.now) (S c.settle_down.new.device) c.settle_down.ensures.only
+
+pub returns-in-Recount-clause-only : goal.returns-in-Recount-clause-only
+returns-in-Recount-clause-only g c =
+    let S = g.D.Pm.state in
+    let can = c.requires.can in
+    let may = of_call-may can.disk (S c.args.device.now) c.args.fact.now c.args.call.now (Recount c.in-Recount.slot c.in-Recount.rfc) c.in-Recount.is can.may in
+    counts_in can.disk (S c.args.device.now).now c.args.fact.now may.stands.table c.in-Recount.slot may.may.row (record { there = may.may.there; slot_is = may.may.slot_is }) (S c.args.device.now) (S c.recount.new.device) c.recount.ensures.only
+
+pub returns-in-RemoveZero-clause-only : goal.returns-in-RemoveZero-clause-only
+returns-in-RemoveZero-clause-only g c =
+    let S = g.D.Pm.state in
+    let can = c.requires.can in
+    let may = of_call-may can.disk (S c.args.device.now) c.args.fact.now c.args.call.now (RemoveZero c.in-RemoveZero.slot) c.in-RemoveZero.is can.may in
+    let zero = zero_may can.disk (S c.args.device.now) c.args.fact.now c.in-RemoveZero.slot may.stands may.valid may.may in
+    zero_in can.disk may.may.row (S c.args.device.now) c.args.fact.now c.in-RemoveZero.slot zero (S c.remove_zero.new.device) (c.remove_zero.ensures.only can.disk may.may.row zero)
+
+pub returns-in-ClearStale-clause-only : goal.returns-in-ClearStale-clause-only
+returns-in-ClearStale-clause-only g c =
+    let S = g.D.Pm.state in
+    let can = c.requires.can in
+    stale_in can.disk c.args.fact.now.geometry can.may.stands.table.geometry (S c.args.device.now) (S c.clear_stale.new.device) (c.clear_stale.ensures.only can.disk (record { stands = can.may.stands; valid = can.may.valid }))

@@ -1,7 +1,7 @@
 use Rattle.std.proofs.Common.{◌+◌, ◌*◌, ◌≤◌, length, subst, sym, arith}
 use Rattle.pm_layout.specs.declared.Geometry.{Geometry}
 use Rattle.fact_table.proofs.Listed.{get_at}
-use Rattle.fact_calls.proofs.Course.{units-one, made_none, next_may, next_images, next_made, next_geometry}
+use Rattle.fact_calls.proofs.Course.{units-one, made_none, next_may, next_only, next_images, next_made, next_geometry}
 use Rattle.fact_calls.proofs.calls.make_all.Goals as goal
 
 pub loop-i-init : goal.loop-i-init
@@ -42,6 +42,7 @@ loop-i-preserved g c =
       spare = omega (arith, used, c.loop-i.invariant.spare);
       faults = omega (arith, c.make.ensures.faults, c.loop-i.invariant.faults);
       pages = next_geometry c.args.calls.now c.loop-i.i c.args.fact.now c.loop-i.fact (S c.args.device.now) (S c.loop-i.device) c.loop-i.invariant _ (get_at c.args.calls.now c.loop-i.i _ (omega arith)) can.disk can.may (S c.make.new.device) c.make.new.fact (c.in_ok-make.ensures.done (c.loop-i.invariant.made can.disk can.may).disk (next_may c.args.calls.now c.loop-i.i c.args.fact.now c.loop-i.fact (S c.args.device.now) (S c.loop-i.device) c.loop-i.invariant _ (get_at c.args.calls.now c.loop-i.i _ (omega arith)) can.disk can.may));
+      only = next_only c.args.calls.now c.loop-i.i c.args.fact.now c.loop-i.fact (S c.args.device.now) (S c.loop-i.device) c.loop-i.invariant (S c.make.new.device) c.make.ensures.only;
       images = λ d may. next_images c.args.calls.now c.loop-i.i c.args.fact.now c.loop-i.fact (S c.args.device.now) (S c.loop-i.device) c.loop-i.invariant _ (get_at c.args.calls.now c.loop-i.i _ (omega arith)) d may (S c.make.new.device) (c.make.ensures.images (c.loop-i.invariant.made d may).disk (next_may c.args.calls.now c.loop-i.i c.args.fact.now c.loop-i.fact (S c.args.device.now) (S c.loop-i.device) c.loop-i.invariant _ (get_at c.args.calls.now c.loop-i.i _ (omega arith)) d may));
       made = λ d may. next_made c.args.calls.now c.loop-i.i c.args.fact.now c.loop-i.fact (S c.args.device.now) (S c.loop-i.device) c.loop-i.invariant _ (get_at c.args.calls.now c.loop-i.i _ (omega arith)) d may (S c.make.new.device) c.make.new.fact (c.in_ok-make.ensures.done (c.loop-i.invariant.made d may).disk (next_may c.args.calls.now c.loop-i.i c.args.fact.now c.loop-i.fact (S c.args.device.now) (S c.loop-i.device) c.loop-i.invariant _ (get_at c.args.calls.now c.loop-i.i _ (omega arith)) d may));
     }
@@ -50,3 +51,8 @@ pub returns-clause-images : goal.returns-clause-images
 returns-clause-images g c =
     let S = g.D.Pm.state in
     c.loop-i.invariant.images
+
+pub returns-in_err-make-clause-only : goal.returns-in_err-make-clause-only
+returns-in_err-make-clause-only g c =
+    let S = g.D.Pm.state in
+    next_only c.args.calls.now c.loop-i.i c.args.fact.now c.loop-i.fact (S c.args.device.now) (S c.loop-i.device) c.loop-i.invariant (S c.make.new.device) c.make.ensures.only
