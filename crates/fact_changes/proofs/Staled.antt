@@ -23,7 +23,7 @@ use Rattle.dn_table_changes.proofs.Repointed.{rows_repointed, repoint_one_word}
 use Rattle.dn_table_changes.proofs.Rows.{same_test, other_test, none_found}
 use Rattle.fact_table.specs.Table.{Table, IsTable, HasNoneOf, IsOfPage}
 use Rattle.fact_table.specs.Seen.{as_row}
-use Rattle.fact_table.specs.declared.row.Row.{Row as FoundRow}
+use Rattle.fact_scan.specs.declared.row.Row.{Row as FoundRow}
 use Rattle.fact_table.proofs.Tables.{pointer_read}
 use Rattle.fact_changes.specs.Stale.{IsStale, Clears, MayClear, HasCleared, IsTidied, IsStaleWord, IsPageCleared, stays, clears, HasPage, IsPageWord}
 use Rattle.fact_changes.proofs.Slotted.{table_of}

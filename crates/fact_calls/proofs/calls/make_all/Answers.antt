@@ -1,6 +1,6 @@
 use Rattle.std.proofs.Common.{◌+◌, ◌*◌, ◌≤◌, length, subst, sym, arith}
 use Rattle.pm_layout.specs.declared.Geometry.{Geometry}
-use Rattle.fact_table.proofs.Listed.{get_at}
+use Rattle.fact_scan.proofs.Listed.{get_at}
 use Rattle.fact_calls.proofs.Course.{units-one, made_none, next_may, next_only, next_images, next_made, next_geometry}
 use Rattle.fact_calls.proofs.calls.make_all.Goals as goal
 
