@@ -1,0 +1,2 @@
+pub mod Relogged
+pub mod RelogLaws
