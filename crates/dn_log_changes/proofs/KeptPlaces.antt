@@ -11,19 +11,19 @@ use Rattle.log_entry.specs.declared.item.Flag.TheVariants.{Complete}
 use Rattle.dn_model.specs.Log.{Log}
 use Rattle.dn_model.specs.Maps.{Mapping, mapping, size_of}
 use Rattle.dn_model.specs.Table.{Row, row_of}
-use Rattle.dn_model.specs.Disk.{Disk, Inode, Live, IsUsed, IsMapped, maps, rows}
+use Rattle.dn_model.specs.Disk.{Disk, Inode, IsUsed, IsMapped, maps, rows}
 use Rattle.dn_model.specs.Counts.{mappings, IsLogPage, IsFree, Near, Exact}
 use Rattle.dn_model.specs.Files.{bytes, byte_of, mapped_byte, named, named_after, files, IsSameFiles}
 use Rattle.dn_model.specs.Own.{Print, page_bytes, LivePlace, IsAlone, HasRow, IsOwn, Settled}
 use Rattle.dn_model.specs.Valid.{IsValid}
 use Rattle.dn_changes.specs.WithLog.{with_log}
-use Rattle.dn_changes.specs.Events.{IsReadPage, IsUnused}
+use Rattle.dn_changes.specs.Events.{IsReadPage}
 use Rattle.dn_changes.proofs.MappedPlaces.{maps-in_file}
 use Rattle.dn_changes.proofs.WriteBytes.{length-bytes, byte_at}
 use Rattle.dn_table_changes.proofs.Mappings.{blocks_tell, counted_mapped, near_stays}
 use Rattle.dn_table_changes.proofs.Rows.{all_listed, listed_here, listed_later, listed_cases}
-use Rattle.dn_log_changes.specs.Relogged.{relogged, block_of, KeepsPlaces, IsSpared, was_free, was_log, MayRelog, KeepsData, MovesLog, TellsDone, KeepsDone}
-use Rattle.dn_log_changes.proofs.Relogged.{IsRelog, at_ino, at_other, log_here, use_same, same_geometry, same_word, same_rows, below, above, maps_here, maps_before, maps_others}
+use Rattle.dn_log_changes.specs.Relogged.{relogged, block_of, IsSpared, was_free, was_log, MayRelog, KeepsData, MovesLog, TellsDone, KeepsDone}
+use Rattle.dn_log_changes.proofs.Relogged.{IsRelog, at_other, log_here, use_same, same_geometry, same_word, same_rows, below, above, maps_here, maps_before, maps_others}
 
 -- a mapping on the same page
 same_block : (m : Mapping) (o : Option Mapping) → block_of (Some m) ≡ block_of o → (n : Mapping) × (o ≡ Some n) × (n.block ≡ m.block)

@@ -1,13 +1,13 @@
 -- A disk on which one live inode has another log, of which no page comes to be read: its parts, and that it is valid.
 use Rattle.std.proofs.Common.{◌≡◌, ◌≢◌, ◌⊎◌, inl, inr, ⊎_elim, ℕ, ◌+◌, ◌<◌, ◌≤◌, List, refl, sym, ◌∙◌, ap, subst, arith}
-use Rattle.std.specs.Prelude.{slice_get, Option, Some, None, IsSome, IsNone, All, Contains}
+use Rattle.std.specs.Prelude.{slice_get, Some, IsSome, IsNone, All, Contains}
 use Rattle.std.proofs.lemmas.Bool.{cases_eq}
 use Rattle.pm_layout.specs.declared.Geometry.{Geometry}
-use Rattle.pm_layout.specs.Geometry.{IsAccepted, InData, directs, slots}
+use Rattle.pm_layout.specs.Geometry.{IsAccepted, directs, slots}
 use Rattle.dn_model.specs.Log.{Log, LogSays}
 use Rattle.dn_model.specs.Maps.{Mapping, mapping}
 use Rattle.dn_model.specs.Table.{Row, row_of}
-use Rattle.dn_model.specs.Disk.{Disk, Inode, Use, Free, Live, Dying, IsUsed, IsMapped, MapsTo, maps, maps_by_use, rows, state_number, DiskSays, of_head, of_inodes, of_logs, of_chains, of_pointers, of_pages, HeadSays, at_magic, at_version, at_pages, at_inodes, at_gate, InodesSay, at_state, at_cut, LogsSay, ChainsSay, PointersSay}
+use Rattle.dn_model.specs.Disk.{Disk, Inode, Use, Free, Live, Dying, IsUsed, IsMapped, maps, maps_by_use, rows, state_number, DiskSays, of_head, of_inodes, of_logs, of_chains, of_pointers, of_pages, HeadSays, at_magic, at_version, at_pages, at_inodes, at_gate, InodesSay, at_state, at_cut, LogsSay, ChainsSay, PointersSay}
 use Rattle.dn_model.specs.Counts.{mappings, IsLogPage, IsFree, Near}
 use Rattle.dn_model.specs.Files.{named}
 use Rattle.dn_model.specs.Valid.{IsCut, IsLog, IsLinked, IsRow, AreApart, IsValid}

@@ -1,7 +1,7 @@
 -- The laws of a log that keeps its places.
 use Rattle.std.specs.Prelude.{◌⊎◌, ℕ}
 use Rattle.dn_model.specs.Log.{Log, LogSays}
-use Rattle.dn_model.specs.Disk.{Disk, DiskSays, Live}
+use Rattle.dn_model.specs.Disk.{Disk, DiskSays}
 use Rattle.dn_model.specs.Valid.{IsValid}
 use Rattle.dn_model.specs.Own.{Print, IsOwn, Settled}
 use Rattle.dn_log_changes.specs.Relogged.{relogged, MayRelog, IsRelogged, KeepsData, MovesLog, TellsDone, KeepsDone}

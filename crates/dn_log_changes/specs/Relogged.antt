@@ -2,7 +2,6 @@
 use Rattle.std.specs.Prelude.{◌≡◌, ◌≢◌, ◌⊎◌, ℕ, ◌<◌, List, Contains, Option, Some, None, option_map}
 use Rattle.dn_model.specs.Log.{Log}
 use Rattle.dn_model.specs.Maps.{Mapping, mapping, size_of}
-use Rattle.dn_model.specs.Table.{Row}
 use Rattle.dn_model.specs.Disk.{Disk, Live, IsMapped, maps, rows}
 use Rattle.dn_model.specs.Counts.{mappings, IsLogPage, IsFree, Near, Exact}
 use Rattle.dn_model.specs.Files.{named, named_after, bytes, files, IsSameFiles}
