@@ -4,4 +4,5 @@
 //! Each function states laws of all disks; it does nothing.
 #![tactic(auto)]
 
+pub mod replaced;
 pub mod same_places;
