@@ -2,9 +2,8 @@
 use Rattle.std.proofs.Common.{◌≡◌, ◌≢◌, ◌⊎◌, inl, inr, ⊎_elim, ℕ, zero, suc, ◌+◌, ◌-◌, ◌*◌, ◌/◌, ◌%◌, ◌^◌, ◌<◌, ◌≤◌, Bool, true, false, List, [], ◌∷◌, length, get_or, refl, sym, ◌∙◌, ap, subst, arith, zero-add}
 use Rattle.std.specs.Prelude.{if◌then◌else◌, nat_le, nat_lt, ◌&&◌, slice_index, Contains, Option, Some, None, IsSome, IsNone, All}
 use Rattle.std.specs.Option.{option_map}
-use Rattle.std.proofs.lemmas.Bool.{cases_eq, cases_lt}
+use Rattle.std.proofs.lemmas.Bool.{cases_eq}
 use Rattle.std.proofs.lemmas.Bool.Decides.{nat_tests}
-use Rattle.std.proofs.lemmas.Nat.{pow_pos}
 use Rattle.std.proofs.lemmas.Grind.{same_number_lists}
 use Rattle.std.proofs.lemmas.List.Elements.{All-nil, All-cons, All-append, All-contains, All-weaker, Contains-get_or, Contains-append_left, Contains-append_right, Contains-append_cases}
 use Rattle.std.proofs.lemmas.List.FromFn.{get_or-map-range_with_len}
@@ -20,11 +19,11 @@ use Rattle.log_entry.specs.declared.item.Flag.TheVariants.{Complete}
 use Rattle.log_entry.specs.declared.item.LogItem.{LogItem}
 use Rattle.log_entry.specs.declared.item.LogItem.TheVariants.{Write}
 use Rattle.dn_model.specs.Log.{Log, IsPaged, count, tail_at, slot_name}
-use Rattle.dn_model.specs.Maps.{Mapping, mapping, mapped_after, cut_to, size_of}
+use Rattle.dn_model.specs.Maps.{Mapping, mapping, cut_to, size_of}
 use Rattle.dn_model.specs.Table.{Row, row_of}
-use Rattle.dn_model.specs.Disk.{Disk, Inode, Live, MapsTo, IsMapped, IsUsed, maps, rows, DiskSays}
+use Rattle.dn_model.specs.Disk.{Disk, Inode, IsMapped, IsUsed, maps, rows, DiskSays}
 use Rattle.dn_model.specs.Counts.{mappings, IsLogPage, IsFree, IsNear, Near}
-use Rattle.dn_model.specs.Files.{bytes, byte_of, mapped_byte, named, named_after, files, IsSameFiles}
+use Rattle.dn_model.specs.Files.{bytes, byte_of, mapped_byte, named, named_after}
 use Rattle.dn_model.specs.Growth.{IsGrown, Prepared}
 use Rattle.dn_model.specs.Own.{Print, page_bytes, LivePlace, IsAlone, HasRow, IsOwn}
 use Rattle.dn_model.specs.Valid.{MayStand, IsLog, IsValid}
@@ -44,10 +43,9 @@ use Rattle.dn_changes.proofs.WrittenDisk.{append-apart, append-in_data}
 use Rattle.dn_table_changes.specs.MappingLaws.{RemapsPlace, MovesMapping}
 use Rattle.dn_table_changes.specs.BalanceLaws.{IsBalanced}
 use Rattle.dn_table_changes.proofs.Mappings.{place_mapped_over, near_stays}
-use Rattle.dn_table_changes.proofs.Rows.{all_listed, row_found, none_listed, none_or_some, distinct_same}
-use Rattle.dn_log_changes.specs.Relogged.{relogged}
-use Rattle.dn_log_changes.proofs.Relogged.{IsRelog, relogs, log_here, at_other, use_same, same_geometry, same_word, same_rows, below, above, maps_here, maps_before, maps_others, relogged_valid, read_before, mapped_read, log_page_cases}
-use Rattle.dn_share_changes.specs.Sharing.{shared_log, shared_disk, IsLeft, was_free, was_place, MayShare, SharesPlace, IsOnPage, KeepsFiles, FreesPage}
+use Rattle.dn_table_changes.proofs.Rows.{row_found, none_listed, none_or_some, distinct_same}
+use Rattle.dn_log_changes.proofs.Relogged.{IsRelog, relogs, log_here, at_other, use_same, same_geometry, same_word, same_rows, below, above, maps_here, maps_before, maps_others, relogged_valid, read_before, mapped_read}
+use Rattle.dn_share_changes.specs.Sharing.{shared_log, shared_disk, IsLeft, was_free, was_place, MayShare, SharesPlace, KeepsFiles, FreesPage}
 
 -- a Write of one place: on it, and on another place
 module _ (idx page size slot : ℕ) where

@@ -1,9 +1,9 @@
 -- The bytes of a file that was cut, and what stays.
-use Rattle.std.proofs.Common.{◌≡◌, ◌≢◌, ◌⊎◌, inl, inr, ⊎_elim, ℕ, zero, suc, ◌+◌, ◌-◌, ◌*◌, ◌/◌, ◌%◌, ◌^◌, ◌<◌, ◌≤◌, Bool, true, false, List, [], ◌∷◌, length, get_or, map, refl, sym, ◌∙◌, ap, subst, arith, zero-add}
-use Rattle.std.specs.Prelude.{if◌then◌else◌, nat_lt, ◌==◌, slice_index, Contains, Option, Some, None, IsSome, IsNone, All}
+use Rattle.std.proofs.Common.{◌≡◌, ◌≢◌, ◌⊎◌, inl, inr, ⊎_elim, ℕ, ◌+◌, ◌*◌, ◌/◌, ◌%◌, ◌^◌, ◌<◌, ◌≤◌, Bool, true, false, List, [], ◌∷◌, map, refl, sym, ◌∙◌, ap, subst, arith, zero-add}
+use Rattle.std.specs.Prelude.{if◌then◌else◌, nat_lt, slice_index, Contains, Option, Some, None, IsSome, IsNone, All}
 use Rattle.std.specs.List.{range_with_len}
 use Rattle.std.specs.Option.{option_map}
-use Rattle.std.proofs.lemmas.Bool.{cases_eq, cases_lt, and_parts, and_from}
+use Rattle.std.proofs.lemmas.Bool.{cases_eq, cases_lt}
 use Rattle.std.proofs.lemmas.Bool.Decides.{nat_tests}
 use Rattle.std.proofs.lemmas.Grind.{same_number_lists}
 use Rattle.std.proofs.lemmas.List.{get_or_past}
@@ -15,17 +15,18 @@ use Rattle.log_entry.specs.Spelling.{pages_of}
 use Rattle.log_entry.specs.Name.{same_name}
 use Rattle.log_entry.specs.declared.item.Flag.{Flag}
 use Rattle.log_entry.specs.declared.item.Flag.TheVariants.{Needed, Complete}
+use Rattle.log_entry.proofs.SameName.{same_name-true, same_name-same}
 use Rattle.dn_model.specs.Maps.{Mapping, cut_to, size_of}
 use Rattle.dn_model.specs.Table.{Row, row_of}
-use Rattle.dn_model.specs.Disk.{Disk, Inode, Live, IsUsed, MapsTo, IsMapped, maps, rows}
-use Rattle.dn_model.specs.Counts.{hit, mappings, IsLogPage, IsFree, Near}
+use Rattle.dn_model.specs.Disk.{Disk, Inode, IsUsed, MapsTo, IsMapped, maps, rows}
+use Rattle.dn_model.specs.Counts.{hit, mappings, IsLogPage, IsFree}
 use Rattle.dn_model.specs.Files.{bytes, byte_of, mapped_byte, named, files, IsSameFiles}
 use Rattle.dn_model.specs.Apply.{resized, bytes_or_none, after_op}
 use Rattle.dn_model.specs.Own.{Print, page_bytes, LivePlace, IsAlone, HasRow, IsOwn}
 use Rattle.dn_model.specs.declared.op.Op.TheVariants.{Cut as CutOp}
 use Rattle.dn_changes.specs.Events.{IsReadPage, IsUnused}
 use Rattle.dn_changes.specs.Writing.{Writes, WritesWell, IsNewMapping}
-use Rattle.dn_changes.specs.Runs.{Run, places_in, block_at}
+use Rattle.dn_changes.specs.Runs.{places_in, block_at}
 use Rattle.dn_changes.proofs.Counting.{total-lt, total-some}
 use Rattle.dn_changes.proofs.MappedPlaces.{maps-in_file, uncut, cut_some, cut_below}
 use Rattle.dn_changes.proofs.WriteBytes.{length-bytes, byte_at}
@@ -34,26 +35,10 @@ use Rattle.dn_changes.proofs.WriteFiles.{named-in_table, one_name, bytes-others}
 use Rattle.dn_changes.proofs.WriteFree.{free-kept, fresh-not_free, block-not_free}
 use Rattle.dn_changes.proofs.WriteValid.{use_kept, rows_kept, below_old, not_mapped, log_page_cases, named_same}
 use Rattle.dn_changes.proofs.Unread.{read_in_data}
-use Rattle.dn_table_changes.proofs.Rows.{row_found, row_listed, all_listed}
-use Rattle.dn_size_changes.specs.Cutting.{last_page, refill_runs, cut_disk, MayRefill, IsNotRefill, MayCut, RefillsPage, Refills, EndsInZeros, GoesAway, past_end, refilled, IsDropped}
+use Rattle.dn_table_changes.proofs.Rows.{row_found, all_listed}
+use Rattle.dn_size_changes.specs.Cutting.{last_page, refill_runs, cut_disk, MayRefill, MayCut, RefillsPage, Refills, EndsInZeros, GoesAway, past_end, refilled, IsDropped}
 use Rattle.dn_size_changes.specs.CutLaws.{CutsPlaces, Resizes, TakesAndDrops}
-use Rattle.dn_size_changes.proofs.Cutting.{refill_only, refill_inside, cut-relogs, cut-writes, cut-well, not_block}
-
-same_names : (xs ys : List ℕ) → same_name xs ys ≡ true → xs ≡ ys
-same_names [] [] e = refl
-same_names [] (y ∷ ys) e = cc
-same_names (x ∷ xs) [] e = cc
-same_names (x ∷ xs) (y ∷ ys) e = let both = and_parts (x == y) (same_name xs ys) e in (λ i. same x y both.0 i ∷ same_names xs ys both.1 i)
-  where
-    same : (a b : ℕ) → (a == b) ≡ true → a ≡ b
-    same a b e = grind (arith, nat_tests)
-
-same_name-self : (xs : List ℕ) → same_name xs xs ≡ true
-same_name-self [] = refl
-same_name-self (x ∷ xs) = and_from (x == x) (same_name xs xs) (itself x) (same_name-self xs)
-  where
-    itself : (a : ℕ) → (a == a) ≡ true
-    itself a = grind (arith, nat_tests)
+use Rattle.dn_size_changes.proofs.Cutting.{refill_only, refill_inside, cut-writes, not_block}
 
 map-same : (f g : ℕ → ℕ) (xs : List ℕ) → ((k : ℕ) → f k ≡ g k) → map f xs ≡ map g xs
 map-same f g [] same = refl
@@ -204,11 +189,11 @@ module _ (d : Disk) (ino : ℕ) (fresh : List ℕ) (size : ℕ) (refill : Option
         ]
           where
             both : other ≡ name → ⊥
-            both same = let self : same_name name name ≡ true = same_name-self name in let differs : same_name name name ≡ false = ap (same_name name) (sym same) ∙ t in cc
+            both same = let self : same_name name name ≡ true = same_name-same name in let differs : same_name name name ≡ false = ap (same_name name) (sym same) ∙ t in cc
 
         by_test : (t : Bool) → same_name name other ≡ t → option_map (bytes new) (named d other) ≡ (if t then Some (resized (bytes_or_none (files d name)) size) else files d other)
         by_test true e =
-            ap (λ (x : List ℕ). option_map (bytes new) (named d x)) (sym (same_names name other e)) ∙ ap (option_map (bytes new)) leads
+            ap (λ (x : List ℕ). option_map (bytes new) (named d x)) (sym (same_name-true name other e)) ∙ ap (option_map (bytes new)) leads
             ∙ ap Some (cut_bytes fills zeros ∙ ap (λ (before : List ℕ). resized before size) (sym old_bytes))
         by_test false e = elsewhere e (named d other) refl
 

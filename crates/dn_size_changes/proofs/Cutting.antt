@@ -1,17 +1,12 @@
 -- A cut is an event of a write of no place, or of the last page.
-use Rattle.std.proofs.Common.{◌≡◌, ◌≢◌, ◌⊎◌, inl, inr, ⊎_elim, ℕ, zero, suc, ◌+◌, ◌-◌, ◌*◌, ◌/◌, ◌%◌, ◌<◌, ◌≤◌, Bool, true, false, List, [], ◌∷◌, ◌++◌, length, refl, sym, ◌∙◌, ap, subst, arith, length-append}
+use Rattle.std.proofs.Common.{◌≡◌, ◌≢◌, ◌⊎◌, ℕ, zero, suc, ◌+◌, ◌-◌, ◌/◌, ◌<◌, ◌≤◌, true, false, List, [], ◌∷◌, length, refl, sym, ◌∙◌, ap, subst, arith}
 use Rattle.std.specs.Prelude.{if◌then◌else◌, nat_lt, slice_index, Contains, All, Option, Some, None}
-use Rattle.std.proofs.lemmas.Bool.{cases_eq, cases_lt}
-use Rattle.std.proofs.lemmas.Bool.Decides.{nat_tests}
-use Rattle.std.proofs.lemmas.List.Concat.{flat_map-append}
 use Rattle.std.proofs.lemmas.List.Elements.{All-nil, All-cons, All-append, Contains-get_or}
-use Rattle.pm_layout.specs.declared.Geometry.{Geometry}
 use Rattle.log_entry.specs.Spelling.{IsSpelled, spelling, spelled, pages_of}
-use Rattle.log_entry.specs.declared.item.LogItem.{LogItem}
 use Rattle.log_entry.specs.declared.item.LogItem.TheVariants.{Size}
-use Rattle.dn_model.specs.Log.{Log, IsPaged, count, placed_from}
+use Rattle.dn_model.specs.Log.{IsPaged, count, placed_from}
 use Rattle.dn_model.specs.Maps.{Mapping, mapping, mapped_after, cut_to, size_of, size_after}
-use Rattle.dn_model.specs.Disk.{Disk, Use, Live, IsUsed, maps, maps_by_use}
+use Rattle.dn_model.specs.Disk.{Disk, Use, IsUsed, maps, maps_by_use}
 use Rattle.dn_model.specs.Counts.{IsFree, Near}
 use Rattle.dn_model.specs.Growth.{IsGrown}
 use Rattle.dn_model.specs.Valid.{IsLog, MayStand}
@@ -22,7 +17,7 @@ use Rattle.dn_changes.specs.Runs.{Run, run_items, places_in, block_at, IsChained
 use Rattle.dn_changes.specs.WithLog.{grown_log}
 use Rattle.dn_changes.proofs.Mapped.{mapping-grown, mapped_after-append, placed_from-append}
 use Rattle.dn_changes.proofs.MappedPlaces.{uncut}
-use Rattle.dn_changes.proofs.RunItems.{runs-own, runs-other, runs-spelled, runs-standing, length-spelled-runs, size-grown, size_after-append}
+use Rattle.dn_changes.proofs.RunItems.{runs-own, runs-other, runs-spelled, runs-standing, size-grown}
 use Rattle.dn_changes.proofs.WithLog.{with_log-log, with_log-relogs, with_log-grown}
 use Rattle.dn_changes.proofs.WriteFree.{free-kept}
 use Rattle.dn_changes.proofs.WrittenDisk.{append-apart, append-in_data, near_without_rows}

@@ -1,5 +1,5 @@
 -- The laws of a cut.
-use Rattle.std.specs.Prelude.{◌≡◌, ◌≢◌, ◌⊎◌, ℕ, ◌<◌, ◌≤◌, List, [], length, Contains, Option, Some, None, IsNone}
+use Rattle.std.specs.Prelude.{◌≡◌, ◌≢◌, ◌⊎◌, ℕ, ◌<◌, ◌≤◌, List, [], Contains, Option, Some, None, IsNone}
 use Rattle.log_entry.specs.Spelling.{pages_of}
 use Rattle.dn_model.specs.Maps.{size_of}
 use Rattle.dn_model.specs.Table.{row_of}
