@@ -1,0 +1,3 @@
+pub mod Retagged
+pub mod Flagged
+pub mod Tags

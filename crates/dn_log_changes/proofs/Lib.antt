@@ -1,0 +1,3 @@
+pub mod Relogged
+pub mod KeptPlaces
+pub mod ReplacedLog

@@ -1,0 +1,8 @@
+use Rattle.dn_log_changes.proofs.ReplacedLog.{body_unsaid, body_stores}
+use Rattle.dn_log_changes.proofs.replaced.new_pages_are_unread.Goals as goal
+
+pub returns-clause-unread : goal.returns-clause-unread
+returns-clause-unread c = body_unsaid
+
+pub returns-clause-stored : goal.returns-clause-stored
+returns-clause-stored c = body_stores

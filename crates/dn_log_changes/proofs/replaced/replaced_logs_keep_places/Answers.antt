@@ -1,0 +1,8 @@
+use Rattle.dn_log_changes.proofs.ReplacedLog.{may_relog, two_pages_spared}
+use Rattle.dn_log_changes.proofs.replaced.replaced_logs_keep_places.Goals as goal
+
+pub returns-clause-places : goal.returns-clause-places
+returns-clause-places c = may_relog
+
+pub returns-clause-left : goal.returns-clause-left
+returns-clause-left c = two_pages_spared
