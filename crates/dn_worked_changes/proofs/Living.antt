@@ -31,7 +31,7 @@ use Rattle.dn_name_changes.specs.NameChange.{NameChange, MayChange, ChangesNames
 use Rattle.dn_name_changes.specs.Keeping.{KeepsData}
 use Rattle.dn_name_changes.specs.Operations.{creation, removal, MayCreate, MayRemove}
 use Rattle.dn_name_changes.proofs.Links.{with_name-here}
-use Rattle.recovery.specs.Empty.{empty_inode, empty_disk}
+use Rattle.dn_model.specs.Empty.{empty_inode, empty_disk}
 use Rattle.recovery.proofs.EmptyDisk.{count-none, unread}
 use Rattle.dn_worked_changes.specs.Life.{Life, IsLife, Lives, HoldsBytes, first_text, second_text, first_file, on_page, empty, created, appended, overwritten, removed, pages_of_life}
 use Rattle.dn_worked_changes.proofs.Laws.{Laws}

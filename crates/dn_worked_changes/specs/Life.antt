@@ -14,7 +14,7 @@ use Rattle.dn_model.specs.declared.op.Op.TheVariants.{Create, Write, Remove}
 use Rattle.dn_changes.specs.Runs.{Run}
 use Rattle.dn_changes.specs.MayWrite.{written_disk}
 use Rattle.dn_name_changes.specs.Operations.{created_disk, unnamed_disk}
-use Rattle.recovery.specs.Empty.{empty_disk}
+use Rattle.dn_model.specs.Empty.{empty_disk}
 
 -- The file's name and inode, the texts that are written at its start, the pages that are taken, and the words that pages
 -- have after the first write and after the second.
