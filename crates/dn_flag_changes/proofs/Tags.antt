@@ -1,23 +1,26 @@
 -- Flags and masks, each such a change.
-use Rattle.std.proofs.Common.{◌≡◌, ◌≢◌, ◌⊎◌, inl, inr, ⊎_elim, ℕ, Bool, true, false, [], refl, sym, ◌∙◌, ap, subst, arith}
-use Rattle.std.specs.Prelude.{if◌then◌else◌, ◌==◌, Some, option_map}
+use Rattle.std.proofs.Common.{◌≡◌, ◌≢◌, ◌⊎◌, inl, inr, ⊎_elim, ℕ, Bool, true, false, [], ◌∷◌, ◌++◌, refl, sym, ◌∙◌, ap, subst, arith}
+use Rattle.std.specs.Prelude.{if◌then◌else◌, ◌==◌, Some, IsBitSet, option_map}
 use Rattle.std.proofs.lemmas.Bool.{cases_eq}
 use Rattle.std.proofs.lemmas.Bool.Decides.{nat_tests}
 use Rattle.log_entry.specs.Spelling.{flag_number}
 use Rattle.log_entry.specs.declared.item.Flag.{Flag}
 use Rattle.log_entry.specs.declared.item.Flag.TheVariants.{Complete}
+use Rattle.log_entry.specs.declared.item.LogItem.{LogItem}
+use Rattle.log_entry.specs.declared.item.LogItem.TheVariants.{Write}
 use Rattle.dn_model.specs.Log.{Log}
-use Rattle.dn_model.specs.Maps.{Mapping}
+use Rattle.dn_model.specs.Maps.{Mapping, mapping}
 use Rattle.dn_model.specs.Disk.{Disk, IsUsed, maps}
 use Rattle.dn_model.specs.Own.{Print, IsAlone, HasRow, IsOwn, Settled}
 use Rattle.dn_model.specs.Valid.{IsLog}
-use Rattle.inode_log.specs.Reflags.{with_flag, with_mask, flag_word, mask_word}
+use Rattle.inode_log.specs.Reflags.{with_flag, with_mask, flag_word, mask_word, Reflags}
 use Rattle.inode_log.proofs.Reflagged.{flag_changes, mask_changes, flag_keeps_log, mask_keeps_log}
 use Rattle.dn_table_changes.specs.OneWord.{IsOneWord}
 use Rattle.dn_log_changes.specs.Relogged.{relogged}
+use Rattle.dn_log_changes.proofs.Relogged.{maps_before}
 use Rattle.dn_log_changes.proofs.KeptPlaces.{own_kept, settled_kept}
-use Rattle.dn_flag_changes.specs.FlagLaws.{MayFlag, MayMask, flagged, masked, IsDoneAt, KeepsAlone, KeepsPages}
-use Rattle.dn_flag_changes.proofs.Retagged.{IsRetag}
+use Rattle.dn_flag_changes.specs.FlagLaws.{MayReflag, MoreBitsKeepAlone, MayFlag, MayMask, flagged, masked, IsDoneAt, KeepsAlone, KeepsPages}
+use Rattle.dn_flag_changes.proofs.Retagged.{IsRetag, retagged}
 use Rattle.dn_flag_changes.proofs.Flagged.{may_relog, now_maps, keeps_pages, tells_done, keeps_done, one_word}
 
 itself : (a : ℕ) → (a == a) ≡ true
@@ -141,3 +144,45 @@ module _ (d : Disk) (ino mask slot : ℕ) (log : Log) (is : MayMask d ino mask s
   pub mask_settled : KeepsAlone d ino slot mask → Settled d → Settled (relogged d ino log)
   mask_settled keeps = settled_kept d ino log (may_relog d ino (with_mask mask) slot log is.may mask_good as_mask (mask_retag mask slot))
       (keeps_done d ino (with_mask mask) slot log is.may mask_good as_mask (mask_retag mask slot) (λ idx n maps_to. ((λ was. same_flag n ∙ was), (λ alone. keeps idx n maps_to alone))))
+
+-- what an item maps has its flag and mask: it stays if the item gets those that it has
+module _ (d : Disk) (ino : ℕ) (change : LogItem → LogItem) (slot : ℕ) (log : Log) (may : MayReflag d ino change slot log)
+    (first n block size : ℕ) (flag : Flag) (mask : ℕ) (item : may.reflags.item ≡ Write first n block size flag mask) where
+  was_log : IsLog d.geometry ino (d.inode ino).log
+  was_log = may.valid.logs ino may.in_table (subst IsUsed (sym may.live) tt)
+
+  same_reflags : (other : LogItem → LogItem) → other (Write first n block size flag mask) ≡ Write first n block size flag mask → Reflags other slot (d.inode ino).log (d.inode ino).log
+  same_reflags other same = record {
+    front = may.reflags.front;
+    item = may.reflags.item;
+    rest = may.reflags.rest;
+    is_write = may.reflags.is_write;
+    slot_is = may.reflags.slot_is;
+    pages = refl;
+    items = may.reflags.items;
+    items' = may.reflags.items ∙ ap (λ (x : LogItem). may.reflags.front ++ x ∷ may.reflags.rest) (item ∙ sym same ∙ ap other (sym item));
+  }
+
+  retagged_same : (other : LogItem → LogItem) (r : Mapping → Mapping) → IsRetag other slot r → other (Write first n block size flag mask) ≡ Write first n block size flag mask
+      → (idx : ℕ) (m : Mapping) → maps d ino idx ≡ Some m → m ≡ r m
+  retagged_same other r is same idx m at = one m (r m) (sym before ∙ retagged other slot r is d.geometry (d.inode ino).log (d.inode ino).log was_log.paged (same_reflags other same) idx ∙ ap (option_map r) before)
+    where
+      before : mapping (d.inode ino).log idx ≡ Some m
+      before = sym (maps_before d ino log may.live idx) ∙ at
+
+      one : (x y : Mapping) → Some x ≡ Some y → x ≡ y
+      one x y e = cc
+
+  pub places_tell : (idx : ℕ) (m : Mapping) → maps d ino idx ≡ Some m → m.slot ≡ slot → (m.flag ≡ flag) × (m.mask ≡ mask)
+  places_tell idx m at here = (
+    ap (λ (x : Mapping). x.flag) (retagged_same (with_flag flag) (flagged slot flag) (flag_retag flag slot) refl idx m at ∙ at_slot slot m (with_this_flag flag m) here),
+    ap (λ (x : Mapping). x.mask) (retagged_same (with_mask mask) (masked slot mask) (mask_retag mask slot) refl idx m at ∙ at_slot slot m (with_this_mask mask m) here),
+  )
+
+pub more_bits : MoreBitsKeepAlone
+more_bits d ino mask slot log is first n block size flag was item more idx m at alone = elim (cases_eq m.slot slot) [
+  | inl e ↦
+      let told = places_tell d ino (with_mask mask) slot log is.may first n block size flag was item idx m at e in
+      subst IsAlone (sym (at_slot slot m (with_this_mask mask m) e)) (more m.bit (subst (λ (k : ℕ). IsBitSet k m.bit) told.1 alone))
+  | inr ne ↦ subst IsAlone (sym (elsewhere slot m (with_this_mask mask m) ne)) alone
+]

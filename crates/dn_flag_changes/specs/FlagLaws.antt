@@ -1,9 +1,10 @@
 -- One Write item of a live file's log gets another flag or another mask.
-use Rattle.std.specs.Prelude.{◌≡◌, ◌⊎◌, ℕ, ◌^◌, ◌<◌, if◌then◌else◌, ◌==◌, [], Some, option_map}
+use Rattle.std.specs.Prelude.{◌≡◌, ◌⊎◌, ℕ, ◌^◌, ◌<◌, if◌then◌else◌, ◌==◌, [], Some, IsBitSet, option_map}
 use Rattle.log_entry.specs.Spelling.{flag_number}
 use Rattle.log_entry.specs.declared.item.Flag.{Flag}
 use Rattle.log_entry.specs.declared.item.Flag.TheVariants.{Complete}
 use Rattle.log_entry.specs.declared.item.LogItem.{LogItem}
+use Rattle.log_entry.specs.declared.item.LogItem.TheVariants.{Write}
 use Rattle.dn_model.specs.Log.{Log}
 use Rattle.dn_model.specs.Maps.{Mapping}
 use Rattle.dn_model.specs.Disk.{Disk, Live, maps}
@@ -87,3 +88,15 @@ FlagStaysSettled = (d : Disk) (ino : ℕ) (flag : Flag) (slot : ℕ) (log : Log)
 
 abbrev pub MaskStaysSettled : Type 0
 MaskStaysSettled = (d : Disk) (ino mask slot : ℕ) (log : Log) → MayMask d ino mask slot log → KeepsAlone d ino slot mask → Settled d → Settled (relogged d ino log)
+
+-- the places that the item maps have its flag and its mask
+abbrev pub PlacesTellItem : Type 0
+PlacesTellItem = (d : Disk) (ino : ℕ) (change : LogItem → LogItem) (slot : ℕ) (log : Log) (may : MayReflag d ino change slot log)
+    → (first n block size : ℕ) (flag : Flag) (mask : ℕ) → may.reflags.item ≡ Write first n block size flag mask
+    → (idx : ℕ) (m : Mapping) → maps d ino idx ≡ Some m → m.slot ≡ slot → (m.flag ≡ flag) × (m.mask ≡ mask)
+
+-- so a mask with each bit of the one before keeps alone what was
+abbrev pub MoreBitsKeepAlone : Type 0
+MoreBitsKeepAlone = (d : Disk) (ino mask slot : ℕ) (log : Log) (is : MayMask d ino mask slot log)
+    → (first n block size : ℕ) (flag : Flag) (was : ℕ) → is.may.reflags.item ≡ Write first n block size flag was
+    → ((bit : ℕ) → IsBitSet was bit → IsBitSet mask bit) → KeepsAlone d ino slot mask

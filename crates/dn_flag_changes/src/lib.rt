@@ -3,7 +3,7 @@
 //! Each function states laws of all disks; it does nothing.
 #![tactic(auto)]
 
-ghost use Rattle.dn_flag_changes.specs.FlagLaws.{FlagIsOneWord, MaskIsOneWord, FlagChangesItsPlaces, MaskChangesItsPlaces, FlagKeepsPages, MaskKeepsPages, FlagStaysOwn, MaskStaysOwn, FlagStaysSettled, MaskStaysSettled};
+ghost use Rattle.dn_flag_changes.specs.FlagLaws.{FlagIsOneWord, MaskIsOneWord, FlagChangesItsPlaces, MaskChangesItsPlaces, FlagKeepsPages, MaskKeepsPages, FlagStaysOwn, MaskStaysOwn, FlagStaysSettled, MaskStaysSettled, PlacesTellItem, MoreBitsKeepAlone};
 
 /// An item gets another flag: the flag's word decides between two valid disks. The places that the item maps have the
 /// new flag; files, mappings, rows, log pages and free pages stay. What every image of this program has stays where
@@ -25,4 +25,11 @@ pub fn mask_is_set()
     ensures pages { MaskKeepsPages }
     ensures own { MaskStaysOwn }
     ensures settled { MaskStaysSettled }
+{}
+
+/// The places that an item maps have its flag and its mask, so that a mask with each bit of the one before keeps alone
+/// what was left alone.
+pub fn places_tell_item()
+    ensures tell { PlacesTellItem }
+    ensures more_bits { MoreBitsKeepAlone }
 {}

@@ -1,10 +1,10 @@
 -- The laws of a cut.
-use Rattle.std.specs.Prelude.{◌≡◌, ◌≢◌, ◌⊎◌, ℕ, ◌<◌, ◌≤◌, List, [], Contains, Option, Some, None, IsNone}
+use Rattle.std.specs.Prelude.{◌≡◌, ◌≢◌, ◌⊎◌, ℕ, ◌+◌, ◌<◌, ◌≤◌, List, [], Contains, Option, Some, None, IsNone}
 use Rattle.log_entry.specs.Spelling.{pages_of}
 use Rattle.dn_model.specs.Maps.{size_of}
-use Rattle.dn_model.specs.Table.{row_of}
+use Rattle.dn_model.specs.Table.{Row, row_of}
 use Rattle.dn_model.specs.Disk.{Disk, maps, rows}
-use Rattle.dn_model.specs.Counts.{IsFree, Near}
+use Rattle.dn_model.specs.Counts.{mappings, IsFree, Near}
 use Rattle.dn_model.specs.Files.{bytes, named, files, IsSameFiles}
 use Rattle.dn_model.specs.Apply.{resized, after_op}
 use Rattle.dn_model.specs.Valid.{IsValid}
@@ -12,7 +12,7 @@ use Rattle.dn_model.specs.Own.{Print, IsOwn}
 use Rattle.dn_model.specs.declared.op.Op.TheVariants.{Cut}
 use Rattle.dn_changes.specs.Writing.{Writes, WritesWell, IsNewMapping}
 use Rattle.dn_changes.specs.Runs.{places_in, block_at}
-use Rattle.dn_size_changes.specs.Cutting.{cut_disk, refill_runs, last_page, MayCut, Refills, EndsInZeros, IsDropped, IsNotRefill}
+use Rattle.dn_size_changes.specs.Cutting.{cut_disk, refill_runs, last_page, MayCut, Refills, EndsInZeros, IsDropped, IsNotRefill, dropped_places}
 
 -- The event of a cut is one of a write of no place, or of the last page: the laws of writes say that the disk stays
 -- valid, that the tail decides, and which words have to stand before.
@@ -82,3 +82,14 @@ pub record TakesAndDrops (old new : Disk) (ino : ℕ) (fresh : List ℕ) (size :
 abbrev pub CutsTakeAndDrop : Type 0
 CutsTakeAndDrop = (d : Disk) (ino : ℕ) (fresh : List ℕ) (size : ℕ) (refill : Option ℕ) (word : ℕ → ℕ → ℕ) → MayCut d ino fresh size refill word
     → Near (cut_disk d ino fresh size refill word) → TakesAndDrops d (cut_disk d ino fresh size refill word) ino fresh size refill
+
+-- a page's mappings fall by the places that go
+abbrev pub CutsDropMappings : Type 0
+CutsDropMappings = (d : Disk) (ino : ℕ) (fresh : List ℕ) (size : ℕ) (refill : Option ℕ) (word : ℕ → ℕ → ℕ) → MayCut d ino fresh size refill word
+    → (page : ℕ) → IsNotRefill refill page → mappings (cut_disk d ino fresh size refill word) page + dropped_places d ino size refill page ≡ mappings d page
+
+-- so the counts stay near, if as many updates of each row were raised
+abbrev pub CutsStayNear : Type 0
+CutsStayNear = (d : Disk) (ino : ℕ) (fresh : List ℕ) (size : ℕ) (refill : Option ℕ) (word : ℕ → ℕ → ℕ) → MayCut d ino fresh size refill word
+    → ((row : Row) → Contains (rows d) row → row.rfc + dropped_places d ino size refill row.page ≤ mappings d row.page + row.uc)
+    → Near (cut_disk d ino fresh size refill word)

@@ -1,12 +1,12 @@
 -- A live file is cut, or gets longer: what a cut of its size stands on, and the disk that it makes.
-use Rattle.std.specs.Prelude.{◌≡◌, ◌≢◌, ◌⊎◌, ℕ, ◌+◌, ◌*◌, ◌/◌, ◌%◌, ◌<◌, ◌≤◌, List, [], ◌∷◌, ◌++◌, length, slice_index, Contains, Option, Some, None}
+use Rattle.std.specs.Prelude.{◌≡◌, ◌≢◌, ◌⊎◌, ℕ, ◌+◌, ◌*◌, ◌/◌, ◌%◌, ◌<◌, ◌≤◌, if◌then◌else◌, nat_lt, List, [], ◌∷◌, ◌++◌, length, slice_index, Contains, Option, Some, None}
 use Rattle.log_entry.specs.Spelling.{pages_of}
 use Rattle.log_entry.specs.declared.item.LogItem.{LogItem}
 use Rattle.log_entry.specs.declared.item.LogItem.TheVariants.{Size}
 use Rattle.dn_model.specs.Log.{count}
 use Rattle.dn_model.specs.Maps.{Mapping, size_of}
 use Rattle.dn_model.specs.Disk.{Disk, Live, maps}
-use Rattle.dn_model.specs.Counts.{IsFree}
+use Rattle.dn_model.specs.Counts.{total, hit, IsFree}
 use Rattle.dn_model.specs.Files.{bytes, byte_of}
 use Rattle.dn_model.specs.Valid.{IsValid}
 use Rattle.dn_changes.specs.Events.{IsReadPage, IsUnused}
@@ -84,3 +84,12 @@ pub record IsDropped (d : Disk) (ino size : ℕ) (refill : Option ℕ) (page : �
   pub was : maps d ino idx ≡ Some by
   pub block : by.block ≡ page
   pub goes : GoesAway size refill idx
+
+-- the places from here on go, or are filled anew
+abbrev pub first_gone : ℕ → Option ℕ → ℕ
+first_gone size None = pages_of size
+first_gone size (Some page) = last_page size
+
+-- how many of them were on this page
+abbrev pub dropped_places : Disk → ℕ → ℕ → Option ℕ → ℕ → ℕ
+dropped_places d ino size refill page = total 4096 (λ idx. if nat_lt idx (first_gone size refill) then 0 else hit page (maps d ino idx))

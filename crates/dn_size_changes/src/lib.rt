@@ -3,7 +3,7 @@
 //! Each function states laws of all disks; it does nothing.
 #![tactic(auto)]
 
-ghost use Rattle.dn_size_changes.specs.CutLaws.{CutsMakeWrites, CutsMakeWritesWithoutRows, CutsStayValid, CutsDropPlaces, CutsResize, CutsAreCuts, CutsStayOwn, CutsTakeAndDrop};
+ghost use Rattle.dn_size_changes.specs.CutLaws.{CutsMakeWrites, CutsMakeWritesWithoutRows, CutsStayValid, CutsDropPlaces, CutsResize, CutsAreCuts, CutsStayOwn, CutsTakeAndDrop, CutsDropMappings, CutsStayNear};
 
 /// A cut is an event of a write of no place, or of the last kept page: a valid disk stays valid, the tail decides, and
 /// what has to stand before are the words past the tail and those of the page that is filled anew.
@@ -36,4 +36,10 @@ pub fn cuts_stay_own()
 /// no other page comes free or is taken.
 pub fn cuts_take_and_drop()
     ensures { CutsTakeAndDrop }
+{}
+
+/// The mappings of a page fall by the places that go, so that the counts of rows stay near if as many updates were raised.
+pub fn cuts_stay_near()
+    ensures mappings { CutsDropMappings }
+    ensures near { CutsStayNear }
 {}

@@ -1,0 +1,8 @@
+use Rattle.dn_size_changes.proofs.CutCounts.{mappings_drop, stays_near}
+use Rattle.dn_size_changes.proofs.cuts_stay_near.Goals as goal
+
+pub returns-clause-mappings : goal.returns-clause-mappings
+returns-clause-mappings c = mappings_drop
+
+pub returns-clause-near : goal.returns-clause-near
+returns-clause-near c = stays_near
