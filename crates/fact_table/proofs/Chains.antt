@@ -15,7 +15,7 @@ use Rattle.dn_model.specs.Table.{Row, RowsSay, at_field, at_next, at_later, Chai
 use Rattle.dn_model.specs.Valid.{IsRow}
 use Rattle.fact_slot.proofs.Places.{directs-low}
 use Rattle.fact_table.specs.Chained.{IsIndirect, IsChained, slot_from, IsWalked, HasNoRow}
-use Rattle.fact_table.proofs.Listed.{place_of, get_at, get_or_got}
+use Rattle.fact_scan.proofs.Listed.{place_of, get_at, get_or_got}
 
 -- the words of row k, and the way to the next one
 pub says_field : (g : Geometry) (rows : List Row) (k : ℕ) (row : Row) (j : ℕ) → j < 5 → slice_get rows k ≡ Some row → RowsSay g rows (slot_word g row.slot j) (row_word row j)

@@ -1,7 +1,6 @@
-pub mod Listed
-pub mod Held
 pub mod Chains
 pub mod Search
 pub mod Tables
 pub mod Looked
-pub mod Prefix
+pub mod Loading
+pub mod Whole

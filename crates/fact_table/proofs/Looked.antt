@@ -10,7 +10,7 @@ use Rattle.fact_slot.specs.Words.{words_of}
 use Rattle.fact_table.specs.Seen.{as_row}
 use Rattle.fact_table.specs.Chained.{IsChainFrom, IsFound, HasNoRow}
 use Rattle.fact_table.specs.Table.{Table, IsTable}
-use Rattle.fact_table.proofs.Held.{answer}
+use Rattle.fact_scan.proofs.Held.{answer}
 use Rattle.fact_table.proofs.Tables.{chain_from, found_direct, found_behind, none_found, length-behind}
 
 -- the direct slot of the fingerprint's prefix was read

@@ -11,8 +11,8 @@ use Rattle.dn_model.specs.Table.{Row}
 use Rattle.fact_slot.specs.Words.{words_of}
 use Rattle.fact_table.specs.Seen.{as_row}
 use Rattle.fact_table.specs.Chained.{IsChainFrom, IsFound, HasNoRow, slot_from, IsWalked}
-use Rattle.fact_table.proofs.Listed.{place_of, listed}
-use Rattle.fact_table.proofs.Held.{HoldsRow, answer, held_print, answer_is}
+use Rattle.fact_scan.proofs.Listed.{place_of, listed}
+use Rattle.fact_scan.proofs.Held.{HoldsRow, answer, held_print, answer_is}
 use Rattle.fact_table.proofs.Chains.{first_from, says_field, says_next, row_from, walked_all, rows_fit}
 
 -- i slots were read, in any chain that begins there

@@ -16,9 +16,9 @@ use Rattle.fact_slot.specs.Words.{words_of}
 use Rattle.fact_table.specs.Seen.{as_row}
 use Rattle.fact_table.specs.Chained.{IsChained, IsChainFrom, IsFound, HasNoRow}
 use Rattle.fact_table.specs.Table.{Table, IsTable, IsUnused, HasRow, IsAtSlot, HasNoneAt}
-use Rattle.fact_table.proofs.Listed.{place_of, listed, row_in_all, rows_before, IsInChain, chain_of}
+use Rattle.fact_scan.proofs.Listed.{place_of, listed, row_in_all, rows_before, IsInChain, chain_of}
 use Rattle.fact_table.proofs.Chains.{says_field, behind}
-use Rattle.fact_table.proofs.Held.{HoldsRow, answer, held_page, held_print, answer_is}
+use Rattle.fact_scan.proofs.Held.{HoldsRow, answer, held_page, held_print, answer_is}
 
 -- a row stands in the direct slot, or behind it
 pub head_or_behind : (p : ℕ) (rs : List Row) (k : ℕ) (row : Row) → slice_get rs k ≡ Some row → ((row.slot ≡ p) × (direct_page_word p rs ≡ row.page)) ⊎ Contains (chained p rs) row

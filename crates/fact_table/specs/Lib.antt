@@ -1,3 +1,4 @@
 pub mod Seen
 pub mod Chained
 pub mod Table
+pub mod Loaded

@@ -5,8 +5,9 @@ ghost use Rattle.dn_model.specs.Table.{Row as TableRow};
 ghost use Rattle.fact_table.specs.Seen.{as_row};
 ghost use Rattle.fact_table.specs.Chained.{IsChainFrom, HasChain, IsFound, HasNoRow};
 
-use crate::row::{Row, has_print};
+use crate::row::has_print;
 use fact_chain::read_chain;
+use fact_scan::Row;
 use fact_slot::Steps;
 use pm_device::Pm;
 use pm_layout::Geometry;

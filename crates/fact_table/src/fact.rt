@@ -8,9 +8,10 @@ ghost use Rattle.fact_table.specs.Chained.{IsFound, HasNoRow};
 ghost use Rattle.fact_table.specs.Table.{IsTable, HasTable, IsAtSlot, IsOfPage, IsUnused, HasNoneAt, HasNoneOf, TakesSlot, GivesBackSlot};
 
 use crate::chain::find_chained;
-use crate::row::{Row, has_row};
+use crate::row::has_row;
 use delete_pointer::entry_of;
 use fact_direct::read_direct;
+use fact_scan::{Row, direct_of};
 use fact_slot::{Steps, peek_slot};
 use page_alloc::FreeSet;
 use pm_device::Pm;
@@ -34,17 +35,14 @@ impl Model for Fact {
     ghost view = { λ f. record { geometry = f.geometry; free = f.free } };
 }
 
-/// The direct slot of a fingerprint's prefix.
-pub fn direct_of(g: &Geometry, print: &[u8; 20]) -> u64
-    requires { IsAccepted g.now }
-    ensures slot { result ≡ prefix_of g.now print.now }
-    ensures direct { result < directs g.now }
-{
-    let first = u64::from(print[0]) * 256 + u64::from(print[1]);
-    first >> (16 - g.prefix_bits())
-}
-
 impl Fact {
+    // The table of a device of this geometry, with the indirect slots that have no row.
+    pub(crate) fn of_parts(geometry: Geometry, free: FreeSet) -> Fact
+        ensures { result ≡ record { geometry = geometry; free = free } }
+    {
+        Fact { geometry, free }
+    }
+
     /// The geometry of the device that the table stands on.
     pub fn geometry(&self) -> Geometry
         ensures { result ≡ self.now.geometry }

@@ -6,7 +6,12 @@
 
 pub mod chain;
 pub mod fact;
+pub mod load;
 pub mod row;
 
-pub use fact::{Fact, direct_of};
-pub use row::Row;
+pub use fact::Fact;
+pub use fact_scan::{Row, direct_of};
+pub use load::FactFault;
+
+#[cfg(test)]
+mod tests;

@@ -1,6 +1,6 @@
 use Rattle.std.proofs.Common.{sym, subst, arith}
 use Rattle.std.proofs.lemmas.Bool.{false≢true}
-use Rattle.fact_table.specs.declared.row.Row.{Row}
+use Rattle.fact_scan.specs.declared.row.Row.{Row}
 use Rattle.fact_table.specs.Seen.{as_row}
 use Rattle.fact_table.specs.Chained.{IsFound}
 use Rattle.fact_table.proofs.Search.{walk_begins, walk_ends, walk_over, slot_low, slot_high, more, walk_found, walk_on}

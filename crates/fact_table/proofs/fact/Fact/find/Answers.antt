@@ -3,7 +3,7 @@ use Rattle.std.specs.Prelude.{Option, Some, None, IfSome, IfNone}
 use Rattle.std.proofs.lemmas.Bool.{false≢true}
 use Rattle.dn_model.specs.Table.{chained}
 use Rattle.dn_model.specs.Disk.{rows}
-use Rattle.fact_table.specs.declared.row.Row.{Row}
+use Rattle.fact_scan.specs.declared.row.Row.{Row}
 use Rattle.fact_table.specs.Seen.{as_row}
 use Rattle.fact_table.specs.Chained.{IsFound}
 use Rattle.fact_table.specs.Table.{Table}

@@ -3,7 +3,7 @@ use Rattle.std.proofs.lemmas.Bool.{false≢true}
 use Rattle.pm_layout.specs.declared.Geometry.{Geometry}
 use Rattle.fingerprint.specs.Slot.{IsReadFrom}
 use Rattle.fact_slot.specs.Words.{words_of}
-use Rattle.fact_table.specs.declared.row.Row.{Row}
+use Rattle.fact_scan.specs.declared.row.Row.{Row}
 use Rattle.fact_table.specs.Seen.{as_row}
 use Rattle.fact_table.specs.Table.{Table, IsAtSlot}
 use Rattle.fact_table.proofs.Tables.{none_free, none_at, found_at}

@@ -9,8 +9,8 @@ use Rattle.fingerprint.specs.declared.slot.FactSlot.{FactSlot}
 use Rattle.fingerprint.proofs.SlotLaws.{be_number-lt, print_word-one, count_word-one}
 use Rattle.dn_model.specs.Table.{Row as TableRow, row_word}
 use Rattle.fact_slot.specs.Words.{words_of}
-use Rattle.fact_table.specs.declared.row.Row.{Row}
-use Rattle.fact_table.specs.Seen.{as_row}
+use Rattle.fact_scan.specs.declared.row.Row.{Row}
+use Rattle.fact_scan.specs.Seen.{as_row}
 
 -- the words of this slot are those of the row
 abbrev pub HoldsRow : Geometry → List ℕ → ℕ → TableRow → Type 0

@@ -1,7 +1,7 @@
 use Rattle.std.proofs.Common.{◌≡◌, ◌+◌, ◌*◌, ◌/◌, ◌^◌, ◌-◌, ◌<◌, ℕ, subst, refl, arith}
 use Rattle.fingerprint.specs.Bytes.{be_number}
-use Rattle.fact_table.proofs.Prefix.{first_two, prefix-lt}
-use Rattle.fact_table.proofs.fact.direct_of.Goals as goal
+use Rattle.fact_scan.proofs.Prefix.{first_two, prefix-lt}
+use Rattle.fact_scan.proofs.row.direct_of.Goals as goal
 
 pub returns-clause-slot : goal.returns-clause-slot
 returns-clause-slot c =
