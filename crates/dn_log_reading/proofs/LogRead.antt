@@ -20,9 +20,9 @@ module _ (g : Geometry) (c : List ℕ) (ino : ℕ) where
   abbrev Judged : Type 0
   Judged = ((place : ℕ) × LogFault g c ino place) ⊎ ((log : Log) × Reads (LogSays ino log) c × IsLog g ino log)
 
-  judged : (items : List Placed) (place : Option ℕ) → Outcome g c ino items place → Judged
-  judged items None has = inr (has.log, has.reads, has.valid)
-  judged items (Some place) fault = inl (place, fault)
+  judged : (pages : List ℕ) (items : List Placed) (place : Option ℕ) → Outcome g c ino pages items place → Judged
+  judged pages items None has = inr (has.log, has.reads, has.valid)
+  judged pages items (Some place) fault = inl (place, fault)
 
   abbrev head : ℕ
   head = slice_index c (inode_word ino 1)
@@ -35,7 +35,7 @@ module _ (g : Geometry) (c : List ℕ) (ino : ℕ) where
       let way : Way g c head (tail / 64) = all_pages g c head (tail / 64) in
       let m : ℕ = slots_before (length way.pages) way.whole tail in
       let read : AllItems g ino way.pages (first_slots c way.pages m) = all_items g ino way.pages (first_slots c way.pages m) in
-      judged read.items (fault_place read.end way.whole (tail % 64) read.taken m)
+      judged way.pages read.items (fault_place read.end way.whole (tail % 64) read.taken m)
       (outcome g c ino head tail way.pages read.items read.taken m refl refl some way.is.part read.front read.end way.whole way.is.ends refl read.ends)
 
 pub log_read : LogsAreReadOrFaulty

@@ -13,7 +13,7 @@ use Rattle.std.proofs.lemmas.Cmp.{ranked}
 use Rattle.std.proofs.lemmas.Bool.{cases_lt, cases_eq}
 use Rattle.std.proofs.lemmas.List.{get_or-map, get_or_read, length-map}
 use Rattle.file_index.specs.Entries.{IsRising, HasKey, IsGap, IsCountBelow}
-use Rattle.file_index.specs.Index.{Index, Puts, Drops, CutsOff, IsLastBelow, ListsNames}
+use Rattle.file_index.specs.Index.{Index, Puts, Drops, CutsOff, IsLastBelow, ListsNames, ListsEntries}
 use Rattle.file_index.proofs.Lookups.{all_front, all_back, IsFree, find-free, find-append_back, find_some, other}
 use Rattle.file_index.proofs.Placed.{find_in_gap, find-inserted, find-inserted_other, find_at, find-removed, find-removed_other, find-set, find-set_other}
 
@@ -131,3 +131,39 @@ lists_names es rising = record {
   where
     key : (k : ℕ) (d : List ℕ) → k < length es → get_or (map (λ (e : List ℕ × ℕ). e.0) es) k d ≡ (get_or es k (d, 0)).0
     key k d lt = get_or-map (λ (e : List ℕ × ℕ). e.0) es k (d, 0) d lt
+
+-- an entry that is found is listed
+entry_found : (es : List (List ℕ × ℕ)) (name : List ℕ) (value : ℕ) → find (slice_cmp nat_cmp) name es ≡ Some value → Contains es (name, value)
+entry_found [] name value e = absurd (none_some value e)
+  where
+    none_some : (v : ℕ) → None ≡ Some v → ⊥
+    none_some v e = cc
+entry_found (e ∷ es) name value found =
+    elim (slice_cmp nat_cmp name e.0) as (λ r. slice_cmp nat_cmp name e.0 ≡ r → cond (is_eq r) (Some e.1) (find (slice_cmp nat_cmp) name es) ≡ Some value → Contains (e ∷ es) (name, value)) [
+      | Less ↦ λ _ rest. later (entry_found es name value rest)
+      | Equal ↦ λ same here. (0, omega arith, pair (sym (slice_cmp-IsAntisymmetric nat_cmp-IsAntisymmetric name e.0 same)) (some_one e.1 value here))
+      | Greater ↦ λ _ rest. later (entry_found es name value rest)
+    ] refl found
+  where
+    later : Contains es (name, value) → Contains (e ∷ es) (name, value)
+    later (k, lt, is) = (suc k, omega arith, is)
+
+    some_one : (a b : ℕ) → Some a ≡ Some b → a ≡ b
+    some_one a b e = cc
+
+    pair : e.0 ≡ name → e.1 ≡ value → e ≡ (name, value)
+    pair x y = λ i. (x i, y i)
+
+pub lists_entries : (es : List (List ℕ × ℕ)) → IsRising (slice_cmp nat_cmp) es → ListsEntries (from_entries {R = slice_cmp nat_cmp} es) es
+lists_entries es rising = record {
+  in_order = rising;
+  all = λ name value. (
+    λ (k, lt, is).
+        let o = nat_list_cmp_total in
+        let same = slice_cmp-IsAntisymmetric nat_cmp-IsAntisymmetric in
+        get-from_entries o es name
+        ∙ find_at o same es name k rising (record { within = lt; key_is = λ d. sym (ap (λ (e : List ℕ × ℕ). e.0) (get_or_read es k (name, value) lt (sym is) d)) }) (name, value)
+        ∙ sym (ap (λ (e : List ℕ × ℕ). Some e.1) (get_or_read es k (name, value) lt (sym is) (name, value))),
+    λ found. entry_found es name value (sym (get-from_entries nat_list_cmp_total es name) ∙ found),
+  );
+}

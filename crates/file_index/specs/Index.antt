@@ -47,3 +47,8 @@ pub record IsLastBelow {X : Type 0} (place : ℕ) (map : FinMap nat_cmp X) (last
 pub record ListsNames {X : Type 0} (map : FinMap (slice_cmp nat_cmp) X) (names : List (List ℕ)) : Type 0 where
   pub in_order : AllPairs (λ x y. slice_cmp nat_cmp x y ≡ Less) names
   pub all : (name : List ℕ) → (Contains names name ↔ IsSome (get map name))
+
+-- all names that lead anywhere, each once, with what they lead to
+pub record ListsEntries {X : Type 0} (map : FinMap (slice_cmp nat_cmp) X) (entries : List (List ℕ × X)) : Type 0 where
+  pub in_order : AllPairs (λ a b. slice_cmp nat_cmp a.0 b.0 ≡ Less) entries
+  pub all : (name : List ℕ) (value : X) → (Contains entries (name, value) ↔ (get map name ≡ Some value))

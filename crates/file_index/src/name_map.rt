@@ -4,7 +4,7 @@ ghost use Rattle.std.specs.Ordering.{nat_cmp};
 ghost use Rattle.std.specs.Cmp.Lexicographic.{slice_cmp};
 ghost use Rattle.std.specs.FinMap.{get, empty};
 ghost use Rattle.file_index.specs.Entries.{IsRising, HasKey, IsGap};
-ghost use Rattle.file_index.specs.Index.{Puts, Drops, ListsNames};
+ghost use Rattle.file_index.specs.Index.{Puts, Drops, ListsNames, ListsEntries};
 
 use crate::room::insert_reserved;
 use dn_model::NameList;
@@ -104,6 +104,13 @@ impl NameMap {
         if let Ok(at) = search(&self.entries, name) {
             let _ = self.entries.remove(at);
         }
+    }
+
+    /// All names with the inodes that they lead to, in the order of the names' bytes, each name once.
+    pub fn entries(&self) -> &[(Name, u64)]
+        ensures { ListsEntries self.now.map result.now }
+    {
+        &self.entries
     }
 
     /// Copies of all names, in the order of their bytes, each once. The time is that of copying them.

@@ -16,7 +16,7 @@ use Rattle.dn_model.specs.Valid.{MayStand}
 use Rattle.log_walk.specs.Way.{IsPart, IsWhole, IsStopped, EndsSo, next_page}
 use Rattle.log_walk.specs.Slots.{slot_at, first_slots}
 use Rattle.log_walk.specs.Items.{item_of, AreFront, IsBad, IsEnd}
-use Rattle.log_walk.specs.Walk.{HasLog, fault_place, slots_before}
+use Rattle.log_walk.specs.Walk.{HasWholeLog, fault_place, slots_before}
 use Rattle.log_walk.specs.declared.items.Placed.{Placed as PlacedItem}
 use Rattle.log_walk.specs.declared.items.End.{End}
 use Rattle.log_walk.specs.declared.items.End.TheVariants.{Filled, Cut, Bad}
@@ -40,9 +40,9 @@ slots_left c pages n m =
     ∙ sym (get_or-map-range_with_len (slot_at c pages) n (m - n) k (n + k) d near refl))
 
 -- the answer by the place of a fault
-abbrev pub Outcome : Geometry → List ℕ → ℕ → List PlacedItem → Option ℕ → Type 0
-Outcome g c ino items None = HasLog g c ino items
-Outcome g c ino items (Some place) = LogFault g c ino place
+abbrev pub Outcome : Geometry → List ℕ → ℕ → List ℕ → List PlacedItem → Option ℕ → Type 0
+Outcome g c ino pages items None = HasWholeLog g c ino pages items
+Outcome g c ino pages items (Some place) = LogFault g c ino place
 
 module _ (g : Geometry) (c : List ℕ) (ino head tail : ℕ) (pages : List ℕ) (items : List PlacedItem) (n m : ℕ)
     (head_is : head ≡ slice_index c (inode_word ino 1)) (tail_is : tail ≡ slice_index c (inode_word ino 2)) (some : 0 < tail)
@@ -132,7 +132,7 @@ module _ (g : Geometry) (c : List ℕ) (ino head tail : ℕ) (pages : List ℕ) 
       let place : k % 63 + 1 ≡ t % 64 = omega (arith, e, long, not_zero) in
       omega (arith, ap (slice_index pages) page, ends, place)
 
-  whole_log : IsWhole (tail / 64) pages → m ≡ slots_before (length pages) true tail → drop n (first_slots c pages m) ≡ [] → tail % 64 ≢ 0 → HasLog g c ino items
+  whole_log : IsWhole (tail / 64) pages → m ≡ slots_before (length pages) true tail → drop n (first_slots c pages m) ≡ [] → tail % 64 ≢ 0 → HasWholeLog g c ino pages items
   whole_log whole long all not_zero =
       let full : n ≡ m = omega (arith, within, ap length all, left_long) in
       let fits : length pages ≡ (count log + 62) / 63 = omega (arith, count_is, full, long, not_zero, whole.some) in
@@ -144,6 +144,7 @@ module _ (g : Geometry) (c : List ℕ) (ino head tail : ℕ) (pages : List ℕ) 
           spelled = front.fill.are_spelled;
           standing = front.fill.standing;
         };
+        pages_are = refl;
         items_are = front.places;
       }
     where
@@ -156,7 +157,7 @@ module _ (g : Geometry) (c : List ℕ) (ino head tail : ℕ) (pages : List ℕ) 
       reads full a v (at_slot k j lt word place value) = ap (slice_index c) place ∙ filled_slot k j lt word ∙ sym value
 
   by_slot : (b : Bool) → nat_eq (tail % 64) 0 ≡ b → IsWhole (tail / 64) pages → m ≡ slots_before (length pages) true tail → drop n (first_slots c pages m) ≡ []
-      → Outcome g c ino items (if b then Some m else None)
+      → Outcome g c ino pages items (if b then Some m else None)
   by_slot true test whole long all =
       let at_zero : tail % 64 ≡ 0 = grind (arith, nat_tests) in
       let full : count log ≡ m = omega (arith, count_is, within, ap length all, left_long) in
@@ -164,7 +165,7 @@ module _ (g : Geometry) (c : List ℕ) (ino head tail : ℕ) (pages : List ℕ) 
   by_slot false test whole long all = let not_zero : tail % 64 ≢ 0 = grind (arith, nat_tests) in whole_log whole long all not_zero
 
   pub outcome : (end : End) (whole : Bool) → EndsSo g c head (tail / 64) pages whole → m ≡ slots_before (length pages) whole tail → IsEnd g ino (drop n (first_slots c pages m)) end
-      → Outcome g c ino items (fault_place end whole (tail % 64) n m)
+      → Outcome g c ino pages items (fault_place end whole (tail % 64) n m)
   outcome Bad true ends long bad = bad_item (inl (at_tail_end ends long)) bad.0 bad.1
   outcome Bad false ends long bad = bad_item (inr (before_tail_end ends long)) bad.0 bad.1
   outcome Cut true ends long cut =
@@ -178,17 +179,17 @@ pub slots_within : (g : Geometry) (c : List ℕ) (head last tail : ℕ) (pages :
 slots_within g c head last tail pages true ends = omega (arith, ends.some)
 slots_within g c head last tail pages false ends = omega arith
 
-module _ (g : Geometry) (c : List ℕ) (ino : ℕ) (items : List PlacedItem) where
-  pub log_of : (place : Option ℕ) → Outcome g c ino items place → IfNone place (HasLog g c ino items)
+module _ (g : Geometry) (c : List ℕ) (ino : ℕ) (pages : List ℕ) (items : List PlacedItem) where
+  pub log_of : (place : Option ℕ) → Outcome g c ino pages items place → IfNone place (HasWholeLog g c ino pages items)
   log_of None is = is
   log_of (Some place) is = tt
 
-  pub fault_of : (place : Option ℕ) → Outcome g c ino items place → IfSome place (λ p. LogFault g c ino p)
+  pub fault_of : (place : Option ℕ) → Outcome g c ino pages items place → IfSome place (λ p. LogFault g c ino p)
   fault_of None is = tt
   fault_of (Some place) is = is
 
 -- a log whose tail is 0 has no items
-pub empty_log : (g : Geometry) (c : List ℕ) (ino : ℕ) → slice_index c (inode_word ino 2) ≡ 0 → HasLog g c ino []
+pub empty_log : (g : Geometry) (c : List ℕ) (ino : ℕ) → slice_index c (inode_word ino 2) ≡ 0 → HasWholeLog g c ino [] []
 unfolding count
 empty_log g c ino none = record {
   log = record { pages = []; items = [] };
@@ -198,6 +199,7 @@ empty_log g c ino none = record {
     spelled = λ k d lt. absurd (omega arith);
     standing = λ k d lt. absurd (omega arith);
   };
+  pages_are = refl;
   items_are = refl;
 }
   where

@@ -19,6 +19,14 @@ pub record HasLog (g : Geometry) (c : List ℕ) (ino : ℕ) (items : List Placed
   pub valid : IsLog g ino log
   pub items_are : map seen items ≡ placed log
 
+-- and these are its pages
+pub record HasWholeLog (g : Geometry) (c : List ℕ) (ino : ℕ) (pages : List ℕ) (items : List PlacedItem) : Type 0 where
+  pub log : Log
+  pub reads : Reads (LogSays ino log) c
+  pub valid : IsLog g ino log
+  pub pages_are : pages ≡ log.pages
+  pub items_are : map seen items ≡ placed log
+
 abbrev pub IsFaultOf : Geometry → List ℕ → ℕ → WalkFault → Type 0
 IsFaultOf g c ino (BadLog place) = LogFault g c ino place
 IsFaultOf g c ino NoMemory = Unit {0}

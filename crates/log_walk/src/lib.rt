@@ -8,7 +8,7 @@ pub mod pages;
 pub mod slots;
 
 pub use items::Placed;
-pub use log::{WalkFault, walk};
+pub use log::{LogRead, WalkFault, walk, walk_log};
 
 #[cfg(test)]
 mod tests;
