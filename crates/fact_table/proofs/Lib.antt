@@ -4,3 +4,4 @@ pub mod Tables
 pub mod Looked
 pub mod Loading
 pub mod Whole
+pub mod OneAnswer

@@ -2,3 +2,4 @@ pub mod Seen
 pub mod Chained
 pub mod Table
 pub mod Loaded
+pub mod Laws

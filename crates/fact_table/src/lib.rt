@@ -6,6 +6,7 @@
 
 pub mod chain;
 pub mod fact;
+pub mod laws;
 pub mod load;
 pub mod row;
 

@@ -151,7 +151,7 @@ impl Fact {
     /// the rows can be read and a pointer has a fault, and of which page: the least whose pointer is above the number
     /// of slots, or that has a row to which its pointer doesn't lead. `NoMemory` where there is no memory for the rows.
     ///
-    /// Words have one such fault at most, and none where they hold a table.
+    /// Words have one such fault at most, and none where they hold a table (`laws::one_answer`).
     pub fn load<D: Pm>(alloc: Global, device: &D, g: &Geometry) -> Result<Fact, FactFault>
         requires accepted { IsAccepted g.now }
         requires size { length (D.state device.now).now ≡ 512 * g.now.pages }
