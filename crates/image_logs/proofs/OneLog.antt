@@ -55,7 +55,7 @@ may_index g ino accepted pages k (x ∷ xs) (p ∷ ps) spelled may e =
     (may_index g ino accepted pages (k + length (spelling x)) xs ps (All-tail IsSpelled x xs spelled) (All-tail (MayStand g ino) x xs may) (ap rest e))
 
 -- the page to which a place is mapped
-block_in : (g : Geometry) (ino : ℕ) (log : Log) → IsLog g ino log → (idx : ℕ) (m : DiskMapping) → mapping log idx ≡ Some m → m.block < g.pages
+pub block_in : (g : Geometry) (ino : ℕ) (log : Log) → IsLog g ino log → (idx : ℕ) (m : DiskMapping) → mapping log idx ≡ Some m → m.block < g.pages
 block_in g zero log valid idx m is =
     let s = mapping_set_by log idx m is in
     absurd (All-contains (MayStand g 0) log.items (Write s.first s.n s.block s.size s.flag s.mask) valid.standing s.listed)
