@@ -1,3 +1,4 @@
 pub mod Numbers
 pub mod Twice
 pub mod FreePages
+pub mod Linked

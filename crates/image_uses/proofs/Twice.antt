@@ -19,7 +19,7 @@ use Rattle.image_uses.specs.Uses.{IsUsedTwice, IsCounted, MarksRows, HasReadLogs
 use Rattle.image_uses.specs.UsesLoop.{NoneTwice}
 
 -- a sum above 1 of terms that are 1 at most has two of them
-total-two : (f : ℕ → ℕ) (n : ℕ) → ((k : ℕ) → f k ≤ 1) → 2 ≤ total n f → (i : ℕ) × (j : ℕ) × (i < j) × (j < n) × (1 ≤ f i) × (1 ≤ f j)
+pub total-two : (f : ℕ → ℕ) (n : ℕ) → ((k : ℕ) → f k ≤ 1) → 2 ≤ total n f → (i : ℕ) × (j : ℕ) × (i < j) × (j < n) × (1 ≤ f i) × (1 ≤ f j)
 unfolding total
 total-two f zero one two = absurd (omega arith)
 total-two f (suc n) one two = elim (cases_eq (f n) 0) [

@@ -4,6 +4,8 @@
 
 pub mod counts;
 pub mod doubles;
+pub mod links;
 
 pub use counts::{free_count, mapped_count};
 pub use doubles::double_fault;
+pub use links::link_fault;
