@@ -6,3 +6,6 @@ pub mod logs;
 mod usage;
 
 pub use logs::{LogsFault, LogsRead, read_logs};
+
+#[cfg(test)]
+mod tests;
