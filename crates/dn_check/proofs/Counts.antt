@@ -1,5 +1,5 @@
 -- A number of pages as a sum over all pages.
-use Rattle.std.proofs.Common.{◌≡◌, ◌≢◌, inl, inr, ⊎_elim, ℕ, zero, suc, ◌+◌, ◌<◌, ◌≤◌, Bool, true, false, List, [], ◌∷◌, length, refl, sym, ◌∙◌, ap, subst, arith}
+use Rattle.std.proofs.Common.{◌≡◌, ◌≢◌, inl, inr, ⊎_elim, ℕ, zero, suc, ◌<◌, ◌≤◌, Bool, List, [], ◌∷◌, length, refl, sym, ◌∙◌, ap, subst, arith}
 use Rattle.std.specs.Prelude.{◌==◌, if◌then◌else◌, AllPairs, Contains, get_or}
 use Rattle.std.proofs.lemmas.Bool.{cases_eq}
 use Rattle.std.proofs.lemmas.Bool.Decides.{Decides-eqb}
@@ -47,23 +47,23 @@ module _ (f : ℕ → ℕ) where
   }
   listed (suc n) = let old = listed n in elim (cases_eq (f n) 0) [
     | inl none ↦ record {
-        list = old.list;
-        small = λ k has. omega (arith, old.small k has);
-        some = old.some;
-        all = λ k lt is. ⊎_elim (λ (e : n ≡ k). absurd (is (ap f (sym e) ∙ none))) (λ (ne : n ≡ k → ⊥). old.all k (omega (arith, lt, ne)) is) (cases_eq n k);
-        different = old.different;
-        count = let last : one_at n ≡ 0 = ap (λ (b : Bool). if b then 0 else 1) (same_test (f n) 0 none) in omega (arith, old.count, last);
-      }
+      list = old.list;
+      small = λ k has. omega (arith, old.small k has);
+      some = old.some;
+      all = λ k lt is. ⊎_elim (λ (e : n ≡ k). absurd (is (ap f (sym e) ∙ none))) (λ (ne : n ≡ k → ⊥). old.all k (omega (arith, lt, ne)) is) (cases_eq n k);
+      different = old.different;
+      count = let last : one_at n ≡ 0 = ap (λ (b : Bool). if b then 0 else 1) (same_test (f n) 0 none) in omega (arith, old.count, last);
+    }
     | inr is ↦ record {
-        list = n ∷ old.list;
-        small = λ k has. ⊎_elim (λ (e : n ≡ k). omega (arith, e)) (λ (more : Contains old.list k). omega (arith, old.small k more)) (cons_cases n k old.list has);
-        some = λ k has. ⊎_elim (λ (e : n ≡ k). subst (λ (j : ℕ). f j ≢ 0) e is) (old.some k) (cons_cases n k old.list has);
-        all = λ k lt some. ⊎_elim
-            (λ (e : n ≡ k). subst (Contains (n ∷ old.list)) e (here n old.list))
-            (λ (ne : n ≡ k → ⊥). later n k old.list (old.all k (omega (arith, lt, ne)) some)) (cases_eq n k);
-        different = different_more n old.list (λ k has e. omega (arith, e, old.small k has)) old.different;
-        count = let last : one_at n ≡ 1 = ap (λ (b : Bool). if b then 0 else 1) (other_test (f n) 0 is) in omega (arith, old.count, last);
-      }
+      list = n ∷ old.list;
+      small = λ k has. ⊎_elim (λ (e : n ≡ k). omega (arith, e)) (λ (more : Contains old.list k). omega (arith, old.small k more)) (cons_cases n k old.list has);
+      some = λ k has. ⊎_elim (λ (e : n ≡ k). subst (λ (j : ℕ). f j ≢ 0) e is) (old.some k) (cons_cases n k old.list has);
+      all = λ k lt some. ⊎_elim
+          (λ (e : n ≡ k). subst (Contains (n ∷ old.list)) e (here n old.list))
+          (λ (ne : n ≡ k → ⊥). later n k old.list (old.all k (omega (arith, lt, ne)) some)) (cases_eq n k);
+      different = different_more n old.list (λ k has e. omega (arith, e, old.small k has)) old.different;
+      count = let last : one_at n ≡ 1 = ap (λ (b : Bool). if b then 0 else 1) (other_test (f n) 0 is) in omega (arith, old.count, last);
+    }
   ]
 
 -- lists of the same numbers, each once, have the same length

@@ -1,18 +1,16 @@
 -- What the numbers of an image that passes the rules up to the pointers tell.
-use Rattle.std.proofs.Common.{◌≡◌, ◌≢◌, ◌⊎◌, inl, inr, ⊎_elim, ℕ, ◌+◌, ◌<◌, ◌≤◌, Bool, true, List, ◌∷◌, ◌++◌, length, map, refl, sym, ◌∙◌, ap, subst, arith}
-use Rattle.std.specs.Prelude.{slice_index, ◌↔◌, IsNone, Contains, All}
+use Rattle.std.proofs.Common.{◌≡◌, ◌≢◌, ℕ, ◌+◌, ◌<◌, ◌≤◌, Bool, List, ◌∷◌, ◌++◌, map, sym, ◌∙◌, ap, subst, arith}
+use Rattle.std.specs.Prelude.{Contains, All}
 use Rattle.std.proofs.lemmas.List.{map-append, length-map, get_or-map}
 use Rattle.std.proofs.lemmas.List.Elements.{All-contains, All-map, Contains-append_left, Contains-append_right}
 use Rattle.pm_layout.specs.declared.Geometry.{Geometry}
-use Rattle.pm_layout.specs.Geometry.{IsAccepted}
-use Rattle.dn_model.specs.Table.{Row as TableRow, row_of}
+use Rattle.dn_model.specs.Table.{Row as TableRow}
 use Rattle.dn_model.specs.Disk.{Disk, IsMapped, rows}
-use Rattle.dn_model.specs.Counts.{mappings, IsNear, Near, IsFree, Exact}
-use Rattle.dn_model.specs.Valid.{IsSingle}
+use Rattle.dn_model.specs.Counts.{mappings, IsNear, Near, Exact}
 use Rattle.dn_model.specs.Image.{StandsFor}
 use Rattle.dn_model.specs.Faults.{IsLeast, IsDouble, HasFree, FaultOf, double_mapped, bad_count, crowded}
 use Rattle.dn_model.specs.declared.fault.ImageFault.TheVariants.{DoubleMapped, BadCount, Crowded}
-use Rattle.dn_laws.proofs.Counted.{free_one, counts_mappings}
+use Rattle.dn_laws.proofs.Counted.{free_one}
 use Rattle.dn_image_reading.proofs.Stands.{passing}
 use Rattle.dn_rule_reading.specs.Rules.{FreePages, are_few, are_two}
 use Rattle.dn_rule_reading.proofs.Pages.{mapped_in_data, single_from}
@@ -20,11 +18,10 @@ use Rattle.dn_rule_reading.proofs.Frees.{free_pages_are_counted}
 use Rattle.dn_table_changes.proofs.Rows.{all_listed, listed_here}
 use Rattle.fact_scan.specs.declared.row.Row.{Row}
 use Rattle.fact_scan.specs.Seen.{as_row}
-use Rattle.image_uses.specs.Uses.{IsCounted, HasReadLogs, MarksRows, HasSo}
+use Rattle.image_uses.specs.Uses.{IsCounted, HasReadLogs, MarksRows}
 use Rattle.dn_check.specs.declared.finding.Finding.{Finding}
-use Rattle.dn_check.specs.declared.finding.Finding.TheVariants.{Sound}
 use Rattle.dn_check.specs.declared.read.ImageRead.{ImageRead}
-use Rattle.dn_check.specs.Finding.{Tells, AreNumbersOf}
+use Rattle.dn_check.specs.Finding.{Tells}
 use Rattle.dn_check.specs.RowCounts.{IsNearBy, IsFirstFar, IsExactBy}
 use Rattle.dn_check.specs.Passing.{IsWhole, Passes, AreNumbersRead}
 use Rattle.dn_check.proofs.Sorting.{rows_sorted}
@@ -87,7 +84,7 @@ module _ (c : List ℕ) (g : Geometry) (read : ImageRead) (whole : IsWhole g rea
     far_is slot far =
         let rest = far.row ∷ far.rest in
         let in_front : (row : Row) → Contains far.front row → Contains found row =
-            λ row there. subst (λ (rs : List Row). Contains rs row) (sym far.split) (Contains-append_left far.front rest row there) in
+        λ row there. subst (λ (rs : List Row). Contains rs row) (sym far.split) (Contains-append_left far.front rest row there) in
         let here : Contains found far.row = subst (λ (rs : List Row). Contains rs far.row) (sym far.split) (in_rest far.front far.row far.rest) in
         let split : rows d ≡ map as_row far.front ++ as_row far.row ∷ map as_row far.rest = sym p.rows_are ∙ ap (map as_row) far.split ∙ map-append as_row far.front rest in
         subst (λ (n : ℕ). FaultOf c (BadCount n)) (sym far.slot_is)
@@ -139,11 +136,15 @@ module _ (c : List ℕ) (g : Geometry) (read : ImageRead) (whole : IsWhole g rea
         mapped_inside page is = (mapped_in_data d logs_read page is).high
 
         pub numbers_are : (finding : Finding) → AreNumbersRead read.logs found free finding → Tells c finding
-        numbers_are finding are = subst (Tells c) (sym are.is) (d, stands, record {
-          files_are = p.counted.files;
-          dying_are = p.counted.dying;
-          rows_are = rows_sorted found are.sorted are.same are.order d p.rows_are p.pointers.table.rows_apart;
-          mapped_are = mapped_total d are.mapped mapped_inside (are.mapped_is d read.logs.in_logs.items counted logs_read);
-          free_are = has_free;
-          exact_is = (λ t. exact_disk (are.exact_is.0 t), λ exact. are.exact_is.1 (disk_exact exact));
-        })
+        numbers_are finding are = subst (Tells c) (sym are.is) (
+          d,
+          stands,
+          record {
+            files_are = p.counted.files;
+            dying_are = p.counted.dying;
+            rows_are = rows_sorted found are.sorted are.same are.order d p.rows_are p.pointers.table.rows_apart;
+            mapped_are = mapped_total d are.mapped mapped_inside (are.mapped_is d read.logs.in_logs.items counted logs_read);
+            free_are = has_free;
+            exact_is = (λ t. exact_disk (are.exact_is.0 t), λ exact. are.exact_is.1 (disk_exact exact));
+          },
+        )

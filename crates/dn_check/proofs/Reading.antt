@@ -1,16 +1,15 @@
 -- An image whose inodes and logs have no fault is read up to its logs, and to its links, if it has no fault of these.
-use Rattle.std.proofs.Common.{◌≡◌, ⊎_elim, ℕ, ◌<◌, ◌≤◌, List, refl, sym, subst, arith}
+use Rattle.std.proofs.Common.{◌≡◌, ⊎_elim, ℕ, ◌<◌, ◌≤◌, List, refl, subst, arith}
 use Rattle.std.specs.Prelude.{slice_index}
-use Rattle.pm_device.specs.Reading.{Reads}
 use Rattle.pm_layout.specs.declared.Geometry.{Geometry}
 use Rattle.pm_layout.specs.Geometry.{inode_word}
 use Rattle.dn_model.specs.Rolled.{rolled}
 use Rattle.dn_model.specs.LogFault.{LogFault}
-use Rattle.dn_model.specs.Disk.{Disk, Use, Free, Live, Dying, InodesSay, at_state, IsUsed, state_number}
+use Rattle.dn_model.specs.Disk.{Disk, Use, Free, Live, Dying, at_state, IsUsed, state_number}
 use Rattle.dn_model.specs.Valid.{IsLinked}
-use Rattle.dn_model.specs.Faults.{IsLeast, HasGate, IsBadInode, HasInodes, HasLogs, HasLinks, geometry_of, FaultOf, not_an_image, wrong_version, bad_geometry, bad_journal, bad_inode, bad_log, bad_link, bad_table, bad_pointer, double_mapped, bad_count, crowded}
+use Rattle.dn_model.specs.Faults.{IsLeast, HasGate, IsBadInode, HasInodes, HasLogs, geometry_of, FaultOf, not_an_image, wrong_version, bad_geometry, bad_journal, bad_inode, bad_log, bad_link, bad_table, bad_pointer, double_mapped, bad_count, crowded}
 use Rattle.dn_model.specs.declared.fault.ImageFault.{ImageFault}
-use Rattle.dn_model.specs.declared.fault.ImageFault.TheVariants.{BadInode, BadLog, BadLink}
+use Rattle.dn_model.specs.declared.fault.ImageFault.TheVariants.{BadInode, BadLink}
 use Rattle.dn_image_reading.proofs.ImageRead.{read_to_links}
 use Rattle.dn_image_reading.proofs.Inodes.{read_disk, has_inodes}
 use Rattle.image_logs.specs.declared.logs.LogsFault.{LogsFault}

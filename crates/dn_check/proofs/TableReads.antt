@@ -1,5 +1,5 @@
 -- An image that is read up to its links, and the table of which is read, passes the rules up to its pointers.
-use Rattle.std.proofs.Common.{◌≡◌, inl, inr, ℕ, ◌+◌, ◌*◌, ◌<◌, ◌≤◌, List, map, get_or, Vec, Global, refl, sym, ◌∙◌, ap, subst, arith}
+use Rattle.std.proofs.Common.{◌≡◌, inl, inr, ℕ, ◌+◌, ◌<◌, ◌≤◌, List, map, get_or, Vec, Global, refl, sym, ◌∙◌, ap, subst, arith}
 use Rattle.std.specs.Prelude.{slice_index, Contains, All, Bool, true, false, not, ◌==◌, Option, Some, None, is_some, IsSome, IsNone}
 use Rattle.std.proofs.lemmas.Bool.{cases_eq, cases_lt}
 use Rattle.std.proofs.lemmas.List.Elements.{Contains-get_or}
@@ -8,9 +8,9 @@ use Rattle.pm_layout.specs.declared.Geometry.{Geometry}
 use Rattle.pm_layout.specs.Geometry.{directs, slots, pointer_word}
 use Rattle.dn_model.specs.Rolled.{rolled}
 use Rattle.dn_model.specs.Table.{Row as TableRow, row_of}
-use Rattle.dn_model.specs.Disk.{Disk, PointersSay, PagesSay, rows}
-use Rattle.dn_model.specs.Faults.{IsLeast, HasLinks, HasTable, HasPointers, geometry_of, FaultOf, bad_table, bad_pointer, TableFault}
-use Rattle.dn_model.specs.declared.fault.ImageFault.TheVariants.{BadTable, BadPointer}
+use Rattle.dn_model.specs.Disk.{Disk, PagesSay, rows}
+use Rattle.dn_model.specs.Faults.{IsLeast, HasLinks, HasTable, HasPointers, FaultOf, bad_table, bad_pointer, TableFault}
+use Rattle.dn_model.specs.declared.fault.ImageFault.TheVariants.{BadPointer}
 use Rattle.dn_table_changes.proofs.Rows.{same_test, other_test, none_found, row_found}
 use Rattle.dn_table_reading.specs.Tables.{HasChains}
 use Rattle.dn_rule_reading.proofs.ReadDisk.{read_disk, has_table, pointers_read}
@@ -24,7 +24,6 @@ use Rattle.fact_table.proofs.Whole.{page_small, disk_of, wrong_bad, bad_wrong, a
 use Rattle.image_logs.specs.declared.logs.LogsRead.{LogsRead}
 use Rattle.image_logs.specs.Logs.{AreRead, IsSaid}
 use Rattle.dn_check.specs.Halting.{halt_of_scan}
-use Rattle.dn_check.specs.declared.read.ImageRead.{ImageRead}
 use Rattle.dn_check.specs.declared.read.TableRead.{TableRead}
 use Rattle.dn_check.specs.Passing.{IsRolled, IsTableHalt, IsMisled, IsTableRead, Marks, Passes, AreLinked, IsReadOfEach}
 use Rattle.dn_check.proofs.Reading.{along, said}

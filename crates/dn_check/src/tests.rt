@@ -7,13 +7,7 @@ use std::test::Fail;
 const WORDS: usize = 32768;
 
 // 64 pages and 8 inodes, without files.
-const EMPTY: [(usize, u64); 5] = [
-    (0, 0x313041564F4E4544),
-    (1, 1),
-    (2, 64),
-    (3, 8),
-    (1024, 1),
-];
+const EMPTY: [(usize, u64); 5] = [(0, 0x313041564F4E4544), (1, 1), (2, 64), (3, 8), (1024, 1)];
 
 // The log of the root is page 6, with the names a and b. The logs of the files are pages 7 and 9, and both map page 8.
 // Its row is that of slot 5, with a count of 2.
@@ -78,10 +72,7 @@ const EMPTY_FAULTS: [([(usize, u64); 3], ImageFault); 9] = [
         [(1072, 3), (1536, 5), NONE],
         ImageFault::BadInode { ino: 3 },
     ),
-    (
-        [(1072, 1), (1536, 5), NONE],
-        ImageFault::BadLink { ino: 3 },
-    ),
+    ([(1072, 1), (1536, 5), NONE], ImageFault::BadLink { ino: 3 }),
     (
         [(1536, 5), (2568, 129), NONE],
         ImageFault::BadTable { slot: 0 },
@@ -223,7 +214,10 @@ fn faults_without_files(rt: HostRuntime) -> Result<(), Fail> {
         assert_eq!(rt; fault_of(&check_words(alloc, image)?), Some(fault));
     }
     let short = vec![in alloc; 0; WORDS - 1]?;
-    assert_eq!(rt; fault_of(&check(alloc, &short)?), Some(ImageFault::NotAnImage));
+    assert_eq!(rt;
+        fault_of(&check(alloc, &short)?),
+        Some(ImageFault::NotAnImage)
+    );
     Ok(())
 }
 
@@ -236,7 +230,10 @@ fn faults_with_files(rt: HostRuntime) -> Result<(), Fail> {
     }
     let mut image = shared_image(alloc, &UNSHARED)?;
     put(&mut image, &[(1536, 0), (2568, 0), (4611, 8)]);
-    assert_eq!(rt; fault_of(&check(alloc, &image)?), Some(ImageFault::DoubleMapped { page: 8 }));
+    assert_eq!(rt;
+        fault_of(&check(alloc, &image)?),
+        Some(ImageFault::DoubleMapped { page: 8 })
+    );
     Ok(())
 }
 

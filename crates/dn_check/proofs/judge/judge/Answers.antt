@@ -1,9 +1,6 @@
-use Rattle.std.proofs.Common.{ℕ, List, ◌<◌, ◌≤◌, sym, subst, arith}
+use Rattle.std.proofs.Common.{ℕ, List, subst, arith}
 use Rattle.std.specs.Prelude.{All}
 use Rattle.fact_scan.specs.declared.row.Row.{Row}
-use Rattle.dn_model.specs.Disk.{Disk}
-use Rattle.dn_model.specs.Faults.{IsDouble, HasFree}
-use Rattle.image_uses.specs.Uses.{IsCounted, MarksRows, HasReadLogs}
 use Rattle.dn_check.specs.RowCounts.{IsNearBy, IsFirstFar}
 use Rattle.dn_check.proofs.Judging.{counted_as, marks_as, double_is, far_is, crowded_is, numbers_are}
 use Rattle.dn_check.proofs.judge.judge.Goals as goal

@@ -1,4 +1,4 @@
-use Rattle.std.proofs.Common.{◌≡◌, Bool, true, List, refl, ap, subst}
+use Rattle.std.proofs.Common.{◌≡◌, true, List, refl, ap, subst}
 use Rattle.std.specs.Prelude.{◌↔◌, All}
 use Rattle.fact_scan.specs.declared.row.Row.{Row}
 use Rattle.dn_check.specs.declared.finding.Finding.TheVariants.{Sound}

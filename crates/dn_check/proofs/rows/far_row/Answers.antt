@@ -1,4 +1,4 @@
-use Rattle.std.proofs.Common.{List, [], get_or}
+use Rattle.std.proofs.Common.{[], get_or}
 use Rattle.fact_scan.specs.declared.row.Row.{Row}
 use Rattle.image_head.proofs.Refuted.{refuted}
 use Rattle.dn_check.specs.RowCounts.{IsNearBy}
