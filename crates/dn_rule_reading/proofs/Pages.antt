@@ -131,7 +131,7 @@ set_in_data g ino items idx m standing s = by_inode ino (All-contains (MayStand 
     by_inode (suc i) may = record { low = omega (arith, s.is, may.0.low); high = omega (arith, s.is, s.low, s.high, may.1.high) }
 
 module _ (d : Disk) (logs : (ino : ℕ) → ino < d.geometry.inodes → IsUsed (d.inode ino).use_of → IsLog d.geometry ino (d.inode ino).log) where
-  mapped_in_data : (page : ℕ) → IsMapped d page → InData d.geometry page
+  pub mapped_in_data : (page : ℕ) → IsMapped d page → InData d.geometry page
   unfolding maps
   mapped_in_data page m =
       let to = m.maps_to in

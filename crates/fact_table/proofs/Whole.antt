@@ -85,11 +85,11 @@ module _ (g : Geometry) (words : List ℕ) (rs : List Row) (has : HasRows g word
       some_one r s e = cc
 
   module _ (wanted : List ℕ) (are : ArePointers g rs wanted) where
-    wrong_bad : (page : ℕ) → IsWrong g words wanted page → IsBadPointer d page
+    pub wrong_bad : (page : ℕ) → IsWrong g words wanted page → IsBadPointer d page
     wrong_bad page (inl past) = inl past
     wrong_bad page (inr other) = let row = are.leads page other.0 in inr (row.0, into row.0 row.1, row.2, λ e. other.1 (e ∙ sym row.3))
 
-    bad_wrong : (page : ℕ) → IsBadPointer d page → IsWrong g words wanted page
+    pub bad_wrong : (page : ℕ) → IsBadPointer d page → IsWrong g words wanted page
     bad_wrong page (inl past) = inl past
     bad_wrong page (inr bad) =
         let row = bad.0 in

@@ -60,8 +60,8 @@ impl From<AllocError> for FactFault {
     }
 }
 
-// For each page the slot of its row plus 1, or 0 where no row has the page.
-fn pointers_of(alloc: Global, g: &Geometry, rows: &[Row]) -> Result<Vec<u64>, AllocError>
+/// For each page what its pointer is to be: the slot of its row plus 1, or 0 where no row has the page.
+pub fn pointers_of(alloc: Global, g: &Geometry, rows: &[Row]) -> Result<Vec<u64>, AllocError>
     requires pages { All (λ row. row.page < g.now.pages) rows.now }
     requires slots { All (λ row. row.slot < slots g.now) rows.now }
     requires accepted { IsAccepted g.now }
@@ -87,8 +87,8 @@ fn is_wrong<D: Pm>(device: &D, g: &Geometry, wanted: &[u64], page: u64) -> bool
     pointer > g.slots() || (row != 0 && pointer != row)
 }
 
-// The least page whose pointer is wrong.
-fn wrong_pointer<D: Pm>(device: &D, g: &Geometry, wanted: &[u64]) -> Option<u64>
+/// The least page whose pointer is wrong: above the number of slots, or not the one that is wanted of a page with a row.
+pub fn wrong_pointer<D: Pm>(device: &D, g: &Geometry, wanted: &[u64]) -> Option<u64>
     requires accepted { IsAccepted g.now }
     requires size { length (D.state device.now).now ≡ 512 * g.now.pages }
     requires all { length wanted.now ≡ g.now.pages }

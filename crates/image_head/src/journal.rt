@@ -52,16 +52,26 @@ pub(crate) fn is_gate(image: &[u64], g: &Geometry) -> bool
     gate <= MOST_CHANGES && are_changes(g, &pairs[..gate as usize])
 }
 
-/// The image once more, rolled back: the old values of its journal's pairs are put back, and the gate is closed.
+/// Rolls the image back: the old values of its journal's pairs are put back, and the gate is closed.
+pub fn roll(image: &mut [u64])
+    requires { HasGate image.old }
+    ensures { image.new ≡ rolled image.old }
+{
+    let open = image[GATE] as usize;
+    let pairs = read_pairs(image);
+    for i in 0..open {
+        image[pairs[i].at as usize] = pairs[i].value;
+    }
+    image[GATE] = 0;
+}
+
+/// The image once more, rolled back.
 pub fn rolled_copy(alloc: Global, image: &[u64]) -> Result<Vec<u64>, AllocError>
     requires { HasGate image.now }
     ensures rolled { IfOk result (λ words. words.items ≡ rolled image.now) }
     ensures size { IfOk result (λ words. length words.items ≡ length image.now) }
 {
     let mut words = Vec::from_slice(alloc, image)?;
-    for i in 0..image[GATE] as usize {
-        words[image[PAIRS + 2 * i] as usize] = image[PAIRS + 1 + 2 * i];
-    }
-    words[GATE] = 0;
+    roll(&mut words);
     Ok(words)
 }

@@ -14,4 +14,4 @@ mod tests;
 
 pub use head::{geometry_of, head_fault};
 pub use inodes::{InodeUse, inode_fault, use_of_inode};
-pub use journal::rolled_copy;
+pub use journal::{roll, rolled_copy};
