@@ -10,9 +10,9 @@ use Rattle.dn_model.specs.Empty.{IsFormatting, IsFormatted}
 use Rattle.recovery.specs.declared.empty.FormatFault.{FormatFault}
 use Rattle.recovery.specs.declared.empty.FormatFault.TheVariants as format
 use Rattle.recovery.proofs.EmptyDisk.{free}
-use Rattle.denova_cli.specs.Report.{formatted_text}
+use Rattle.dn_report.specs.Report.{formatted_text}
 use Rattle.denova_cli.specs.Make.{HasFormatted, HasFailed, RefusedTells, MakeTells}
-use Rattle.denova_cli.specs.declared.report.Cause.TheVariants.{WrongSize}
+use Rattle.dn_report.specs.declared.report.Cause.TheVariants.{WrongSize}
 use Rattle.denova_cli.specs.declared.make.MakeOutcome.{MakeOutcome}
 use Rattle.denova_cli.specs.declared.make.MakeOutcome.TheVariants.{Formatted, Refused, Stopped, NoMemory}
 

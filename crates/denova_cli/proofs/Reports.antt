@@ -3,7 +3,7 @@ use Rattle.std.proofs.Common.{◌≡◌, ◌∷◌, [], ◌++◌, ◌+◌, ◌<�
 use Rattle.std.proofs.lemmas.List.Concat.{flat_map-append}
 use Rattle.std.proofs.lemmas.List.{append-nil}
 use Rattle.dn_model.specs.declared.op.Entry.{Entry}
-use Rattle.denova_cli.specs.Report.{Answered, history_line, history_text, report_text, last_line}
+use Rattle.dn_report.specs.Report.{Answered, history_line, history_text, report_text, last_line}
 use Rattle.denova_cli.specs.Apply.{answered}
 
 abbrev one_line : ℕ → Entry → Answered

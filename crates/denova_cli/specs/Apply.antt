@@ -20,7 +20,7 @@ use Rattle.dn_model.specs.Runs.{Runs}
 use Rattle.dn_model.specs.Runs.{ops_of, HasStopped, LacksMemory}
 use Rattle.one_file.specs.Held.{IsDiskOf}
 use Rattle.one_file.specs.declared.file.OneFile.{OneFile}
-use Rattle.denova_cli.specs.Report.{Answered, history_text, report_text, bad_line_text, unbuilt_text, stopped_text, read_fault_text, no_memory_text, too_long_text}
+use Rattle.dn_report.specs.Report.{Answered, history_text, report_text, bad_line_text, unbuilt_text, stopped_text, read_fault_text, no_memory_text, too_long_text}
 use Rattle.denova_cli.specs.Job.{Ops, BadAt, job_of}
 use Rattle.denova_cli.specs.declared.job.NumberedOp.{NumberedOp}
 use Rattle.denova_cli.specs.declared.job.JobFault.{JobFault}

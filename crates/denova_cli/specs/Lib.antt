@@ -1,6 +1,6 @@
 pub mod Job
-pub mod Report
 pub mod Apply
 pub mod Make
+pub mod Check
 pub mod Tool
 pub mod Words

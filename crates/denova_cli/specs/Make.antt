@@ -8,9 +8,9 @@ use Rattle.pm_layout.specs.declared.GeometryFault.TheVariants as few
 use Rattle.pm_layout.specs.Geometry.{IsAccepted, LacksRoom, first_data}
 use Rattle.dn_model.specs.Faults.{HasFree}
 use Rattle.dn_model.specs.Empty.{empty_disk, IsFormatting, IsFormatted}
-use Rattle.denova_cli.specs.Report.{formatted_text, refused_text, stopped_text, no_memory_text}
-use Rattle.denova_cli.specs.declared.report.Cause.{Cause}
-use Rattle.denova_cli.specs.declared.report.Cause.TheVariants.{TooFewPages, TooManyPages, BadInodes, WrongSize}
+use Rattle.dn_report.specs.Report.{formatted_text, refused_text, stopped_text, no_memory_text}
+use Rattle.dn_report.specs.declared.report.Cause.{Cause}
+use Rattle.dn_report.specs.declared.report.Cause.TheVariants.{TooFewPages, TooManyPages, BadInodes, WrongSize}
 use Rattle.denova_cli.specs.declared.make.MakeOutcome.{MakeOutcome}
 use Rattle.denova_cli.specs.declared.make.MakeOutcome.TheVariants.{Formatted, Refused, Stopped, NoMemory}
 

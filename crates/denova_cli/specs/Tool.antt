@@ -9,29 +9,32 @@ use Rattle.dn_model.specs.OneFile.{IsOneFile}
 use Rattle.dn_model.specs.Empty.{empty_disk, IsFormatting, IsFormatted}
 use Rattle.dn_script.specs.Streams.{with_back}
 use Rattle.dn_script.specs.Text.{lines}
-use Rattle.denova_cli.specs.Report.{bad_line_text, usage_text, unbuilt_text, stopped_text, read_fault_text, no_memory_text, too_long_text, formatted_text, refused_text}
+use Rattle.dn_report.specs.Report.{bad_line_text, usage_text, unbuilt_text, stopped_text, read_fault_text, no_memory_text, too_long_text, formatted_text, refused_text}
 use Rattle.denova_cli.specs.Words.{IsCommand}
 use Rattle.denova_cli.specs.Job.{Ops, job_of}
 use Rattle.denova_cli.specs.Apply.{HasJob, HasBadLine, ops_in, lines_in, apply_status, apply_text, HasRunAll, HasStoppedIn, OfOneFile, IsNoOneFile, HasLackedMemory, ApplyTells}
+use Rattle.denova_cli.specs.Check.{check_status, check_text, HasFound, HasFaulty, CheckTells}
 use Rattle.denova_cli.specs.Make.{geometry, IsCause, make_status, make_text, MakeTells}
 use Rattle.denova_cli.specs.declared.words.Command.{Command}
 use Rattle.denova_cli.specs.declared.words.Command.TheVariants as command
 use Rattle.denova_cli.specs.declared.job.NumberedOp.{NumberedOp}
-use Rattle.denova_cli.specs.declared.report.Cause.{Cause}
+use Rattle.dn_report.specs.declared.report.Cause.{Cause}
 use Rattle.denova_cli.specs.declared.make.MakeOutcome.{MakeOutcome}
 use Rattle.denova_cli.specs.declared.tool.Outcome.{Outcome}
-use Rattle.denova_cli.specs.declared.tool.Outcome.TheVariants.{Usage, Apply as ByApply, Format as ByFormat}
+use Rattle.denova_cli.specs.declared.tool.Outcome.TheVariants.{Usage, Apply as ByApply, Format as ByFormat, Check as ByCheck}
 
 -- the status of an outcome, and its text
 abbrev pub status_of : Outcome → ℕ
 status_of Usage = 1
 status_of (ByApply outcome) = apply_status outcome
 status_of (ByFormat outcome) = make_status outcome
+status_of (ByCheck outcome) = check_status outcome
 
 abbrev pub text_of : Outcome → List ℕ
 text_of Usage = usage_text
 text_of (ByApply outcome) = apply_text outcome
 text_of (ByFormat outcome) = make_text outcome
+text_of (ByCheck outcome) = check_text outcome
 
 -- a sink has taken a front of a text behind what it had
 abbrev pub TookFront : List ℕ → Option (List ℕ) → Option (List ℕ) → Type 0
@@ -61,6 +64,7 @@ abbrev pub Tells : List (List ℕ) → Option (List ℕ) → ℕ → ℕ → Sta
 Tells words left old new s t Usage = (t ≡ s) × IsNoCommand words
 Tells words left old new s t (ByApply outcome) = IsCommand words command.Apply × ApplyTells left old new s t outcome
 Tells words left old new s t (ByFormat outcome) = MadeBy words s t outcome
+Tells words left old new s t (ByCheck outcome) = IsCommand words command.Check × (t ≡ s) × CheckTells s.now outcome
 
 -- the call ended with this status, for an outcome that was told
 pub record Ended (words : List (List ℕ)) (left : Option (List ℕ)) (old new : ℕ) (s t : State) (had has : Option (List ℕ)) (sink_old sink_new status : ℕ) : Type 0 where
@@ -217,4 +221,32 @@ pub record IsRefusable (words : List (List ℕ)) (s : State) (sink_old sink_new 
   pub command : IsCommand words (command.Format pages inodes)
   pub cause : Cause
   pub is : IsCause pages inodes s.now cause
+  pub sink_well : Rose sink_old sink_new → ⊥
+
+-- Status 0 of `check`: the words have no fault, and the sink has taken the text of the numbers and rows of the disk that they
+-- stand for.
+pub record IsChecked (words : List (List ℕ)) (s t : State) (had has : Option (List ℕ)) : Type 0 where
+  pub command : IsCommand words command.Check
+  pub text : List ℕ
+  pub found : HasFound s.now text
+  pub same : t ≡ s
+  pub written : has ≡ with_back had text
+
+-- status 3 of `check`: the words have a first fault, and the sink has taken its text
+pub record IsFaulty (words : List (List ℕ)) (s t : State) (had has : Option (List ℕ)) : Type 0 where
+  pub command : IsCommand words command.Check
+  pub text : List ℕ
+  pub faulty : HasFaulty s.now text
+  pub same : t ≡ s
+  pub written : has ≡ with_back had text
+
+-- status 7 of `check`: memory ran out
+pub record IsUnchecked (words : List (List ℕ)) (s t : State) (had has : Option (List ℕ)) : Type 0 where
+  pub command : IsCommand words command.Check
+  pub same : t ≡ s
+  pub written : has ≡ with_back had no_memory_text
+
+-- the words give the command `check`, and the sink didn't fail
+pub record IsCheckable (words : List (List ℕ)) (sink_old sink_new : ℕ) : Type 0 where
+  pub command : IsCommand words command.Check
   pub sink_well : Rose sink_old sink_new → ⊥

@@ -3,7 +3,7 @@ use Rattle.std.specs.Prelude.{◌≡◌, ℕ, Bool, not, ◌&&◌, ◌==◌, if�
 use Rattle.std.specs.List.{list_all}
 use Rattle.dn_script.specs.Text.{number_of}
 use Rattle.denova_cli.specs.declared.words.Command.{Command}
-use Rattle.denova_cli.specs.declared.words.Command.TheVariants.{Apply, Format}
+use Rattle.denova_cli.specs.declared.words.Command.TheVariants.{Apply, Format, Check}
 
 -- a word that doesn't begin with the byte 45, `-`
 abbrev pub is_plain : List ℕ → Bool
@@ -16,7 +16,7 @@ format_of first second = option_and_then (λ pages. option_map (λ inodes. Forma
 -- the command of the words behind the image: its own name first
 abbrev pub order_of : List (List ℕ) → Option Command
 order_of [] = None
-order_of (name ∷ []) = if bytes_eq name (codes "apply") then Some Apply else None
+order_of (name ∷ []) = if bytes_eq name (codes "apply") then Some Apply else (if bytes_eq name (codes "check") then Some Check else None)
 order_of (name ∷ first ∷ []) = None
 order_of (name ∷ first ∷ second ∷ []) = if bytes_eq name (codes "format") then format_of first second else None
 order_of (name ∷ first ∷ second ∷ third ∷ words) = None

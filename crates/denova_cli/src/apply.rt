@@ -5,14 +5,14 @@ ghost use Rattle.pm_device.specs.Settled.{Still};
 ghost use Rattle.one_file.specs.Held.{Agrees, IsDiskOf};
 ghost use Rattle.one_file.specs.Answer.{IsServed};
 ghost use Rattle.one_file_open.specs.Opened.{IsOpened};
-ghost use Rattle.denova_cli.specs.Report.{history_text, report_text, bad_line_text, stopped_text};
+ghost use Rattle.dn_report.specs.Report.{history_text, report_text, bad_line_text, stopped_text};
 ghost use Rattle.denova_cli.specs.Apply.{HasText, HasJob, answered, ops_in, lines_in, apply_status, apply_text, ReadTells, JobFaultTells, JobTells, EndTells, RunTells, OpsTell, ApplyTells};
 
 use crate::job::{JobFault, NumberedOp, read_ops};
-use crate::report::{
+use dn_model::{Entry, Op};
+use dn_report::report::{
     NO_MEMORY, READ_FAULT, STOPPED, TOO_LONG, UNBUILT, write_bad_line, write_end, write_line,
 };
-use dn_model::{Entry, Op};
 use dn_script::{ReadFault, Source, read_to_end};
 use one_file::answer::RunFault;
 use one_file::{OneFile, free_pages, run};

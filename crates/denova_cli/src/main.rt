@@ -3,24 +3,24 @@
 
 ghost use Rattle.std.specs.Prelude.{◌≡◌, ◌⊎◌, IfOk};
 ghost use Rattle.pm_device.specs.Settled.{Still};
-ghost use Rattle.denova_cli.specs.Report.{bad_length_text};
+ghost use Rattle.dn_report.specs.Report.{bad_length_text};
 
 mod apply;
+mod check;
 mod job;
 mod make;
-mod report;
 mod streams;
 #[cfg(test)]
 mod tests;
 mod tool;
 mod words;
 
+use dn_report::report::{CANNOT_OPEN, NO_MEMORY, write_bad_length};
 use dn_script::write_all;
 use fingerprint::Sha1Print;
 use pm_device::{MemPm, Pm};
 use pm_file::{FilePm, OpenFault};
 use pm_layout::Geometry;
-use report::{CANNOT_OPEN, NO_MEMORY, write_bad_length};
 use std::alloc::{AllocError, Global};
 use std::io::{Input, Write};
 use std::process::ExitCode;
@@ -89,7 +89,7 @@ enum ImageFile {
 // What these words want of the file that the first one names.
 fn image_file_of(words: &[String]) -> ImageFile {
     match command_of(words) {
-        Some(Command::Apply) => ImageFile::Kept,
+        Some(Command::Apply | Command::Check) => ImageFile::Kept,
         Some(Command::Format { pages, inodes }) if Geometry::of(pages, inodes).is_ok() => {
             ImageFile::New { pages }
         }

@@ -2,10 +2,10 @@
 ghost use Rattle.std.specs.Prelude.{◌≡◌, ◌-◌, ◌≤◌, IfOk};
 ghost use Rattle.pm_device.specs.Settled.{Still};
 ghost use Rattle.pm_layout.specs.Geometry.{IsAccepted, first_data};
-ghost use Rattle.denova_cli.specs.Report.{formatted_text, refused_text};
+ghost use Rattle.dn_report.specs.Report.{formatted_text, refused_text};
 ghost use Rattle.denova_cli.specs.Make.{make_status, make_text, cause_of, RefusedTells, MakeTells};
 
-use crate::report::{Cause, NO_MEMORY, STOPPED, write_formatted, write_refused};
+use dn_report::report::{Cause, NO_MEMORY, STOPPED, write_formatted, write_refused};
 use pm_device::Pm;
 use pm_layout::{Geometry, GeometryFault};
 use recovery::{FormatFault, format};

@@ -316,3 +316,34 @@ fn a_making_stops_and_its_text_fails(rt: HostRuntime) -> Result<(), Fail> {
     assert_eq!(rt; image.get(2), Some(&64));
     Ok(())
 }
+
+// The words of the first image, some of which are set otherwise.
+fn changed(alloc: Global, changes: &[(usize, u64)]) -> Result<Vec<u64>, AllocError> {
+    image_of(alloc, &[&FIRST, &WRITTEN, changes])
+}
+
+#[test]
+fn images_are_checked(rt: HostRuntime) -> Result<(), Fail> {
+    let table: [(&[(usize, u64)], u8, &str); 8] = [
+        (&[], 0, "ok files 1 dying 0 rows 0 mapped 1 free 55 exact\n"),
+        (
+            &[(1041, 0), (1042, 0)],
+            0,
+            "ok files 1 dying 0 rows 0 mapped 0 free 57 exact\n",
+        ),
+        (&[(0, 0)], 3, "refused not-an-image\n"),
+        (&[(1, 2)], 3, "refused wrong-version 2\n"),
+        (&[(2, 63)], 3, "refused bad-geometry\n"),
+        (&[(512, 5)], 3, "refused bad-journal\n"),
+        (&[(1042, 450)], 3, "refused bad-log 1 1\n"),
+        (&[(2568, 129)], 3, "refused bad-pointer 8\n"),
+    ];
+    for (changes, status, text) in table {
+        let image = changed(rt.alloc(), changes)?;
+        let (told, written, device) = ended(rt.alloc(), &["img", "check"], image, "", (0, 0, 0))?;
+        assert_eq!(rt; told, status, "at {changes:?}");
+        assert_eq!(rt; written.as_slice(), text.as_bytes());
+        assert_eq!(rt; device.moment(), 0);
+    }
+    Ok(())
+}

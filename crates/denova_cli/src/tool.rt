@@ -1,12 +1,16 @@
 // What the program does for the words after its name.
 ghost use Rattle.std.specs.Prelude.{◌≡◌, ◌⊎◌, ◌≤◌, map, string_bytes, IfOk, vec_len, ◌%◌};
 ghost use Rattle.pm_device.specs.Settled.{Still};
-ghost use Rattle.denova_cli.specs.Tool.{status_of, text_of, IsTold, Tells, MadeBy, Ended, IsNoCommand, IsApplied, IsUsage, IsBadJob, IsUnbuilt, IsStopped, IsUnread, IsUnwritten, IsWithoutMemory, IsTooLong, IsServable, IsMade, IsHalfMade, IsUnmade, IsRefused, IsMakable, IsRefusable};
+ghost use Rattle.denova_cli.specs.Tool.{status_of, text_of, IsTold, Tells, MadeBy, Ended, IsNoCommand, IsApplied, IsUsage, IsBadJob, IsUnbuilt, IsStopped, IsUnread, IsUnwritten, IsWithoutMemory, IsTooLong, IsServable, IsMade, IsHalfMade, IsUnmade, IsRefused, IsMakable, IsRefusable, IsChecked, IsFaulty, IsUnchecked, IsCheckable};
+ghost use Rattle.dn_model.specs.Image.{HasNoFault};
+ghost use Rattle.dn_model.specs.Faults.{FaultOf};
+ghost use Rattle.dn_model.specs.declared.fault.ImageFault.{ImageFault};
 
 use crate::apply::{ApplyOutcome, apply};
+use crate::check::{CheckOutcome, check_image};
 use crate::make::{MakeOutcome, make_image};
-use crate::report::USAGE;
 use crate::words::{Command, command_of};
+use dn_report::report::USAGE;
 use dn_script::{Sink, Source, write_all};
 use fingerprint::Fingerprint;
 use pm_device::Pm;
@@ -24,6 +28,8 @@ pub enum Outcome {
     Apply(ApplyOutcome),
     /// The command `format` ended so.
     Format(MakeOutcome),
+    /// The command `check` ended so.
+    Check(CheckOutcome),
 }
 
 impl Outcome {
@@ -35,6 +41,7 @@ impl Outcome {
             Outcome::Usage => 1,
             Outcome::Apply(outcome) => outcome.status(),
             Outcome::Format(outcome) => outcome.status(),
+            Outcome::Check(outcome) => outcome.status(),
         }
     }
 
@@ -46,6 +53,7 @@ impl Outcome {
             Outcome::Usage => USAGE,
             Outcome::Apply(outcome) => outcome.text(),
             Outcome::Format(outcome) => outcome.text(),
+            Outcome::Check(outcome) => outcome.text(),
         }
     }
 }
@@ -83,6 +91,10 @@ fn outcome_of<D: Pm, S: Source>(
             let outcome = make_image(alloc, &mut device, pages, inodes);
             (Outcome::Format(outcome), device)
         }
+        Some(Command::Check) => {
+            let outcome = check_image(alloc, &device);
+            (Outcome::Check(outcome), device)
+        }
         None => (Outcome::Usage, device),
     }
 }
@@ -117,8 +129,11 @@ fn call<D: Pm, S: Source, K: Sink>(
 /// `IMAGE format PAGES INODES` makes a file system without files on a device of that size, and writes `formatted PAGES
 /// INODES FREE`. A stop leaves the words as they were, or no image, or the file system.
 ///
+/// `IMAGE check` only reads: it writes the first fault of the image, or `ok`, the numbers of its files and pages and a
+/// line for each row of the table of fingerprints.
+///
 /// Status 0 is that of a whole run. At 1 the words give no command, at 2 the job has a line that is no command, at 3
-/// the image is none that is served, at 4 the device failed, at 5 the input, at 6 the output. At 7 memory ran out. At
+/// the image is none that is served, or has a fault, at 4 the device failed, at 5 the input, at 6 the output. At 7 memory ran out. At
 /// 8 the job is longer than 16,777,216 bytes. At 11 the numbers of a file system or the device's size are refused.
 pub fn tool<D: Pm, F: Fingerprint + Drop, S: Source, K: Sink>(
     alloc: Global,
@@ -129,15 +144,15 @@ pub fn tool<D: Pm, F: Fingerprint + Drop, S: Source, K: Sink>(
     out: &mut K,
 ) -> (u8, D)
     requires still { Still (D.state device) }
-    ensures done { result.0 ≡ 0 → IsApplied (map string_bytes words.now) (S.left input.old) (D.state device) (D.state result.1) (K.taken out.old) (K.taken out.new) ⊎ IsMade (map string_bytes words.now) (D.state device) (D.state result.1) (K.taken out.old) (K.taken out.new) }
+    ensures done { result.0 ≡ 0 → IsApplied (map string_bytes words.now) (S.left input.old) (D.state device) (D.state result.1) (K.taken out.old) (K.taken out.new) ⊎ IsMade (map string_bytes words.now) (D.state device) (D.state result.1) (K.taken out.old) (K.taken out.new) ⊎ IsChecked (map string_bytes words.now) (D.state device) (D.state result.1) (K.taken out.old) (K.taken out.new) }
     ensures usage { result.0 ≡ 1 → IsUsage (map string_bytes words.now) (D.state device) (D.state result.1) (K.taken out.old) (K.taken out.new) }
     ensures no_command { IsNoCommand (map string_bytes words.now) → (result.0 ≡ 1) ⊎ (result.0 ≡ 6) }
     ensures bad_job { result.0 ≡ 2 → IsBadJob (map string_bytes words.now) (S.left input.old) (D.state device) (D.state result.1) (K.taken out.old) (K.taken out.new) }
-    ensures unbuilt { result.0 ≡ 3 → IsUnbuilt (map string_bytes words.now) (S.left input.old) (D.state device) (D.state result.1) (K.taken out.old) (K.taken out.new) }
+    ensures unbuilt { result.0 ≡ 3 → IsUnbuilt (map string_bytes words.now) (S.left input.old) (D.state device) (D.state result.1) (K.taken out.old) (K.taken out.new) ⊎ IsFaulty (map string_bytes words.now) (D.state device) (D.state result.1) (K.taken out.old) (K.taken out.new) }
     ensures stopped { result.0 ≡ 4 → IsStopped (map string_bytes words.now) (S.left input.old) (D.state device) (D.state result.1) (K.taken out.old) (K.taken out.new) ⊎ IsHalfMade (map string_bytes words.now) (D.state device) (D.state result.1) (K.taken out.old) (K.taken out.new) }
     ensures unread { result.0 ≡ 5 → IsUnread (map string_bytes words.now) (S.faults input.old) (S.faults input.new) (D.state device) (D.state result.1) (K.taken out.old) (K.taken out.new) }
     ensures unwritten { result.0 ≡ 6 → IsUnwritten (map string_bytes words.now) (S.left input.old) (S.faults input.old) (S.faults input.new) (D.state device) (D.state result.1) (K.taken out.old) (K.taken out.new) (K.faults out.old) (K.faults out.new) }
-    ensures no_memory { result.0 ≡ 7 → IsWithoutMemory (map string_bytes words.now) (S.left input.old) (D.state device) (D.state result.1) (K.taken out.old) (K.taken out.new) ⊎ IsUnmade (map string_bytes words.now) (D.state device) (D.state result.1) (K.taken out.old) (K.taken out.new) }
+    ensures no_memory { result.0 ≡ 7 → IsWithoutMemory (map string_bytes words.now) (S.left input.old) (D.state device) (D.state result.1) (K.taken out.old) (K.taken out.new) ⊎ IsUnmade (map string_bytes words.now) (D.state device) (D.state result.1) (K.taken out.old) (K.taken out.new) ⊎ IsUnchecked (map string_bytes words.now) (D.state device) (D.state result.1) (K.taken out.old) (K.taken out.new) }
     ensures too_long { result.0 ≡ 8 → IsTooLong (map string_bytes words.now) (S.left input.old) (D.state device) (D.state result.1) (K.taken out.old) (K.taken out.new) }
     ensures refused { result.0 ≡ 11 → IsRefused (map string_bytes words.now) (D.state device) (D.state result.1) (K.taken out.old) (K.taken out.new) }
     ensures known { (result.0 ≤ 8) ⊎ (result.0 ≡ 11) }
@@ -151,6 +166,8 @@ pub fn tool<D: Pm, F: Fingerprint + Drop, S: Source, K: Sink>(
     ensures complete { IsServable (map string_bytes words.now) (S.left input.old) (S.faults input.old) (S.faults input.new) (D.state device) (D.state result.1) (K.faults out.old) (K.faults out.new) → (result.0 ≡ 0) ⊎ (result.0 ≡ 7) }
     ensures makes { IsMakable (map string_bytes words.now) (D.state device) (D.state result.1) (K.faults out.old) (K.faults out.new) → (result.0 ≡ 0) ⊎ (result.0 ≡ 7) }
     ensures refuses { IsRefusable (map string_bytes words.now) (D.state device) (K.faults out.old) (K.faults out.new) → (result.0 ≡ 11) ⊎ (result.0 ≡ 7) }
+    ensures finds { IsCheckable (map string_bytes words.now) (K.faults out.old) (K.faults out.new) → HasNoFault (D.state device).now → (result.0 ≡ 0) ⊎ (result.0 ≡ 7) }
+    ensures faults { IsCheckable (map string_bytes words.now) (K.faults out.old) (K.faults out.new) → (fault : ImageFault) → FaultOf (D.state device).now fault → (result.0 ≡ 3) ⊎ (result.0 ≡ 7) }
 {
     let _ = print;
     call(alloc, words, device, input, out)

@@ -12,6 +12,8 @@ pub enum Command {
     Apply,
     /// `IMAGE format PAGES INODES`: makes a file system without files.
     Format { pages: u64, inodes: u64 },
+    /// `IMAGE check`: looks for the first fault, or counts.
+    Check,
 }
 
 // Whether a word doesn't begin with `-`.
@@ -49,6 +51,7 @@ fn order_of(words: &[String]) -> Option<Command>
 {
     match words {
         [name] if name.as_str() == "apply" => Some(Command::Apply),
+        [name] if name.as_str() == "check" => Some(Command::Check),
         [name, first, second] if name.as_str() == "format" => {
             format_of(first.as_str(), second.as_str())
         }
@@ -86,7 +89,7 @@ mod tests {
 
     #[test]
     fn words_give_commands(rt: HostRuntime) -> Result<(), Fail> {
-        let table: [(&[&str], Option<Command>); 18] = [
+        let table: [(&[&str], Option<Command>); 20] = [
             (&["img", "apply"], Some(Command::Apply)),
             (&[], None),
             (&["img"], None),
@@ -96,6 +99,8 @@ mod tests {
             (&["img", "--help"], None),
             (&["img", "apply", "img"], None),
             (&["img", "Apply"], None),
+            (&["img", "check"], Some(Command::Check)),
+            (&["img", "check", "img"], None),
             (
                 &["img", "format", "64", "8"],
                 Some(Command::Format {

@@ -1,5 +1,5 @@
 use Rattle.std.proofs.Common.{◌≡◌, ◌++◌, take}
-use Rattle.denova_cli.specs.Report.{history_text}
+use Rattle.dn_report.specs.Report.{history_text}
 use Rattle.denova_cli.specs.Apply.{answered}
 use Rattle.denova_cli.proofs.apply.write_history.Given as goal
 

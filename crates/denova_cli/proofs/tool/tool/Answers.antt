@@ -1,4 +1,4 @@
-use Rattle.denova_cli.proofs.Calls.{done, usage, bad_job, unbuilt, stopped, unread, unwritten, no_memory, too_long, known, no_command, refused, complete, makes, refuses}
+use Rattle.denova_cli.proofs.Calls.{done, usage, bad_job, unbuilt, stopped, unread, unwritten, no_memory, too_long, known, no_command, refused, complete, makes, refuses, finds, faults}
 use Rattle.denova_cli.proofs.tool.tool.Goals as goal
 
 pub returns-clause-done : goal.returns-clause-done
@@ -45,3 +45,9 @@ returns-clause-makes g c = makes _ _ _ _ _ _ _ _ _ _ _ c.call.ensures.ended
 
 pub returns-clause-refuses : goal.returns-clause-refuses
 returns-clause-refuses g c = refuses _ _ _ _ _ _ _ _ _ _ _ c.call.ensures.ended
+
+pub returns-clause-finds : goal.returns-clause-finds
+returns-clause-finds g c = finds _ _ _ _ _ _ _ _ _ _ _ c.call.ensures.ended
+
+pub returns-clause-faults : goal.returns-clause-faults
+returns-clause-faults g c = faults _ _ _ _ _ _ _ _ _ _ _ c.call.ensures.ended

@@ -1,7 +1,7 @@
 use Rattle.std.proofs.Common.{◌≡◌, ◌++◌, take}
 use Rattle.std.specs.List.{flat_map}
-use Rattle.denova_cli.specs.Report.{spaced}
-use Rattle.denova_cli.proofs.report.write_names.Given as goal
+use Rattle.dn_report.specs.Report.{spaced}
+use Rattle.dn_report.proofs.report.write_names.Given as goal
 
 abbrev pub invariant-loop-name : goal.invariant-loop-name
 invariant-loop-name l = l.text.items ≡ l.initial.text.items ++ flat_map spaced (take l.name-index l.names)

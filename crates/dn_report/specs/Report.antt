@@ -6,8 +6,8 @@ use Rattle.dn_model.specs.declared.op.Refusal.{Refusal}
 use Rattle.dn_model.specs.declared.op.Refusal.TheVariants.{BadName, NotFound, Exists, TooLong, TooBig, NoInode, NoSpace}
 use Rattle.dn_model.specs.declared.op.Reply.{Reply}
 use Rattle.dn_model.specs.declared.op.Reply.TheVariants.{Done, Bytes, Number, Names, Refused}
-use Rattle.denova_cli.specs.declared.report.Cause.{Cause}
-use Rattle.denova_cli.specs.declared.report.Cause.TheVariants.{TooFewPages, TooManyPages, BadInodes, WrongSize}
+use Rattle.dn_report.specs.declared.report.Cause.{Cause}
+use Rattle.dn_report.specs.declared.report.Cause.TheVariants.{TooFewPages, TooManyPages, BadInodes, WrongSize}
 
 -- a text behind a space
 abbrev pub spaced : List ℕ → List ℕ

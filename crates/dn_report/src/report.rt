@@ -1,6 +1,6 @@
 // The texts that the program writes.
 ghost use Rattle.std.specs.Prelude.{◌≡◌, ◌++◌, OnOk};
-ghost use Rattle.denova_cli.specs.Report.{spaced, spaced_number, spaced_digits, bytes_text, names_text, refusal_text, reply_text, history_line, line_end, last_line, bad_line_text, bad_length_text, cause_text, refused_text, formatted_text};
+ghost use Rattle.dn_report.specs.Report.{spaced, spaced_number, spaced_digits, bytes_text, names_text, refusal_text, reply_text, history_line, line_end, last_line, bad_line_text, bad_length_text, cause_text, refused_text, formatted_text};
 
 use dn_model::{Refusal, Reply};
 use itoa::Buffer;
@@ -41,9 +41,6 @@ pub const TOO_LONG: &[u8] = b"too-long\n";
 /// What is written where the image can't be opened.
 pub const CANNOT_OPEN: &[u8] = b"denova: cannot open image\n";
 
-// Each function below appends to the text. Where memory runs out it has appended an unknown part, and the text is
-// of no use any more.
-
 fn write_word(text: &mut Vec<u8>, word: &[u8]) -> Result<(), AllocError>
     ensures { OnOk result (text.new.items ≡ text.old.items ++ spaced word.now) }
 {
@@ -51,14 +48,14 @@ fn write_word(text: &mut Vec<u8>, word: &[u8]) -> Result<(), AllocError>
     text.extend_from_slice(word)
 }
 
-fn write_number(text: &mut Vec<u8>, number: u64) -> Result<(), AllocError>
+pub(crate) fn write_number(text: &mut Vec<u8>, number: u64) -> Result<(), AllocError>
     ensures { OnOk result (text.new.items ≡ text.old.items ++ spaced_number number) }
 {
     let mut buffer = Buffer::new();
     write_word(text, buffer.format(number).as_bytes())
 }
 
-fn end_line(text: &mut Vec<u8>) -> Result<(), AllocError>
+pub(crate) fn end_line(text: &mut Vec<u8>) -> Result<(), AllocError>
     ensures { OnOk result (text.new.items ≡ text.old.items ++ line_end) }
 {
     text.push(b'\n')?;

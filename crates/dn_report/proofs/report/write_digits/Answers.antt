@@ -1,8 +1,8 @@
 use Rattle.std.proofs.Common.{◌≡◌, ◌<◌, length, sym, arith, rules}
 use Rattle.std.proofs.lemmas.Bool.Decides.{nat_tests}
 use Rattle.std.proofs.lemmas.List.{append-nil}
-use Rattle.denova_cli.proofs.Texts.{digits_of_none, digits_of_some}
-use Rattle.denova_cli.proofs.report.write_digits.Goals as goal
+use Rattle.dn_report.proofs.Texts.{digits_of_none, digits_of_some}
+use Rattle.dn_report.proofs.report.write_digits.Goals as goal
 
 pub returns-then-is_empty : goal.returns-then-is_empty
 returns-then-is_empty c =
