@@ -1,6 +1,6 @@
 #!/bin/sh
 # Makes a file system of 64 pages and 8 inodes, puts one empty file `f` into it (by hand: creating files isn't built
-# yet), runs a job on it, and shows the replies.
+# yet), runs a job on it, shows the replies, and checks the image.
 set -eu
 here=$(cd "$(dirname "$0")/.." && pwd)
 folder=$(mktemp -d)
@@ -29,3 +29,4 @@ read f 4996 64
 read nobody 0 1'
 echo "$job" | sed 's/^/> /'
 echo "$job" | "$here/denova" "$image" apply
+"$here/denova" "$image" check
