@@ -87,7 +87,7 @@ fn is_wrong<D: Pm>(device: &D, g: &Geometry, wanted: &[u64], page: u64) -> bool
     pointer > g.slots() || (row != 0 && pointer != row)
 }
 
-/// The least page whose pointer is wrong: above the number of slots, or not the one wanted of a page with a row.
+/// The least page whose pointer is wrong: above the number of slots, or not the one that is wanted of a page with a row.
 pub fn wrong_pointer<D: Pm>(device: &D, g: &Geometry, wanted: &[u64]) -> Option<u64>
     requires accepted { IsAccepted g.now }
     requires size { length (D.state device.now).now ≡ 512 * g.now.pages }
