@@ -65,8 +65,8 @@ pub fn fill_chain<D: Pm>(device: &mut D, g: &Geometry, who: u32, slot: u64, row:
 /// Puts a filled slot directly after the direct slot, by the direct slot's next word. All that this actor flushed
 /// before, as the fill and the page's pointer, is fenced first, and the next word is flushed and fenced.
 ///
-/// At each moment on the way a stop leaves the next word old, or leaves it new together with all that this actor
-/// had flushed before.
+/// Where the next word is settled before, at each moment on the way a stop leaves it old, or leaves it new together
+/// with all that this actor had flushed before.
 ///
 /// # Errors
 /// `Failed` where one of the two fences failed. After the first the next word is old; after the second it is
@@ -84,8 +84,7 @@ pub fn link<D: Pm>(
     requires indirect { directs g.now ≤ slot }
     requires slot { slot < slots g.now }
     requires room { LINK_UNITS ≤ (D.state device.old).spare }
-    requires settled { IsSettled (D.state device.old) (slot_word g.now direct 5) }
-    ensures any_moment { LeavesOnly (D.state device.old) (D.state device.new) (IsCommitted who (slot_word g.now direct 5) slot (D.state device.old)) }
+    ensures any_moment { IsSettled (D.state device.old) (slot_word g.now direct 5) → LeavesOnly (D.state device.old) (D.state device.new) (IsCommitted who (slot_word g.now direct 5) slot (D.state device.old)) }
     ensures done { OnOk result (IsDone who (slot_word g.now direct 5) slot (D.state device.old) (D.state device.new)) }
     ensures only { StoresOnly (λ a. a ≡ slot_word g.now direct 5) (D.state device.old) (D.state device.new) }
     ensures others { KeepsFlushed (Others who) (λ a. a ≡ slot_word g.now direct 5) (D.state device.old) (D.state device.new) }
@@ -99,8 +98,8 @@ pub fn link<D: Pm>(
 /// Takes an indirect slot out of its chain: the next word of the slot before it becomes that of the slot itself, so
 /// that the rest of the chain follows there.
 ///
-/// At each moment on the way a stop leaves the next word of the slot before it old, or leaves it new together with
-/// all that this actor had flushed before.
+/// Where the next word of the slot before it is settled before, at each moment on the way a stop leaves that word
+/// old, or leaves it new together with all that this actor had flushed before.
 ///
 /// # Errors
 /// `Failed` where one of the two fences failed. After the first the next word is old; after the second it is
@@ -118,8 +117,7 @@ pub fn unlink<D: Pm>(
     requires indirect { directs g.now ≤ slot }
     requires slot { slot < slots g.now }
     requires room { LINK_UNITS ≤ (D.state device.old).spare }
-    requires settled { IsSettled (D.state device.old) (slot_word g.now before 5) }
-    ensures any_moment { LeavesOnly (D.state device.old) (D.state device.new) (IsCommitted who (slot_word g.now before 5) (slice_index (D.state device.old).now (slot_word g.now slot 5)) (D.state device.old)) }
+    ensures any_moment { IsSettled (D.state device.old) (slot_word g.now before 5) → LeavesOnly (D.state device.old) (D.state device.new) (IsCommitted who (slot_word g.now before 5) (slice_index (D.state device.old).now (slot_word g.now slot 5)) (D.state device.old)) }
     ensures done { OnOk result (IsDone who (slot_word g.now before 5) (slice_index (D.state device.old).now (slot_word g.now slot 5)) (D.state device.old) (D.state device.new)) }
     ensures only { StoresOnly (λ a. a ≡ slot_word g.now before 5) (D.state device.old) (D.state device.new) }
     ensures others { KeepsFlushed (Others who) (λ a. a ≡ slot_word g.now before 5) (D.state device.old) (D.state device.new) }

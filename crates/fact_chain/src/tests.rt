@@ -1,6 +1,5 @@
 // Rows are put behind a direct slot one after another, and what a stop may leave of each link is looked at.
 ghost use Rattle.std.specs.Prelude.{◌≡◌, ◌+◌, ◌*◌, ◌<◌, ◌≤◌, length, OnOk};
-ghost use Rattle.pm_device.specs.Settled.{IsSettled};
 ghost use Rattle.pm_layout.specs.Geometry.{IsAccepted, slot_word, directs, slots};
 
 use crate::{fill_chain, link, read_chain, unlink};
@@ -57,10 +56,8 @@ fn open_first<D: Pm>(device: &mut D, g: &Geometry, page: u64) -> Result<(), Fail
     requires direct { DIRECT < directs g.now }
     requires page { page < g.now.pages }
     requires room { 13 ≤ (D.state device.old).spare }
-    requires settled { IsSettled (D.state device.old) (slot_word g.now DIRECT 0) }
     ensures size { length (D.state device.new).now ≡ 512 * g.now.pages }
     ensures spare { (D.state device.old).spare ≤ (D.state device.new).spare + 13 }
-    ensures settled { OnOk result (IsSettled (D.state device.new) (slot_word g.now DIRECT 5)) }
 {
     fill_direct(device, g, 1, DIRECT, &make_row(page, 0));
     open_direct(device, g, 1, DIRECT, page)
@@ -74,10 +71,8 @@ fn put_in<D: Pm>(device: &mut D, g: &Geometry, put: &Put) -> Result<(), Failed>
     requires indirect { directs g.now ≤ put.now.slot }
     requires slot { put.now.slot < slots g.now }
     requires room { 13 ≤ (D.state device.old).spare }
-    requires settled { IsSettled (D.state device.old) (slot_word g.now DIRECT 5) }
     ensures size { length (D.state device.new).now ≡ 512 * g.now.pages }
     ensures spare { (D.state device.old).spare ≤ (D.state device.new).spare + 13 }
-    ensures settled { OnOk result (IsSettled (D.state device.new) (slot_word g.now DIRECT 5)) }
 {
     fill_chain(device, g, 1, put.slot, &make_row(put.page, put.old));
     link(device, g, 1, DIRECT, put.slot)
@@ -88,10 +83,8 @@ fn put_all<D: Pm>(rt: &impl Abort, device: &mut D, g: &Geometry) -> Result<(), F
     requires accepted { IsAccepted g.now }
     requires size { length (D.state device.old).now ≡ 512 * g.now.pages }
     requires room { 39 ≤ (D.state device.old).spare }
-    requires settled { IsSettled (D.state device.old) (slot_word g.now DIRECT 0) }
     ensures size { length (D.state device.new).now ≡ 512 * g.now.pages }
     ensures spare { (D.state device.old).spare ≤ (D.state device.new).spare + 39 }
-    ensures settled { OnOk result (IsSettled (D.state device.new) (slot_word g.now DIRECT 5)) }
 {
     assert_eq!(rt; g.directs(), 64);
     assert_eq!(rt; g.pages, 64);
@@ -127,7 +120,6 @@ fn take_out<D: Pm>(rt: &impl Abort, device: &mut D, g: &Geometry) -> Result<(), 
     requires accepted { IsAccepted g.now }
     requires size { length (D.state device.old).now ≡ 512 * g.now.pages }
     requires room { 4 ≤ (D.state device.old).spare }
-    requires settled { IsSettled (D.state device.old) (slot_word g.now DIRECT 5) }
 {
     assert_eq!(rt; g.directs(), 64);
     assert_eq!(rt; g.pages, 64);

@@ -65,8 +65,8 @@ pub fn fill_direct<D: Pm>(device: &mut D, g: &Geometry, who: u32, slot: u64, row
 /// Opens a filled slot by its page word: from then on it has a row. All that this actor flushed before, as the fill
 /// and the page's pointer, is fenced first, and the page word is flushed and fenced.
 ///
-/// At each moment on the way a stop leaves the page word old, or leaves it new together with all that this actor
-/// had flushed before.
+/// Where the page word is settled before, at each moment on the way a stop leaves it old, or leaves it new together
+/// with all that this actor had flushed before.
 ///
 /// # Errors
 /// `Failed` where one of the two fences failed. After the first the page word is old; after the second it is
@@ -83,8 +83,7 @@ pub fn open_direct<D: Pm>(
     requires slot { slot < directs g.now }
     requires page { page < g.now.pages }
     requires room { GATE_UNITS ≤ (D.state device.old).spare }
-    requires settled { IsSettled (D.state device.old) (slot_word g.now slot 0) }
-    ensures any_moment { LeavesOnly (D.state device.old) (D.state device.new) (IsCommitted who (slot_word g.now slot 0) page (D.state device.old)) }
+    ensures any_moment { IsSettled (D.state device.old) (slot_word g.now slot 0) → LeavesOnly (D.state device.old) (D.state device.new) (IsCommitted who (slot_word g.now slot 0) page (D.state device.old)) }
     ensures done { OnOk result (IsDone who (slot_word g.now slot 0) page (D.state device.old) (D.state device.new)) }
     ensures only { StoresOnly (λ a. a ≡ slot_word g.now slot 0) (D.state device.old) (D.state device.new) }
     ensures others { KeepsFlushed (Others who) (λ a. a ≡ slot_word g.now slot 0) (D.state device.old) (D.state device.new) }
@@ -98,8 +97,8 @@ pub fn open_direct<D: Pm>(
 /// Closes a slot by a page word of 0: from then on it has no row. The next word stays, and so do the rows that are
 /// chained behind the slot.
 ///
-/// At each moment on the way a stop leaves the page word old, or leaves it 0 together with all that this actor had
-/// flushed before.
+/// Where the page word is settled before, at each moment on the way a stop leaves it old, or leaves it 0 together
+/// with all that this actor had flushed before.
 ///
 /// # Errors
 /// `Failed` where one of the two fences failed. After the first the page word is old; after the second it is
@@ -109,8 +108,7 @@ pub fn close_direct<D: Pm>(device: &mut D, g: &Geometry, who: u32, slot: u64) ->
     requires size { length (D.state device.old).now ≡ 512 * g.now.pages }
     requires slot { slot < directs g.now }
     requires room { GATE_UNITS ≤ (D.state device.old).spare }
-    requires settled { IsSettled (D.state device.old) (slot_word g.now slot 0) }
-    ensures any_moment { LeavesOnly (D.state device.old) (D.state device.new) (IsCommitted who (slot_word g.now slot 0) 0 (D.state device.old)) }
+    ensures any_moment { IsSettled (D.state device.old) (slot_word g.now slot 0) → LeavesOnly (D.state device.old) (D.state device.new) (IsCommitted who (slot_word g.now slot 0) 0 (D.state device.old)) }
     ensures done { OnOk result (IsDone who (slot_word g.now slot 0) 0 (D.state device.old) (D.state device.new)) }
     ensures only { StoresOnly (λ a. a ≡ slot_word g.now slot 0) (D.state device.old) (D.state device.new) }
     ensures others { KeepsFlushed (Others who) (λ a. a ≡ slot_word g.now slot 0) (D.state device.old) (D.state device.new) }

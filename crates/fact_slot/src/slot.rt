@@ -137,10 +137,10 @@ pub fn store_fields<D: Pm>(
 }
 
 /// Makes one word of a slot new, after all that this actor flushed before: fences, stores the word, flushes its
-/// line and fences again. The word is settled before.
+/// line and fences again.
 ///
-/// At each moment on the way a stop leaves the word old, or leaves it new together with all that this actor had
-/// flushed before.
+/// Where the word is settled before, at each moment on the way a stop leaves the word old, or leaves it new together
+/// with all that this actor had flushed before.
 ///
 /// # Errors
 /// `Failed` where one of the two fences failed. After the first the word is old; after the second it is stored, and
@@ -158,8 +158,7 @@ pub fn commit_field<D: Pm>(
     requires slot { slot < slots g.now }
     requires field { field < 8 }
     requires room { COMMIT_UNITS ≤ (D.state device.old).spare }
-    requires settled { IsSettled (D.state device.old) (slot_word g.now slot field) }
-    ensures any_moment { LeavesOnly (D.state device.old) (D.state device.new) (IsCommitted who (slot_word g.now slot field) value (D.state device.old)) }
+    ensures any_moment { IsSettled (D.state device.old) (slot_word g.now slot field) → LeavesOnly (D.state device.old) (D.state device.new) (IsCommitted who (slot_word g.now slot field) value (D.state device.old)) }
     ensures done { OnOk result (IsDone who (slot_word g.now slot field) value (D.state device.old) (D.state device.new)) }
     ensures only { StoresOnly (λ a. a ≡ slot_word g.now slot field) (D.state device.old) (D.state device.new) }
     ensures others { KeepsFlushed (Others who) (λ a. a ≡ slot_word g.now slot field) (D.state device.old) (D.state device.new) }

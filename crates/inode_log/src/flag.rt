@@ -18,7 +18,8 @@ const FLAG_FIELD: u64 = 5;
 const MASK_FIELD: u64 = 6;
 
 /// Gives another flag to the Write at this slot, which is named as page * 64 + place and lies in the data area.
-/// Every image that a stop may leave has the log with the old flag or with the new one. It uses 4 units.
+/// Where the flag's word is settled before, every image that a stop may leave has the log with the old flag or with
+/// the new one. It uses 4 units.
 ///
 /// # Errors
 /// `Failed` where a fence failed. A stop may then leave the old flag or the new one.
@@ -33,10 +34,9 @@ pub fn set_flag<D: Pm>(
     requires size { length (D.state device.old).now ≡ 512 * g.now.pages }
     requires slot { InData g.now (slot / 64) }
     requires room { 4 ≤ (D.state device.old).spare }
-    requires settled { IsSettled (D.state device.old) (flag_word slot) }
-    ensures committed { LeavesOnly (D.state device.old) (D.state device.new) (IsCommitted who (flag_word slot) (flag_number flag) (D.state device.old)) }
+    ensures committed { IsSettled (D.state device.old) (flag_word slot) → LeavesOnly (D.state device.old) (D.state device.new) (IsCommitted who (flag_word slot) (flag_number flag) (D.state device.old)) }
     ensures done { OnOk result (IsDone who (flag_word slot) (flag_number flag) (D.state device.old) (D.state device.new)) }
-    ensures any_moment { OldOrNewItem g.now (with_flag flag) slot (D.state device.old) (D.state device.new) }
+    ensures any_moment { IsSettled (D.state device.old) (flag_word slot) → OldOrNewItem g.now (with_flag flag) slot (D.state device.old) (D.state device.new) }
     ensures stands { OnOk result (NewItemStands g.now (with_flag flag) slot (D.state device.old) (D.state device.new)) }
     ensures other_logs { KeepsLogs g.now slot (D.state device.old) (D.state device.new) }
     ensures only { StoresOnly (λ a. a ≡ flag_word slot) (D.state device.old) (D.state device.new) }
@@ -49,7 +49,8 @@ pub fn set_flag<D: Pm>(
 }
 
 /// Gives another mask to the Write at this slot, which is named as page * 64 + place and lies in the data area.
-/// Every image that a stop may leave has the log with the old mask or with the new one. It uses 4 units.
+/// Where the mask's word is settled before, every image that a stop may leave has the log with the old mask or with
+/// the new one. It uses 4 units.
 ///
 /// # Errors
 /// `Failed` where a fence failed. A stop may then leave the old mask or the new one.
@@ -64,10 +65,9 @@ pub fn set_mask<D: Pm>(
     requires size { length (D.state device.old).now ≡ 512 * g.now.pages }
     requires slot { InData g.now (slot / 64) }
     requires room { 4 ≤ (D.state device.old).spare }
-    requires settled { IsSettled (D.state device.old) (mask_word slot) }
-    ensures committed { LeavesOnly (D.state device.old) (D.state device.new) (IsCommitted who (mask_word slot) mask (D.state device.old)) }
+    ensures committed { IsSettled (D.state device.old) (mask_word slot) → LeavesOnly (D.state device.old) (D.state device.new) (IsCommitted who (mask_word slot) mask (D.state device.old)) }
     ensures done { OnOk result (IsDone who (mask_word slot) mask (D.state device.old) (D.state device.new)) }
-    ensures any_moment { OldOrNewItem g.now (with_mask mask) slot (D.state device.old) (D.state device.new) }
+    ensures any_moment { IsSettled (D.state device.old) (mask_word slot) → OldOrNewItem g.now (with_mask mask) slot (D.state device.old) (D.state device.new) }
     ensures stands { OnOk result (NewItemStands g.now (with_mask mask) slot (D.state device.old) (D.state device.new)) }
     ensures other_logs { KeepsLogs g.now slot (D.state device.old) (D.state device.new) }
     ensures only { StoresOnly (λ a. a ≡ mask_word slot) (D.state device.old) (D.state device.new) }

@@ -26,10 +26,9 @@ pub fn commit_log<D: Pm>(
     requires size { length (D.state device.old).now ≡ 512 * g.now.pages }
     requires ino { ino < g.now.inodes }
     requires room { 4 ≤ (D.state device.old).spare }
-    requires settled { IsSettled (D.state device.old) (inode_word ino 2) }
-    ensures committed { LeavesOnly (D.state device.old) (D.state device.new) (IsCommitted who (inode_word ino 2) tail (D.state device.old)) }
+    ensures committed { IsSettled (D.state device.old) (inode_word ino 2) → LeavesOnly (D.state device.old) (D.state device.new) (IsCommitted who (inode_word ino 2) tail (D.state device.old)) }
     ensures done { OnOk result (IsDone who (inode_word ino 2) tail (D.state device.old) (D.state device.new)) }
-    ensures any_moment { OldOrNewLog g.now who ino tail (D.state device.old) (D.state device.new) }
+    ensures any_moment { IsSettled (D.state device.old) (inode_word ino 2) → OldOrNewLog g.now who ino tail (D.state device.old) (D.state device.new) }
     ensures stands { OnOk result (NewLogStands g.now who ino tail (D.state device.old) (D.state device.new)) }
     ensures only { StoresOnly (λ a. a ≡ inode_word ino 2) (D.state device.old) (D.state device.new) }
     ensures others { KeepsFlushed (Others who) (λ a. a ≡ inode_word ino 2) (D.state device.old) (D.state device.new) }

@@ -44,7 +44,6 @@ fn commit_first(device: &mut MemPm, g: &Geometry) -> bool
     requires inodes { g.now.inodes ≡ 8 }
     requires size { length (⟦<MemPm as Pm>⟧.state device.old).now ≡ 32768 }
     requires tail { slice_index (⟦<MemPm as Pm>⟧.state device.old).now 1042 ≡ 0 }
-    requires settled { IsSettled (⟦<MemPm as Pm>⟧.state device.old) 1042 }
     requires room { 100 ≤ (⟦<MemPm as Pm>⟧.state device.old).spare }
 {
     let tail = prepare(device, g, 1, 1, &[ITEM], &[6]);

@@ -11,6 +11,7 @@ ghost use Rattle.name_journal.specs.Pairs.{AreOpen, IsRolledAt};
 use crate::change::Change;
 use crate::pairs::{GATE, is_gate, read_pairs};
 use crate::values::store_values;
+use pm_device::commit::commit;
 use pm_device::{Failed, Pm};
 use pm_layout::Geometry;
 use thiserror::Error;
@@ -29,25 +30,6 @@ pub enum RollFault {
     Failed,
 }
 
-// Closes the gate after all that this actor flushed before: fences, stores 0, flushes and fences again. The gate need
-// not be settled before; where it is, a stop leaves it as it was, or closed together with all that was flushed.
-fn close_gate<D: Pm>(device: &mut D, who: u32) -> Result<(), Failed>
-    requires inside { 1024 ≤ length (D.state device.old).now }
-    requires room { 4 ≤ (D.state device.old).spare }
-    ensures any_moment { IsSettled (D.state device.old) gate_word → LeavesOnly (D.state device.old) (D.state device.new) (IsCommitted who gate_word 0 (D.state device.old)) }
-    ensures done { OnOk result (IsDone who gate_word 0 (D.state device.old) (D.state device.new)) }
-    ensures only { StoresOnly (λ a. a ≡ gate_word) (D.state device.old) (D.state device.new) }
-    ensures others { KeepsFlushed (Others who) (λ a. a ≡ gate_word) (D.state device.old) (D.state device.new) }
-    ensures spare { (D.state device.old).spare ≤ (D.state device.new).spare + 4 }
-    ensures faults { (D.state device.old).faults ≤ (D.state device.new).faults }
-    ensures failed { IsErr result → Rose (D.state device.old).faults (D.state device.new).faults }
-{
-    device.fence(who)?;
-    device.store(GATE, 0);
-    device.flush(who, GATE / 8, 1);
-    device.fence(who)
-}
-
 // Puts the values of these pairs, which are the open journal's, back and closes the gate.
 fn put_back<D: Pm>(device: &mut D, who: u32, pairs: &[Change]) -> Result<(), Failed>
     requires page { 1024 ≤ length (D.state device.old).now }
@@ -64,7 +46,7 @@ fn put_back<D: Pm>(device: &mut D, who: u32, pairs: &[Change]) -> Result<(), Fai
     ensures failed { IsErr result → Rose (D.state device.old).faults (D.state device.new).faults }
 {
     store_values(device, who, pairs);
-    close_gate(device, who)
+    commit(device, who, GATE, 0)
 }
 
 /// Puts the old values of an open journal back and closes its gate. Where the gate is closed, it stores nothing.

@@ -13,19 +13,14 @@ commit_log-requires-clause-size g c =
     let prepared = c.prepare-tail.ensures.prepared _ _ (to_prepare _ _ _ _ _ _ _ _ _ _ can.is) in
     prepared.only.words ∙ c.requires.size
 
-pub commit_log-requires-clause-settled : goal.commit_log-requires-clause-settled
-commit_log-requires-clause-settled g c =
-    let S = g.D.Pm.state in let can = c.requires.can in
-    let prepared = c.prepare-tail.ensures.prepared _ _ (to_prepare _ _ _ _ _ _ _ _ _ _ can.is) in
-    tail_settled _ _ _ _ _ _ _ _ _ _ can.is _ (S c.prepare-tail.new.device) prepared
-
 pub returns-clause-any_moment : goal.returns-clause-any_moment
 returns-clause-any_moment g c =
     let S = g.D.Pm.state in
     λ d first size runs word is.
     let to = to_prepare _ _ _ _ d first size runs word _ is in
     images _ _ _ _ d first size runs word _ is _ (S c.prepare-tail.new.device) (c.prepare-tail.ensures.prepared _ _ to) c.requires.size c.prepare-tail.result (S c.commit_log.new.device)
-    (c.prepare-tail.ensures.tail _ _ to) c.commit_log.ensures.only (g.met.D.Pm.agree c.prepare-tail.new.device) (g.met.D.Pm.agree c.commit_log.new.device) c.commit_log.ensures.committed
+    (c.prepare-tail.ensures.tail _ _ to) c.commit_log.ensures.only (g.met.D.Pm.agree c.prepare-tail.new.device) (g.met.D.Pm.agree c.commit_log.new.device)
+    (c.commit_log.ensures.committed (tail_settled _ _ _ _ d first size runs word _ is _ (S c.prepare-tail.new.device) (c.prepare-tail.ensures.prepared _ _ to)))
 
 pub returns-clause-done : goal.returns-clause-done
 returns-clause-done g c =

@@ -9,8 +9,8 @@ changes : (g : _) (c : goal.After-commit g) (item : LogItem) → IsWrite item �
 changes g c item write = subst (λ (v : ℕ). IsWordChange (with_flag c.args.flag) 5 v item) (sym c.number.ensures) (flag_changes c.args.flag item write)
 
 pub returns-clause-any_moment : goal.returns-clause-any_moment
-returns-clause-any_moment g c =
-    let S = g.D.Pm.state in old_or_new_item c.args.g.now (with_flag c.args.flag) c.args.who c.args.slot 5 c.number.result (8 * c.args.slot + 5) (S c.args.device.now) (S c.commit.new.device) refl (omega arith) (changes g c) c.commit.ensures.any_moment
+returns-clause-any_moment g c settled =
+    let S = g.D.Pm.state in old_or_new_item c.args.g.now (with_flag c.args.flag) c.args.who c.args.slot 5 c.number.result (8 * c.args.slot + 5) (S c.args.device.now) (S c.commit.new.device) refl (omega arith) (changes g c) (c.commit.ensures.any_moment settled)
 
 pub returns-clause-stands : goal.returns-clause-stands
 returns-clause-stands g c =

@@ -5,8 +5,8 @@ use Rattle.inode_log.proofs.Reflagged.{mask_changes, old_or_new_item, new_item_s
 use Rattle.inode_log.proofs.flag.set_mask.Goals as goal
 
 pub returns-clause-any_moment : goal.returns-clause-any_moment
-returns-clause-any_moment g c =
-    let S = g.D.Pm.state in old_or_new_item c.args.g.now (with_mask c.args.mask) c.args.who c.args.slot 6 c.args.mask (8 * c.args.slot + 6) (S c.args.device.now) (S c.commit.new.device) refl (omega arith) (mask_changes c.args.mask) c.commit.ensures.any_moment
+returns-clause-any_moment g c settled =
+    let S = g.D.Pm.state in old_or_new_item c.args.g.now (with_mask c.args.mask) c.args.who c.args.slot 6 c.args.mask (8 * c.args.slot + 6) (S c.args.device.now) (S c.commit.new.device) refl (omega arith) (mask_changes c.args.mask) (c.commit.ensures.any_moment settled)
 
 pub returns-clause-stands : goal.returns-clause-stands
 returns-clause-stands g c =

@@ -8,8 +8,8 @@ commit-requires-clause-inside g c =
     let low = inode_word_low c.args.g.now c.args.ino 2 c.requires.ino (omega arith) in omega (arith, c.inode_word.ensures, c.requires.size, c.requires.accepted.room, low)
 
 pub returns-clause-any_moment : goal.returns-clause-any_moment
-returns-clause-any_moment g c =
-    committed_log c.args.g.now c.args.who c.args.ino c.args.tail c.inode_word.result c.inode_word.ensures c.requires.ino (g.D.Pm.state c.args.device.now) (g.D.Pm.state c.commit.new.device) c.commit.ensures.any_moment
+returns-clause-any_moment g c settled =
+    committed_log c.args.g.now c.args.who c.args.ino c.args.tail c.inode_word.result c.inode_word.ensures c.requires.ino (g.D.Pm.state c.args.device.now) (g.D.Pm.state c.commit.new.device) (c.commit.ensures.any_moment settled)
 
 pub returns-clause-stands : goal.returns-clause-stands
 returns-clause-stands g c =

@@ -12,51 +12,44 @@ pub store_values-requires-clause-inside : goal.store_values-requires-clause-insi
 store_values-requires-clause-inside g c =
     changes_inside c.args.g.now c.args.changes.now (length (g.D.Pm.state c.commit.new.device).now) c.requires.accepted (omega (arith, c.requires.size, c.store_pairs.ensures.only.words, c.commit.ensures.only.words)) c.requires.changes
 
-pub commit-requires-clause-settled : goal.commit-requires-clause-settled
-commit-requires-clause-settled g c =
-    let S = g.D.Pm.state in
-    let is = stored_pairs c.args.g.now c.args.who c.args.changes.now (S c.args.device.now) (S c.store_pairs.new.device) (g.met.D.Pm.agree c.args.device.now) c.requires.accepted c.requires.size c.requires.few c.requires.changes
-    c.requires.closed c.requires.settled c.store_pairs.ensures.only c.store_pairs.ensures.ready c.store_pairs.ensures.keeps in
-    gate_settled c.args.g.now.inodes c.args.who c.args.changes.now (S c.args.device.now) (S c.store_pairs.new.device) (S c.store_pairs.new.device) is
-
 pub returns-in_err-commit-clause-any_moment : goal.returns-in_err-commit-clause-any_moment
 returns-in_err-commit-clause-any_moment g c =
     let S = g.D.Pm.state in
     let is = stored_pairs c.args.g.now c.args.who c.args.changes.now (S c.args.device.now) (S c.store_pairs.new.device) (g.met.D.Pm.agree c.args.device.now) c.requires.accepted c.requires.size c.requires.few c.requires.changes
     c.requires.closed c.requires.settled c.store_pairs.ensures.only c.store_pairs.ensures.ready c.store_pairs.ensures.keeps in
-    leaves_opening c.args.g.now.inodes c.args.who c.args.changes.now (S c.args.device.now) (S c.store_pairs.new.device) (S c.commit.new.device) is c.commit.ensures.any_moment c.commit.ensures.only
+    let opened = c.commit.ensures.any_moment (gate_settled c.args.g.now.inodes c.args.who c.args.changes.now (S c.args.device.now) (S c.store_pairs.new.device) (S c.store_pairs.new.device) is) in
+    leaves_opening c.args.g.now.inodes c.args.who c.args.changes.now (S c.args.device.now) (S c.store_pairs.new.device) (S c.commit.new.device) is opened c.commit.ensures.only
 
 pub returns-in_err-commit-clause-only : goal.returns-in_err-commit-clause-only
 returns-in_err-commit-clause-only g c =
     let S = g.D.Pm.state in
     let is = stored_pairs c.args.g.now c.args.who c.args.changes.now (S c.args.device.now) (S c.store_pairs.new.device) (g.met.D.Pm.agree c.args.device.now) c.requires.accepted c.requires.size c.requires.few c.requires.changes
     c.requires.closed c.requires.settled c.store_pairs.ensures.only c.store_pairs.ensures.ready c.store_pairs.ensures.keeps in
-    only_opening c.args.g.now.inodes c.args.who c.args.changes.now (S c.args.device.now) (S c.store_pairs.new.device) (S c.commit.new.device) is c.commit.ensures.any_moment c.commit.ensures.only
-
-pub commit-requires-2-clause-settled : goal.commit-requires-2-clause-settled
-commit-requires-2-clause-settled g c =
-    let S = g.D.Pm.state in
-    let is = stored_pairs c.args.g.now c.args.who c.args.changes.now (S c.args.device.now) (S c.store_pairs.new.device) (g.met.D.Pm.agree c.args.device.now) c.requires.accepted c.requires.size c.requires.few c.requires.changes
-    c.requires.closed c.requires.settled c.store_pairs.ensures.only c.store_pairs.ensures.ready c.store_pairs.ensures.keeps in
-    open_settled c.args.g.now.inodes c.args.who c.args.changes.now (S c.args.device.now) (S c.store_pairs.new.device) (S c.commit.new.device) is c.commit.ensures.any_moment c.commit.ensures.only c.in_ok-commit.ensures.done (S c.store_values.new.device) (S c.store_values.new.device) c.store_values.ensures.only c.store_values.ensures.ready
+    let opened = c.commit.ensures.any_moment (gate_settled c.args.g.now.inodes c.args.who c.args.changes.now (S c.args.device.now) (S c.store_pairs.new.device) (S c.store_pairs.new.device) is) in
+    only_opening c.args.g.now.inodes c.args.who c.args.changes.now (S c.args.device.now) (S c.store_pairs.new.device) (S c.commit.new.device) is opened c.commit.ensures.only
 
 pub returns-clause-any_moment : goal.returns-clause-any_moment
 returns-clause-any_moment g c =
     let S = g.D.Pm.state in
     let is = stored_pairs c.args.g.now c.args.who c.args.changes.now (S c.args.device.now) (S c.store_pairs.new.device) (g.met.D.Pm.agree c.args.device.now) c.requires.accepted c.requires.size c.requires.few c.requires.changes
     c.requires.closed c.requires.settled c.store_pairs.ensures.only c.store_pairs.ensures.ready c.store_pairs.ensures.keeps in
-    leaves_all c.args.g.now.inodes c.args.who c.args.changes.now (S c.args.device.now) (S c.store_pairs.new.device) (S c.commit.new.device) is c.commit.ensures.any_moment c.commit.ensures.only c.in_ok-commit.ensures.done (S c.store_values.new.device) (S c.commit-2.new.device) c.store_values.ensures.only c.store_values.ensures.ready c.commit-2.ensures.only c.commit-2.ensures.any_moment
+    let opened = c.commit.ensures.any_moment (gate_settled c.args.g.now.inodes c.args.who c.args.changes.now (S c.args.device.now) (S c.store_pairs.new.device) (S c.store_pairs.new.device) is) in
+    let closed = c.commit-2.ensures.any_moment (open_settled c.args.g.now.inodes c.args.who c.args.changes.now (S c.args.device.now) (S c.store_pairs.new.device) (S c.commit.new.device) is opened c.commit.ensures.only c.in_ok-commit.ensures.done
+    (S c.store_values.new.device) (S c.store_values.new.device) c.store_values.ensures.only c.store_values.ensures.ready) in
+    leaves_all c.args.g.now.inodes c.args.who c.args.changes.now (S c.args.device.now) (S c.store_pairs.new.device) (S c.commit.new.device) is opened c.commit.ensures.only c.in_ok-commit.ensures.done (S c.store_values.new.device) (S c.commit-2.new.device) c.store_values.ensures.only c.store_values.ensures.ready c.commit-2.ensures.only closed
 
 pub returns-clause-done : goal.returns-clause-done
 returns-clause-done g c =
     let S = g.D.Pm.state in
     let is = stored_pairs c.args.g.now c.args.who c.args.changes.now (S c.args.device.now) (S c.store_pairs.new.device) (g.met.D.Pm.agree c.args.device.now) c.requires.accepted c.requires.size c.requires.few c.requires.changes
     c.requires.closed c.requires.settled c.store_pairs.ensures.only c.store_pairs.ensures.ready c.store_pairs.ensures.keeps in
-    on_ok_map c.commit-2.result _ _ (all_done c.args.g.now.inodes c.args.who c.args.changes.now (S c.args.device.now) (S c.store_pairs.new.device) (S c.commit.new.device) is c.commit.ensures.any_moment c.commit.ensures.only c.in_ok-commit.ensures.done (S c.store_values.new.device) (S c.commit-2.new.device) c.store_values.ensures.only c.store_values.ensures.ready c.commit-2.ensures.only) c.commit-2.ensures.done
+    let opened = c.commit.ensures.any_moment (gate_settled c.args.g.now.inodes c.args.who c.args.changes.now (S c.args.device.now) (S c.store_pairs.new.device) (S c.store_pairs.new.device) is) in
+    on_ok_map c.commit-2.result _ _ (all_done c.args.g.now.inodes c.args.who c.args.changes.now (S c.args.device.now) (S c.store_pairs.new.device) (S c.commit.new.device) is opened c.commit.ensures.only c.in_ok-commit.ensures.done (S c.store_values.new.device) (S c.commit-2.new.device) c.store_values.ensures.only c.store_values.ensures.ready c.commit-2.ensures.only) c.commit-2.ensures.done
 
 pub returns-clause-only : goal.returns-clause-only
 returns-clause-only g c =
     let S = g.D.Pm.state in
     let is = stored_pairs c.args.g.now c.args.who c.args.changes.now (S c.args.device.now) (S c.store_pairs.new.device) (g.met.D.Pm.agree c.args.device.now) c.requires.accepted c.requires.size c.requires.few c.requires.changes
     c.requires.closed c.requires.settled c.store_pairs.ensures.only c.store_pairs.ensures.ready c.store_pairs.ensures.keeps in
-    only_all c.args.g.now.inodes c.args.who c.args.changes.now (S c.args.device.now) (S c.store_pairs.new.device) (S c.commit.new.device) is c.commit.ensures.any_moment c.commit.ensures.only c.in_ok-commit.ensures.done (S c.store_values.new.device) (S c.commit-2.new.device) c.store_values.ensures.only c.store_values.ensures.ready c.commit-2.ensures.only
+    let opened = c.commit.ensures.any_moment (gate_settled c.args.g.now.inodes c.args.who c.args.changes.now (S c.args.device.now) (S c.store_pairs.new.device) (S c.store_pairs.new.device) is) in
+    only_all c.args.g.now.inodes c.args.who c.args.changes.now (S c.args.device.now) (S c.store_pairs.new.device) (S c.commit.new.device) is opened c.commit.ensures.only c.in_ok-commit.ensures.done (S c.store_values.new.device) (S c.commit-2.new.device) c.store_values.ensures.only c.store_values.ensures.ready c.commit-2.ensures.only
