@@ -1,11 +1,12 @@
 -- What the program does where an image is checked.
-use Rattle.std.specs.Prelude.{◌≡◌, ℕ, Bool, List}
+use Rattle.std.specs.Prelude.{◌≡◌, ℕ, Bool, List, map}
 use Rattle.dn_model.specs.Disk.{Disk}
 use Rattle.dn_model.specs.Image.{StandsFor}
 use Rattle.dn_model.specs.Faults.{FaultOf}
+use Rattle.dn_model.specs.Numbers.{AreNumbersOf}
+use Rattle.fact_scan.specs.Seen.{as_row}
 use Rattle.dn_model.specs.declared.fault.ImageFault.{ImageFault}
 use Rattle.fact_scan.specs.declared.row.Row.{Row}
-use Rattle.dn_check.specs.Finding.{AreNumbersOf}
 use Rattle.dn_check.specs.declared.finding.Finding.{Finding}
 use Rattle.dn_check.specs.declared.finding.Finding.TheVariants as finding
 use Rattle.dn_report.specs.Report.{no_memory_text}
@@ -48,7 +49,7 @@ pub record HasFound (w text : List ℕ) : Type 0 where
   pub mapped : ℕ
   pub free : ℕ
   pub exact : Bool
-  pub numbers : AreNumbersOf disk files dying rows mapped free exact
+  pub numbers : AreNumbersOf disk files dying (map as_row rows) mapped free exact
   pub text_is : text ≡ found_text files dying rows mapped free exact
 
 -- words w have a first fault, and the text tells it

@@ -14,7 +14,7 @@ use Rattle.dn_model.specs.Valid.{AreApart}
 use Rattle.dn_table_changes.proofs.Rows.{same_test, other_test}
 use Rattle.fact_scan.specs.declared.row.Row.{Row}
 use Rattle.fact_scan.specs.Seen.{as_row}
-use Rattle.dn_check.specs.Finding.{AreRowsOf}
+use Rattle.dn_model.specs.Numbers.{AreRowsOf}
 
 -- two rows have one slot
 abbrev same_slot : TableRow → TableRow → Bool

@@ -12,13 +12,14 @@ use Rattle.dn_model.specs.LogFault.{LogFault}
 use Rattle.dn_model.specs.Maps.{mapping}
 use Rattle.dn_model.specs.Disk.{Disk, Use, Free, Live, Dying, InodesSay, at_state, at_cut, IsUsed, state_number, maps, maps_by_use}
 use Rattle.dn_model.specs.Counts.{total, hit, mappings}
+use Rattle.dn_model.specs.Numbers.{file_hit, dying_hit, files_in, dying_in}
 use Rattle.dn_model.specs.Files.{named, named_after}
 use Rattle.dn_changes.proofs.Counting.{total-same}
 use Rattle.log_walk.specs.Laws.{ReadsAs}
 use Rattle.image_logs.specs.declared.logs.LogsRead.{LogsRead}
 use Rattle.image_logs.specs.declared.logs.LogsFault.{LogsFault}
 use Rattle.image_logs.specs.declared.logs.LogsFault.TheVariants.{BadLog, NoMemory}
-use Rattle.image_logs.specs.Logs.{IsInUse, IsSaid, log_page, log_hit, file_hit, dying_hit, logs_with, files_in, dying_in, AreCounted, AreRead, IsFirstFault, IsFaultOfEach, AddsLog, HasRoom, IsOneFault, IsEnd, CountsUse, AddsInode, adds_none, adds_log, IsEmptyRead}
+use Rattle.image_logs.specs.Logs.{IsInUse, IsSaid, log_page, log_hit, logs_with, AreCounted, AreRead, IsFirstFault, IsFaultOfEach, AddsLog, HasRoom, IsOneFault, IsEnd, CountsUse, AddsInode, adds_none, adds_log, IsEmptyRead}
 use Rattle.image_logs.specs.LogsLoop.{IsCountedOf, IsCountedTo}
 use Rattle.image_logs.proofs.Hits.{total-next, total-none, total-past}
 

@@ -10,6 +10,7 @@ use Rattle.dn_model.specs.LogFault.{LogFault}
 use Rattle.dn_model.specs.Maps.{mapping}
 use Rattle.dn_model.specs.Disk.{Disk, Use, Free, Live, Dying, InodesSay, LogsSay, IsUsed}
 use Rattle.dn_model.specs.Counts.{total, hit, mappings}
+use Rattle.dn_model.specs.Numbers.{files_in, dying_in}
 use Rattle.dn_model.specs.Files.{named}
 use Rattle.dn_model.specs.Valid.{IsLog}
 use Rattle.dn_model.specs.Faults.{IsLeast}
@@ -41,28 +42,9 @@ log_hit page Free log = 0
 log_hit page Live log = log_page log page
 log_hit page (Dying cut) log = log_page log page
 
--- 1 for a live inode but the root
-abbrev pub file_hit : ℕ → Use → ℕ
-file_hit zero use_of = 0
-file_hit (suc k) Free = 0
-file_hit (suc k) Live = 1
-file_hit (suc k) (Dying cut) = 0
-
-abbrev pub dying_hit : Use → ℕ
-dying_hit Free = 0
-dying_hit Live = 0
-dying_hit (Dying cut) = 1
-
 -- how many logs of used inodes have the page
 unfoldable pub logs_with : Disk → ℕ → ℕ
 logs_with d page = total d.geometry.inodes (λ ino. log_hit page (d.inode ino).use_of (d.inode ino).log)
-
--- how many inodes but the root are live, and how many are dying
-unfoldable pub files_in : Disk → ℕ
-files_in d = total d.geometry.inodes (λ ino. file_hit ino (d.inode ino).use_of)
-
-unfoldable pub dying_in : Disk → ℕ
-dying_in d = total d.geometry.inodes (λ ino. dying_hit (d.inode ino).use_of)
 
 -- so the logs of this state are read
 pub record AreCounted (d : Disk) (read : LogsRead) : Type 0 where
