@@ -80,7 +80,7 @@ one_fault g words (BadTable s) NoMemory some other x y = absurd (other refl)
 one_fault g words (BadPointer p) NoMemory some other x y = absurd (other refl)
 
 table_reads : (words : List ℕ) (t : Table) (d : Disk) → IsTable d words t → ReadsAs t.geometry words d
-table_reads words t d is = record { geometry = is.geometry; chains = is.chains; pointers = is.pointers; valid = is.good.table; apart = is.good.apart }
+table_reads words t d is = record { geometry = is.geometry; chains = λ a v told. is.says a v (inl told); pointers = λ a v told. is.says a v (inr told); valid = is.good.table; apart = is.good.apart }
 
 table_right : (words : List ℕ) (t : Table) (d : Disk) → IsTable d words t → (page : ℕ) → page < t.geometry.pages → IsBadPointer d page → ⊥
 table_right words t d is page lt (inl past) =

@@ -69,11 +69,11 @@ first_data-some g = omega arith
 
 module _ (d : Disk) (words : List ℕ) (t : Table) (is : IsTable d words t) where
   chain_reads : (p : ℕ) → p < directs t.geometry → Reads (ChainSays t.geometry p (d.chain p)) words
-  chain_reads p = subst (λ (g : Geometry). p < directs g → Reads (ChainSays g p (d.chain p)) words) is.geometry (λ lt a v says. is.chains a v (record { prefix = p; direct = lt; says = says }))
+  chain_reads p = subst (λ (g : Geometry). p < directs g → Reads (ChainSays g p (d.chain p)) words) is.geometry (λ lt a v says. is.says a v (inl (record { prefix = p; direct = lt; says = says })))
 
   pub pointer_read : (page : ℕ) → page < t.geometry.pages → slice_index words (pointer_word t.geometry page) ≡ d.pointer page
   pointer_read page = subst (λ (g : Geometry). page < g.pages → slice_index words (pointer_word g page) ≡ d.pointer page) is.geometry
-      (λ lt. is.pointers (pointer_word d.geometry page) (d.pointer page) (record { page = page; in_image = lt; place = refl; value = refl }))
+      (λ lt. is.says (pointer_word d.geometry page) (d.pointer page) (inr (record { page = page; in_image = lt; place = refl; value = refl })))
 
   pub pointer_small : (page : ℕ) → page < t.geometry.pages → d.pointer page ≤ slots t.geometry
   pointer_small page = subst (λ (g : Geometry). page < g.pages → d.pointer page ≤ slots g) is.geometry (is.good.pointers page)

@@ -1,5 +1,5 @@
 -- A table of which all rows and pointers are read.
-use Rattle.std.proofs.Common.{◌≡◌, ◌≢◌, inl, inr, ℕ, ◌+◌, ◌*◌, ◌<◌, List, length, map, get_or, refl, sym, ◌∙◌, ap, subst, arith}
+use Rattle.std.proofs.Common.{◌≡◌, ◌≢◌, inl, inr, ⊎_elim, ℕ, ◌+◌, ◌*◌, ◌<◌, List, length, map, get_or, refl, sym, ◌∙◌, ap, subst, arith}
 use Rattle.std.specs.Prelude.{slice_index, slice_get, Some, Contains, All}
 use Rattle.std.proofs.lemmas.Bool.{cases_eq, cases_lt}
 use Rattle.std.proofs.lemmas.List.{length-map, get_or-map}
@@ -112,8 +112,7 @@ module _ (g : Geometry) (words : List ℕ) (rs : List Row) (has : HasRows g word
         geometry = refl;
         accepted = accepted;
         size = size;
-        chains = reads_as.chains;
-        pointers = reads_as.pointers;
+        says = λ a v. ⊎_elim (reads_as.chains a v) (reads_as.pointers a v);
         good = record {
           table = reads_as.valid;
           apart = reads_as.apart;

@@ -1,13 +1,13 @@
 -- What a table in a device's words stands for.
-use Rattle.std.specs.Prelude.{◌≡◌, ◌≢◌, ℕ, ◌+◌, ◌-◌, ◌*◌, ◌<◌, ◌≤◌, List, length, slice_get, Some, Contains, All}
+use Rattle.std.specs.Prelude.{◌≡◌, ◌≢◌, ℕ, ◌+◌, ◌-◌, ◌*◌, ◌<◌, ◌≤◌, List, length, Contains}
 use Rattle.pm_device.specs.State.{State}
 use Rattle.pm_device.specs.Reading.{Reads, Stands}
 use Rattle.pm_layout.specs.declared.Geometry.{Geometry}
 use Rattle.pm_layout.specs.Geometry.{IsAccepted, directs, slots}
 use Rattle.page_alloc.specs.Free.{FreePages, Takes, GivesBack}
 use Rattle.dn_model.specs.Table.{Row}
-use Rattle.dn_model.specs.Disk.{Disk, ChainsSay, PointersSay, rows}
-use Rattle.dn_model.specs.Valid.{IsRow, AreApart}
+use Rattle.dn_model.specs.Disk.{Disk, TableSays, rows}
+use Rattle.dn_model.specs.Valid.{HasGoodRows}
 
 -- What is kept of a table in ordinary memory: its geometry, and which indirect slots have no row. Number k of the
 -- set stands for the k-th indirect slot.
@@ -39,20 +39,12 @@ HasNoneAt d slot = (row : Row) → Contains (rows d) row → row.slot ≢ slot
 abbrev pub HasNoneOf : Disk → ℕ → Type 0
 HasNoneOf d page = (row : Row) → Contains (rows d) row → row.page ≢ page
 
--- the rows make sense, and the pointer of each row's page leads to it
-pub record HasGoodRows (d : Disk) : Type 0 where
-  pub table : (prefix k : ℕ) (row : Row) → prefix < directs d.geometry → slice_get (d.chain prefix) k ≡ Some row → IsRow d.geometry prefix k row
-  pub apart : AreApart (rows d)
-  pub pointers : (page : ℕ) → page < d.geometry.pages → d.pointer page ≤ slots d.geometry
-  pub leads : All (λ row. d.pointer row.page ≡ row.slot + 1) (rows d)
-
 -- the words read as the table of d, and the set has the indirect slots without a row
 pub record IsTable (d : Disk) (words : List ℕ) (t : Table) : Type 0 where
   pub geometry : d.geometry ≡ t.geometry
   pub accepted : IsAccepted t.geometry
   pub size : length words ≡ 512 * t.geometry.pages
-  pub chains : Reads (ChainsSay d) words
-  pub pointers : Reads (PointersSay d) words
+  pub says : Reads (TableSays d) words
   pub good : HasGoodRows d
   pub set : t.free.pages ≡ t.geometry.pages
   pub free : (k : ℕ) → Contains t.free.free k → HasNoneAt d (directs t.geometry + k)
@@ -61,8 +53,7 @@ pub record IsTable (d : Disk) (words : List ℕ) (t : Table) : Type 0 where
 -- so it is, and a stop leaves these words as they are read
 pub record IsSettledTable (d : Disk) (s : State) (t : Table) : Type 0 where
   pub table : IsTable d s.now t
-  pub chains : Stands (ChainsSay d) s
-  pub pointers : Stands (PointersSay d) s
+  pub stands : Stands (TableSays d) s
 
 -- the words read as some table
 pub record HasTable (words : List ℕ) (t : Table) : Type 0 where
