@@ -5,7 +5,7 @@ use Rattle.dn_model.specs.Table.{Row}
 use Rattle.dn_model.specs.Disk.{Disk, rows}
 use Rattle.dn_model.specs.Counts.{mappings, IsNear}
 use Rattle.dn_model.specs.Valid.{IsValid, IsRow}
-use Rattle.dn_table_changes.specs.Changes.{recount}
+use Rattle.dn_row_changes.specs.Changes.{recount}
 use Rattle.dn_table_changes.specs.RowLaws.{IsNewRow}
 use Rattle.dn_table_changes.specs.MappingLaws.{AddsMapping}
 use Rattle.dn_table_changes.specs.BalanceLaws.{IsBalanced, RecountsBalanced}

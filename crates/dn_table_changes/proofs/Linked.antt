@@ -11,7 +11,7 @@ use Rattle.dn_model.specs.Counts.{Exact}
 use Rattle.dn_model.specs.Valid.{IsRow}
 use Rattle.dn_model.specs.Own.{Print, page_bytes, IsOwn}
 use Rattle.dn_changes.proofs.Unread.{slot_word_low}
-use Rattle.dn_table_changes.specs.Changes.{link, linked}
+use Rattle.dn_row_changes.specs.Changes.{link, linked}
 use Rattle.pm_device.specs.Pages.{SaysRun}
 use Rattle.dn_table_changes.specs.OneWord.{IsOneWord}
 use Rattle.dn_table_changes.specs.RowLaws.{MayPut, PutsRow, linked_words}

@@ -6,7 +6,7 @@ use Rattle.dn_model.specs.Table.{Row, row_of}
 use Rattle.dn_model.specs.Disk.{Disk, rows}
 use Rattle.dn_model.specs.Valid.{IsValid}
 use Rattle.dn_changes.proofs.Unread.{read_in_data}
-use Rattle.dn_table_changes.specs.Changes.{repointed, removed}
+use Rattle.dn_row_changes.specs.Changes.{repointed, removed}
 use Rattle.dn_table_changes.specs.PointerLaws.{MayRepoint}
 use Rattle.dn_table_changes.specs.RowLaws.{IsNewRow, MayPut, MayRemove}
 use Rattle.dn_table_changes.proofs.Rows.{same_test, none_listed, none_found, row_found}

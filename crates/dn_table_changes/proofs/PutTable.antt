@@ -12,7 +12,7 @@ use Rattle.dn_model.specs.Own.{Print, page_bytes, HasRow, IsOwn}
 use Rattle.dn_changes.specs.Events.{IsReadPage}
 use Rattle.dn_changes.proofs.Unread.{read_in_data}
 use Rattle.dn_changes.proofs.WriteValid.{mapped_counts}
-use Rattle.dn_table_changes.specs.Changes.{with_table}
+use Rattle.dn_row_changes.specs.Changes.{with_table}
 use Rattle.dn_table_changes.specs.CountLaws.{IsExact}
 use Rattle.dn_table_changes.specs.RowLaws.{MayPut, PutsRow}
 use Rattle.dn_table_changes.proofs.Rows.{all_listed, none_listed, none_found, row_listed, row_found}

@@ -12,7 +12,7 @@ use Rattle.dn_model.specs.Disk.{Disk, DiskSays, of_chains, ChainsSay, rows}
 use Rattle.dn_model.specs.Counts.{mappings, IsNear, Exact}
 use Rattle.dn_model.specs.Valid.{IsRow, IsValid}
 use Rattle.dn_model.specs.Own.{Print, page_bytes, IsOwn}
-use Rattle.dn_table_changes.specs.Changes.{recount, recounted}
+use Rattle.dn_row_changes.specs.Changes.{recount, recounted}
 use Rattle.dn_table_changes.specs.CountLaws.{MayRecount, RecountsRows, IsExact, OthersAreExact}
 use Rattle.pm_device.specs.Pages.{SaysRun}
 use Rattle.dn_table_changes.specs.OneWord.{IsOneWord}

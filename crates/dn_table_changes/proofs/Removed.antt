@@ -13,7 +13,7 @@ use Rattle.dn_model.specs.Valid.{IsRow, IsValid}
 use Rattle.dn_model.specs.Own.{Print, page_bytes, HasRow, IsOwn}
 use Rattle.dn_changes.specs.Events.{IsReadPage}
 use Rattle.dn_changes.proofs.Unread.{slot_word_low}
-use Rattle.dn_table_changes.specs.Changes.{without, removed, slot_before, slot_after}
+use Rattle.dn_row_changes.specs.Changes.{without, removed, slot_before, slot_after}
 use Rattle.pm_device.specs.Pages.{SaysRun}
 use Rattle.dn_table_changes.specs.OneWord.{IsOneWord}
 use Rattle.dn_table_changes.specs.CountLaws.{IsExact, OthersAreExact}

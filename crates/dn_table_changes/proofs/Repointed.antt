@@ -10,7 +10,7 @@ use Rattle.dn_model.specs.Disk.{Disk, DiskSays, of_chains, of_pointers, ChainsSa
 use Rattle.dn_model.specs.Counts.{Exact}
 use Rattle.dn_model.specs.Own.{Print, IsOwn}
 use Rattle.dn_changes.proofs.Unread.{pointer_word_low}
-use Rattle.dn_table_changes.specs.Changes.{repointed}
+use Rattle.dn_row_changes.specs.Changes.{repointed}
 use Rattle.pm_device.specs.Pages.{SaysRun}
 use Rattle.dn_table_changes.specs.OneWord.{IsOneWord}
 use Rattle.dn_table_changes.specs.PointerLaws.{MayRepoint}

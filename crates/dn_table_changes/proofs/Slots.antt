@@ -9,7 +9,7 @@ use Rattle.pm_layout.specs.Geometry.{slot_word, directs, slots}
 use Rattle.dn_model.specs.Table.{Row, RowsSay, at_field, at_next, at_later, ChainSays, at_direct_page, at_direct_next, at_row, chained, direct_page_word, first_slot, row_word}
 use Rattle.dn_model.specs.Disk.{Disk, DiskSays, of_chains, ChainsSay}
 use Rattle.dn_model.specs.Valid.{IsValid}
-use Rattle.dn_table_changes.specs.Changes.{with_table}
+use Rattle.dn_row_changes.specs.Changes.{with_table}
 use Rattle.pm_device.specs.Pages.{SaysRun}
 use Rattle.dn_table_changes.proofs.Rows.{all_listed, at_listed, listed_cases, listed_here, listed_later}
 use Rattle.dn_table_changes.proofs.TableRows.{row_slot, one_chain}

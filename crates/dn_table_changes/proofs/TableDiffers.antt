@@ -13,7 +13,7 @@ use Rattle.dn_model.specs.Valid.{IsValid}
 use Rattle.dn_model.proofs.Append.{log_word_in_data}
 use Rattle.dn_changes.specs.Events.{IsReadPage}
 use Rattle.dn_changes.proofs.Unread.{read_in_data}
-use Rattle.dn_table_changes.specs.Changes.{with_table}
+use Rattle.dn_row_changes.specs.Changes.{with_table}
 use Rattle.pm_device.specs.Pages.{SaysRun}
 use Rattle.dn_table_changes.proofs.Frame.{mapped_only}
 

@@ -7,7 +7,7 @@ use Rattle.dn_model.specs.Table.{Row, row_of}
 use Rattle.dn_model.specs.Disk.{Disk, Use, Free, Live, Dying, rows}
 use Rattle.dn_model.specs.Counts.{mappings, IsLogPage, IsNear}
 use Rattle.dn_model.specs.Valid.{IsLinked, IsRow, AreApart, IsValid}
-use Rattle.dn_table_changes.specs.Changes.{with_table}
+use Rattle.dn_row_changes.specs.Changes.{with_table}
 use Rattle.dn_table_changes.proofs.Frame.{mappings_same, named_same, mapped_only, log_page_only, free_kept}
 
 -- what validity asks of the chains and pointers

@@ -6,7 +6,7 @@ use Rattle.std.proofs.lemmas.List.Elements.{All-head, All-tail}
 use Rattle.pm_layout.specs.Geometry.{directs}
 use Rattle.dn_model.specs.Table.{Row, row_of, rows_from, first_slot}
 use Rattle.dn_model.specs.Disk.{Disk, rows}
-use Rattle.dn_table_changes.specs.Changes.{without, removed, slot_before, slot_after}
+use Rattle.dn_row_changes.specs.Changes.{without, removed, slot_before, slot_after}
 use Rattle.dn_table_changes.proofs.Rows.{same_test, other_test, all_listed, listed_here, listed_later, listed_cases, none_found, IsDistinct, distinct_tail, distinct_head}
 use Rattle.dn_table_changes.proofs.Slots.{AreElsewhere, HasSlot}
 use Rattle.dn_table_changes.proofs.Put.{IsPut, put_here, put_later, put_found}

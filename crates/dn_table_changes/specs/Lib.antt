@@ -1,4 +1,3 @@
-pub mod Changes
 pub mod OneWord
 pub mod Keeping
 pub mod CountLaws

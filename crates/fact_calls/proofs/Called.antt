@@ -13,7 +13,7 @@ use Rattle.dn_model.specs.Disk.{Disk, rows}
 use Rattle.dn_model.specs.Counts.{mappings, IsNear}
 use Rattle.dn_model.specs.Valid.{IsValid}
 use Rattle.dn_model.specs.Image.{StandsFor}
-use Rattle.dn_table_changes.specs.Changes.{with_table, recounted, removed}
+use Rattle.dn_row_changes.specs.Changes.{with_table, recounted, removed}
 use Rattle.dn_table_changes.specs.CountLaws.{MayRecount}
 use Rattle.dn_table_changes.specs.RowLaws.{TakesRow}
 use Rattle.dn_table_changes.proofs.Recounted.{recounts_rows, recount_one_word}

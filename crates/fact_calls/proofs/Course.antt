@@ -11,7 +11,7 @@ use Rattle.pm_layout.specs.declared.Geometry.{Geometry}
 use Rattle.dn_model.specs.Table.{Row}
 use Rattle.dn_model.specs.Disk.{Disk, rows}
 use Rattle.dn_model.specs.Counts.{mappings}
-use Rattle.dn_table_changes.specs.Changes.{with_table}
+use Rattle.dn_row_changes.specs.Changes.{with_table}
 use Rattle.dn_table_changes.proofs.Frame.{mappings_same}
 use Rattle.fact_table.specs.Table.{Table}
 use Rattle.fact_changes.proofs.Staled.{still_images}

@@ -11,7 +11,7 @@ use Rattle.pm_layout.specs.Geometry.{slots, slot_word, pointer_word}
 use Rattle.dn_model.specs.Table.{Row, prefix_of}
 use Rattle.dn_model.specs.Disk.{Disk, rows}
 use Rattle.dn_changes.proofs.Unread.{slot_word_low, pointer_word_low, read_in_data}
-use Rattle.dn_table_changes.specs.Changes.{slot_before}
+use Rattle.dn_row_changes.specs.Changes.{slot_before}
 use Rattle.dn_table_changes.proofs.Rows.{same_test, other_test, row_found}
 use Rattle.dn_table_changes.proofs.Slots.{HasSlot}
 use Rattle.dn_table_changes.proofs.TableRows.{in_table, row_slot_small, stands_in_chain}

@@ -9,7 +9,7 @@ use Rattle.dn_model.specs.Disk.{Disk, rows}
 use Rattle.dn_model.specs.Counts.{mappings}
 use Rattle.dn_model.specs.Valid.{IsValid}
 use Rattle.dn_model.specs.Image.{StandsFor}
-use Rattle.dn_table_changes.specs.Changes.{with_table}
+use Rattle.dn_row_changes.specs.Changes.{with_table}
 use Rattle.fact_table.specs.Table.{Table}
 use Rattle.fact_counts.specs.Standing.{StandsWith}
 use Rattle.fact_calls.specs.declared.call.TableCall.{TableCall}

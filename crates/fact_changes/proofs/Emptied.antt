@@ -14,7 +14,7 @@ use Rattle.dn_model.specs.Table.{Row, prefix_of, chained, direct_page_word}
 use Rattle.dn_model.specs.Disk.{Disk, DiskSays, rows}
 use Rattle.dn_model.specs.Counts.{IsNear}
 use Rattle.dn_model.specs.Valid.{IsValid}
-use Rattle.dn_table_changes.specs.Changes.{removed, slot_before}
+use Rattle.dn_row_changes.specs.Changes.{removed, slot_before}
 use Rattle.dn_table_changes.specs.RowLaws.{StandsInChain, MayRemove, TakesRow}
 use Rattle.dn_table_changes.proofs.Rows.{same_test, other_test, at_listed}
 use Rattle.dn_table_changes.proofs.TableRows.{stands_in_chain}

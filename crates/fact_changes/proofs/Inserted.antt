@@ -17,7 +17,7 @@ use Rattle.dn_model.specs.Table.{Row, first_slot, chained, at_direct_next}
 use Rattle.dn_model.specs.Disk.{Disk, DiskSays, of_chains, of_pointers}
 use Rattle.dn_model.specs.Image.{StandsFor}
 use Rattle.dn_changes.proofs.Unread.{read_in_data, pointer_word_low}
-use Rattle.dn_table_changes.specs.Changes.{repointed}
+use Rattle.dn_row_changes.specs.Changes.{repointed}
 use Rattle.dn_table_changes.specs.OneWord.{IsOneWord, IsUnread, LeavesOneWord}
 use Rattle.dn_table_changes.specs.PointerLaws.{MayRepoint}
 use Rattle.dn_table_changes.specs.RowLaws.{opened_words, linked_words}

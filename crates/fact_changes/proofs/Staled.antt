@@ -15,7 +15,7 @@ use Rattle.pm_layout.specs.Geometry.{pointer_word, directs}
 use Rattle.dn_model.specs.Table.{Row}
 use Rattle.dn_model.specs.Disk.{Disk, DiskSays, of_pointers, rows}
 use Rattle.dn_model.specs.Image.{StandsFor}
-use Rattle.dn_table_changes.specs.Changes.{with_table, repointed}
+use Rattle.dn_row_changes.specs.Changes.{with_table, repointed}
 use Rattle.dn_table_changes.specs.OneWord.{IsOneWord, LeavesOneWord}
 use Rattle.dn_table_changes.proofs.OneWord.{one_word_any_order, one_word_stands, nothing_ready, unread_images}
 use Rattle.dn_table_changes.proofs.PutPointers.{stale_may_clear}

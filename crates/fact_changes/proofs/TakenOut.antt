@@ -15,7 +15,7 @@ use Rattle.pm_layout.specs.Geometry.{slot_word, pointer_word, directs, slots}
 use Rattle.dn_model.specs.Table.{Row, RowsSay, at_next, at_later, at_row}
 use Rattle.dn_model.specs.Disk.{Disk, DiskSays, of_chains, rows}
 use Rattle.dn_changes.proofs.Unread.{read_in_data}
-use Rattle.dn_table_changes.specs.Changes.{removed, slot_before, slot_after}
+use Rattle.dn_row_changes.specs.Changes.{removed, slot_before, slot_after}
 use Rattle.dn_table_changes.specs.OneWord.{IsOneWord, LeavesOneWord}
 use Rattle.dn_table_changes.proofs.OneWord.{one_word_images, one_word_any_order, one_word_stands, one_word_may_commit, nothing_ready}
 use Rattle.dn_table_changes.proofs.Repointed.{repoint_one_word}

@@ -7,7 +7,7 @@ use Rattle.pm_layout.specs.declared.Geometry.{Geometry}
 use Rattle.pm_layout.specs.Geometry.{pointer_word}
 use Rattle.dn_model.specs.Table.{Row}
 use Rattle.dn_model.specs.Disk.{Disk, DiskSays}
-use Rattle.dn_table_changes.specs.Changes.{repointed, removed, slot_before}
+use Rattle.dn_row_changes.specs.Changes.{repointed, removed, slot_before}
 use Rattle.dn_table_changes.specs.RowLaws.{MayRemove}
 use Rattle.fact_changes.specs.Put.{StandsForOneOf}
 

@@ -10,7 +10,7 @@ use Rattle.dn_model.specs.Table.{Row}
 use Rattle.dn_model.specs.Disk.{Disk, DiskSays}
 use Rattle.dn_model.specs.Valid.{IsValid}
 use Rattle.dn_model.specs.Image.{StandsFor}
-use Rattle.dn_table_changes.specs.Changes.{repointed, opened, linked}
+use Rattle.dn_row_changes.specs.Changes.{repointed, opened, linked}
 use Rattle.dn_table_changes.specs.RowLaws.{IsNewRow}
 
 -- a row with no reference yet, and the update under way that brings the first

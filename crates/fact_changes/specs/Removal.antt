@@ -7,7 +7,7 @@ use Rattle.pm_layout.specs.Geometry.{directs, slot_word}
 use Rattle.dn_model.specs.Table.{Row, prefix_of}
 use Rattle.dn_model.specs.Disk.{Disk}
 use Rattle.dn_model.specs.Valid.{IsValid}
-use Rattle.dn_table_changes.specs.Changes.{removed, slot_before}
+use Rattle.dn_row_changes.specs.Changes.{removed, slot_before}
 use Rattle.fact_table.specs.Chained.{IsChainFrom}
 use Rattle.fact_table.specs.Table.{Table, IsTable, IsAtSlot, GivesBackSlot}
 use Rattle.fact_counts.specs.Standing.{StandsWith}

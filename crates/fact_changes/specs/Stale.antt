@@ -6,7 +6,7 @@ use Rattle.pm_layout.specs.Geometry.{pointer_word}
 use Rattle.dn_model.specs.Disk.{Disk, rows}
 use Rattle.dn_model.specs.Valid.{IsValid}
 use Rattle.dn_model.specs.Image.{StandsFor}
-use Rattle.dn_table_changes.specs.Changes.{with_table, repointed}
+use Rattle.dn_row_changes.specs.Changes.{with_table, repointed}
 use Rattle.fact_table.specs.Table.{Table, HasNoneOf}
 use Rattle.fact_counts.specs.Standing.{StandsWith}
 

@@ -17,7 +17,7 @@ use Rattle.fact_slot.proofs.Places.{slot_word-below_data}
 use Rattle.dn_model.specs.Table.{Row, at_row}
 use Rattle.dn_model.specs.Disk.{Disk, DiskSays, of_chains, of_pointers, ChainsSay, PointersSay}
 use Rattle.dn_model.specs.Image.{StandsFor}
-use Rattle.dn_table_changes.specs.Changes.{recounted}
+use Rattle.dn_row_changes.specs.Changes.{recounted}
 use Rattle.dn_table_changes.specs.CountLaws.{MayRecount}
 use Rattle.dn_table_changes.specs.OneWord.{IsOneWord}
 use Rattle.dn_table_changes.proofs.Recounted.{recount_one_word}

@@ -10,7 +10,7 @@ use Rattle.fingerprint.specs.Count.{count_word}
 use Rattle.dn_model.specs.Table.{Row, RowsSay, at_field, at_next, at_later, ChainSays, at_direct_page, at_direct_next, at_row, first_slot, chained, direct_page_word}
 use Rattle.dn_model.specs.Disk.{Disk, ChainsSay, PointersSay, rows}
 use Rattle.dn_model.specs.Valid.{IsRow}
-use Rattle.dn_table_changes.specs.Changes.{recount, recounted}
+use Rattle.dn_row_changes.specs.Changes.{recount, recounted}
 use Rattle.dn_table_changes.proofs.Recounted.{rows_recounted, recounts_rows}
 use Rattle.dn_table_changes.proofs.Slots.{slot_word_one}
 use Rattle.dn_table_changes.proofs.TableDiffers.{pointer_above}

@@ -6,7 +6,7 @@ use Rattle.fingerprint.specs.declared.count.CountWord.{CountWord}
 use Rattle.dn_model.specs.Table.{Row}
 use Rattle.dn_model.specs.Disk.{Disk}
 use Rattle.dn_model.specs.Image.{StandsFor}
-use Rattle.dn_table_changes.specs.Changes.{recounted}
+use Rattle.dn_row_changes.specs.Changes.{recounted}
 use Rattle.dn_table_changes.specs.CountLaws.{MayRecount}
 use Rattle.fact_table.specs.Table.{Table, IsTable, IsSettledTable, IsAtSlot}
 use Rattle.fact_counts.specs.Standing.{StandsWith, HasTableOf}
