@@ -27,9 +27,9 @@ use Rattle.fact_table.specs.Table.{Table, HasRow, TakesSlot}
 use Rattle.fact_counts.specs.Standing.{StandsWith, HasRowWith}
 use Rattle.fact_counts.specs.Counted.{raised, up, down, counted, MayRaise, MaySettleUp, MaySettleDown, AnyRow, count_changed, MayChange, LeavesDisks, MakesDisk}
 use Rattle.fact_counts.proofs.Counting.{settled_table}
-use Rattle.fact_changes.specs.Put.{new_row, pointed}
+use Rattle.fact_rows.specs.Put.{new_row, pointed}
 use Rattle.fact_changes.specs.Insertion.{MayInsert, Inserts, opens, links, LeavesInserted, MakesInserted}
-use Rattle.fact_changes.specs.Gone.{cleared}
+use Rattle.fact_rows.specs.Gone.{cleared}
 use Rattle.fact_changes.specs.Removal.{MayRemoveAt, LeavesRemoved, MakesRemoved}
 use Rattle.fact_changes.specs.Stale.{Clears, HasCleared, IsTidied}
 use Rattle.fact_changes.proofs.Slotted.{put_direct, rows_direct, put_chained, rows_chained, none_taken}

@@ -1,16 +1,14 @@
--- What calls of the table make of its rows. Only lists of rows are spoken of, and the numbers of mappings of pages,
--- which no call changes.
+-- What calls of a table make of its rows. Only lists of rows are spoken of.
 use Rattle.std.specs.Prelude.{◌≡◌, ◌≢◌, ℕ, suc, ◌+◌, ◌^◌, ◌<◌, ◌≤◌, List, slice_get, Some, Contains}
 use Rattle.pm_layout.specs.declared.Geometry.{Geometry}
-use Rattle.pm_layout.specs.Geometry.{directs, slots}
+use Rattle.pm_layout.specs.Geometry.{InData, directs, slots}
 use Rattle.fingerprint.specs.Print.{IsPrint}
 use Rattle.fingerprint.specs.declared.count.CountWord.{CountWord}
 use Rattle.dn_model.specs.Table.{Row, prefix_of}
-use Rattle.dn_table_changes.specs.CountLaws.{RecountsRows}
-use Rattle.dn_table_changes.specs.RowLaws.{PutsRow, TakesRow}
+use Rattle.dn_row_changes.specs.Rows.{RecountsRows, PutsRow, TakesRow}
 use Rattle.fact_table.specs.Chained.{HasNoRow}
 use Rattle.fact_counts.specs.Counted.{raised, up, down, counted, MayRaise, MaySettleUp, MaySettleDown, AnyRow}
-use Rattle.fact_changes.specs.Put.{new_row}
+use Rattle.fact_rows.specs.Put.{new_row}
 use Rattle.fact_calls.specs.declared.call.TableCall.{TableCall}
 use Rattle.fact_calls.specs.declared.call.TableCall.TheVariants.{Insert, Raise, SettleUp, SettleDown, Recount, RemoveZero, ClearStale}
 
@@ -25,23 +23,22 @@ pub record HasRowAt (rs : List Row) (slot : ℕ) (P : Row → Type 0) : Type 0 w
 abbrev pub NoneAt : List Row → ℕ → Type 0
 NoneAt rs slot = (row : Row) → Contains rs row → row.slot ≢ slot
 
--- a row of this print and page may come in: the page is mapped, and no row has either
-pub record MayComeIn (m : ℕ → ℕ) (rs : List Row) (print : List ℕ) (page : ℕ) : Type 0 where
+-- a row of this print and page may come in: the page is one of the data area, and no row has either
+pub record MayComeIn (g : Geometry) (rs : List Row) (print : List ℕ) (page : ℕ) : Type 0 where
   pub twenty_bytes : IsPrint print
-  pub mapped : 1 ≤ m page
+  pub data_page : InData g page
   pub new_print : HasNoRow rs print
   pub new_page : (row : Row) → Contains rs row → row.page ≢ page
 
--- The call's condition, where each page has so many mappings: counts fit, and stay off the mappings by at most the
--- updates that are under way.
-abbrev pub MayMake : (ℕ → ℕ) → List Row → TableCall → Type 0
-MayMake m rs (Insert print page) = MayComeIn m rs print page
-MayMake m rs (Raise slot) = HasRowAt rs slot MayRaise
-MayMake m rs (SettleUp slot) = HasRowAt rs slot (λ row. MaySettleUp row × (row.rfc + 2 ≤ m row.page + row.uc))
-MayMake m rs (SettleDown slot) = HasRowAt rs slot (λ row. MaySettleDown row × (m row.page + 2 ≤ row.rfc + row.uc))
-MayMake m rs (Recount slot rfc) = HasRowAt rs slot (λ row. (rfc < 2 ^ 32) × (rfc ≡ m row.page))
-MayMake m rs (RemoveZero slot) = HasRowAt rs slot (λ row. (row.rfc ≡ 0) × (row.uc ≡ 0))
-MayMake m rs ClearStale = Unit {0}
+-- the call's condition
+abbrev pub MayMake : Geometry → List Row → TableCall → Type 0
+MayMake g rs (Insert print page) = MayComeIn g rs print page
+MayMake g rs (Raise slot) = HasRowAt rs slot MayRaise
+MayMake g rs (SettleUp slot) = HasRowAt rs slot MaySettleUp
+MayMake g rs (SettleDown slot) = HasRowAt rs slot MaySettleDown
+MayMake g rs (Recount slot rfc) = (rfc < 2 ^ 32) × HasRowAt rs slot AnyRow
+MayMake g rs (RemoveZero slot) = HasRowAt rs slot (λ row. (row.rfc ≡ 0) × (row.uc ≡ 0))
+MayMake g rs ClearStale = Unit {0}
 
 -- the least indirect slot that no row has
 pub record IsLeastUnused (g : Geometry) (rs : List Row) (slot : ℕ) : Type 0 where
@@ -91,5 +88,5 @@ pub data After (g : Geometry) (calls : List TableCall) (olds : List Row) : ℕ �
   one_more : {k : ℕ} {mids news : List Row} {call : TableCall} → After g calls olds k mids → slice_get calls k ≡ Some call → Follows g mids call news → After g calls olds (suc k) news
 
 -- each call's condition holds of the rows after those before it
-abbrev pub Allows : Geometry → (ℕ → ℕ) → List TableCall → List Row → Type 0
-Allows g m calls olds = (k : ℕ) (rs : List Row) (call : TableCall) → After g calls olds k rs → slice_get calls k ≡ Some call → MayMake m rs call
+abbrev pub Allows : Geometry → List TableCall → List Row → Type 0
+Allows g calls olds = (k : ℕ) (rs : List Row) (call : TableCall) → After g calls olds k rs → slice_get calls k ≡ Some call → MayMake g rs call

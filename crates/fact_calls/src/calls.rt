@@ -15,7 +15,7 @@ pub const CALL_UNITS: u64 = 3;
 
 /// Makes one call.
 ///
-/// At each moment a stop leaves the rows of before or those of after.
+/// Where the table is settled before, at each moment a stop leaves the rows of before or those of after.
 ///
 /// # Errors
 /// `Failed` where a fence failed. A stop may leave either; the table that is kept in memory isn't used again.
@@ -25,7 +25,7 @@ pub fn make<D: Pm>(
     who: u32,
     call: &TableCall,
 ) -> Result<(), Failed>
-    requires can { CanCall (D.state device.old) fact.old call.now }
+    requires can { CanCall (D.state device.old).now fact.old call.now }
     requires room { CALL_UNITS * fact.old.geometry.pages ≤ (D.state device.old).spare }
     ensures images { LeavesCall fact.old call.now (D.state device.old) (D.state device.new) }
     ensures done { OnOk result (MakesCall fact.old fact.new call.now (D.state device.old) (D.state device.new)) }
@@ -50,7 +50,8 @@ pub fn make<D: Pm>(
 
 /// Makes these calls, one after another, up to the first that fails.
 ///
-/// At each moment a stop leaves the rows after the calls that were made so far, or after one more.
+/// Where the table is settled before, at each moment a stop leaves the rows after the calls that were made so far, or
+/// after one more.
 ///
 /// # Errors
 /// `Failed` where a fence failed. The calls after that one weren't made.
@@ -60,7 +61,7 @@ pub fn make_all<D: Pm>(
     who: u32,
     calls: &[TableCall],
 ) -> Result<(), Failed>
-    requires can { CanCallAll (D.state device.old) fact.old calls.now }
+    requires can { CanCallAll (D.state device.old).now fact.old calls.now }
     requires room { CALL_UNITS * fact.old.geometry.pages * length calls.now ≤ (D.state device.old).spare }
     ensures images { LeavesAll fact.old calls.now (D.state device.old) (D.state device.new) }
     ensures done { OnOk result (MakesAll fact.old fact.new calls.now (D.state device.old) (D.state device.new)) }

@@ -25,8 +25,8 @@ use Rattle.fact_table.specs.Table.{Table, IsTable, HasRow, HasNoneAt, GivesBackS
 use Rattle.fact_table.proofs.Tables.{head_or_behind, chain_behind, next_word}
 use Rattle.fact_counts.specs.Standing.{StandsWith}
 use Rattle.fact_counts.proofs.Counting.{row_small}
-use Rattle.fact_changes.specs.Put.{StandsForOneOf}
-use Rattle.fact_changes.specs.Gone.{MayTakeOut, CanTakeOut, MayUnlink, CanUnlink, cleared, IsGoneWord, MakesClosed, LeavesUnlinked, MakesUnlinked}
+use Rattle.fact_rows.specs.Put.{StandsForOneOf}
+use Rattle.fact_rows.specs.Gone.{MayTakeOut, CanTakeOut, MayUnlink, CanUnlink, cleared, IsGoneWord, MakesClosed, LeavesUnlinked, MakesUnlinked}
 use Rattle.fact_changes.specs.Removal.{IsChainTo, HasChainTo, IsBefore, MayRemoveAt, deciding_word, IsRemoveWord}
 use Rattle.fact_changes.proofs.SlotBefore.{before_behind}
 use Rattle.fact_changes.proofs.Slotted.{table_of}

@@ -5,7 +5,7 @@ use Rattle.pm_layout.specs.declared.Geometry.{Geometry}
 use Rattle.pm_layout.specs.Geometry.{slot_word, pointer_word}
 use Rattle.dn_model.specs.Table.{prefix_of}
 use Rattle.fact_table.specs.Table.{Table, TakesSlot}
-use Rattle.fact_changes.specs.Put.{IsPutWord}
+use Rattle.fact_rows.specs.Put.{IsPutWord}
 use Rattle.fact_changes.specs.Insertion.{IsInsertWord}
 
 module _ (t t' : Table) (print : List ℕ) (page direct : ℕ) (k : Geometry) (direct_is : direct ≡ prefix_of t.geometry print) (same : k ≡ t.geometry) (a : ℕ) where

@@ -1,6 +1,3 @@
-pub mod Pointed
-pub mod Inserted
-pub mod TakenOut
 pub mod Pigeons
 pub mod Slotted
 pub mod InsertWords

@@ -20,7 +20,7 @@ use Rattle.dn_table_changes.proofs.TableRows.{of_chain, is_row, prefix_small}
 use Rattle.fact_table.specs.Table.{Table, IsTable, HasRow, HasNoneAt, TakesSlot}
 use Rattle.fact_table.proofs.Tables.{page_word, head_of, in_rows}
 use Rattle.fact_counts.specs.Standing.{StandsWith}
-use Rattle.fact_changes.specs.Put.{new_row, pointed, opened_with, linked_with, MayPutAt, CanPutAt, LeavesOpened, MakesOpened, LeavesLinked, MakesLinked}
+use Rattle.fact_rows.specs.Put.{new_row, pointed, opened_with, linked_with, MayPutAt, CanPutAt, LeavesOpened, MakesOpened, LeavesLinked, MakesLinked}
 use Rattle.fact_changes.specs.Insertion.{MayInsert, opens, links, LeavesInserted, MakesInserted}
 use Rattle.fact_changes.proofs.Pigeons.{Hits, pigeons}
 

@@ -4,10 +4,10 @@ ghost use Rattle.pm_device.specs.State.{Rose};
 ghost use Rattle.pm_device.specs.Settled.{StoresOnly};
 ghost use Rattle.pm_layout.specs.Geometry.{slot_word};
 ghost use Rattle.dn_model.specs.Table.{prefix_of};
-ghost use Rattle.fact_changes.specs.Put.{KeepsOthers};
-ghost use Rattle.fact_changes.specs.Insertion.{CanInsert, IsInsertWord, Leaves, Makes};
+ghost use Rattle.fact_rows.specs.Put.{KeepsOthers};
+ghost use Rattle.fact_changes.specs.Insertion.{CanInsert, IsInsertWord, LeavesInserted, MakesInserted};
 
-use crate::put::{INSERT_UNITS, insert_chained, insert_direct};
+use fact_rows::put::{INSERT_UNITS, insert_chained, insert_direct};
 use fact_slot::load_field;
 use fact_slot::slot::PAGE;
 use fact_table::{Fact, direct_of};
@@ -22,12 +22,12 @@ fn insert_behind<D: Pm>(
     print: &[u8; 20],
     page: u64,
 ) -> Result<u64, Failed>
-    requires can { CanInsert (D.state device.old) fact.old print.now page }
+    requires can { CanInsert (D.state device.old).now fact.old print.now page }
     requires direct { direct ≡ prefix_of fact.old.geometry print.now }
     requires row { slice_index (D.state device.old).now (slot_word fact.old.geometry direct 0) ≢ 0 }
     requires room { INSERT_UNITS ≤ (D.state device.old).spare }
-    ensures images { Leaves fact.old fact.new print.now page (D.state device.old) (D.state device.new) }
-    ensures done { IfOk result (Makes fact.old fact.new print.now page (D.state device.old) (D.state device.new)) }
+    ensures images { LeavesInserted fact.old fact.new print.now page (D.state device.old) (D.state device.new) }
+    ensures done { IfOk result (MakesInserted fact.old fact.new print.now page (D.state device.old) (D.state device.new)) }
     ensures only { StoresOnly (IsInsertWord fact.old fact.new print.now page) (D.state device.old) (D.state device.new) }
     ensures others { KeepsOthers who (IsInsertWord fact.old fact.new print.now page) (D.state device.old) (D.state device.new) }
     ensures spare { (D.state device.old).spare ≤ (D.state device.new).spare + INSERT_UNITS }
@@ -47,7 +47,8 @@ fn insert_behind<D: Pm>(
 /// Puts a new row into the table, with no reference yet and one update under way, and answers its slot: the direct
 /// slot of its prefix where that has no row, and else the least indirect slot without one.
 ///
-/// At each moment a stop leaves the rows of before, with or without the new pointer, or the new row too.
+/// Where the table is settled before, at each moment a stop leaves the rows of before, with or without the new pointer,
+/// or the new row too.
 ///
 /// # Errors
 /// `Failed` where a fence failed. The row is stored or it isn't, and a stop may leave either.
@@ -58,10 +59,10 @@ pub fn insert<D: Pm>(
     print: &[u8; 20],
     page: u64,
 ) -> Result<u64, Failed>
-    requires can { CanInsert (D.state device.old) fact.old print.now page }
+    requires can { CanInsert (D.state device.old).now fact.old print.now page }
     requires room { INSERT_UNITS ≤ (D.state device.old).spare }
-    ensures images { Leaves fact.old fact.new print.now page (D.state device.old) (D.state device.new) }
-    ensures done { IfOk result (Makes fact.old fact.new print.now page (D.state device.old) (D.state device.new)) }
+    ensures images { LeavesInserted fact.old fact.new print.now page (D.state device.old) (D.state device.new) }
+    ensures done { IfOk result (MakesInserted fact.old fact.new print.now page (D.state device.old) (D.state device.new)) }
     ensures only { StoresOnly (IsInsertWord fact.old fact.new print.now page) (D.state device.old) (D.state device.new) }
     ensures others { KeepsOthers who (IsInsertWord fact.old fact.new print.now page) (D.state device.old) (D.state device.new) }
     ensures spare { (D.state device.old).spare ≤ (D.state device.new).spare + INSERT_UNITS }

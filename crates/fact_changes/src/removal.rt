@@ -3,9 +3,9 @@ ghost use Rattle.std.specs.Prelude.{◌≡◌, ◌+◌, ◌*◌, ◌<◌, ◌≤
 ghost use Rattle.pm_device.specs.State.{Rose};
 ghost use Rattle.pm_layout.specs.Geometry.{IsAccepted, directs};
 ghost use Rattle.dn_model.specs.Table.{Row as TableRow};
-ghost use Rattle.fact_changes.specs.Removal.{IsChainTo, HasChainTo, IsBefore, HasZero, IsReadAt, Frees, LeavesRemoved, MakesRemoved, RemovesOnly, KeepsThrough};
+ghost use Rattle.fact_changes.specs.Removal.{IsChainTo, HasChainTo, IsBefore, HasZero, IsReadAt, Frees, MakesRemoved, SettlesRemoved, LeavesRemoved, RemovesOnly, KeepsThrough};
 
-use crate::remove::{REMOVE_UNITS, remove_chained, remove_direct};
+use fact_rows::remove::{REMOVE_UNITS, remove_chained, remove_direct};
 use fact_slot::{Steps, read_slot};
 use fact_table::{Fact, direct_of};
 use pm_device::{Failed, Pm};
@@ -70,11 +70,12 @@ fn take_out<D: Pm>(
     page: u64,
     print: &[u8; 20],
 ) -> Result<(), Failed>
-    requires row { HasZero (D.state device.old) fact.old slot }
-    requires read { IsReadAt (D.state device.old) fact.old slot page print.now }
+    requires row { HasZero (D.state device.old).now fact.old slot }
+    requires read { IsReadAt (D.state device.old).now fact.old slot page print.now }
     requires room { REMOVE_UNITS ≤ (D.state device.old).spare }
     ensures images { LeavesRemoved fact.old slot (D.state device.old) (D.state device.new) }
     ensures done { OnOk result (MakesRemoved fact.old fact.new slot (D.state device.old) (D.state device.new)) }
+    ensures settled { OnOk result (SettlesRemoved fact.old slot (D.state device.old) (D.state device.new)) }
     ensures frees { OnOk result (Frees slot fact.old fact.new) }
     ensures kept { OnErr result (fact.new ≡ fact.old) }
     ensures only { RemovesOnly fact.old slot (D.state device.old) (D.state device.new) }
@@ -97,8 +98,8 @@ fn take_out<D: Pm>(
 /// Takes the row at a slot, which has no reference and no update under way, out of the table. An indirect slot is
 /// given back to those that are kept as having no row.
 ///
-/// At each moment a stop leaves the rows of before, or those without this one, with or without the pointer of its
-/// page.
+/// Where the table is settled before, at each moment a stop leaves the rows of before, or those without this one, with
+/// or without the pointer of its page.
 ///
 /// # Errors
 /// `Failed` where a fence failed. The row is gone or it isn't, and a stop may leave either. The slot isn't given back.
@@ -108,10 +109,11 @@ pub fn remove_zero<D: Pm>(
     who: u32,
     slot: u64,
 ) -> Result<(), Failed>
-    requires row { HasZero (D.state device.old) fact.old slot }
+    requires row { HasZero (D.state device.old).now fact.old slot }
     requires room { REMOVE_UNITS ≤ (D.state device.old).spare }
     ensures images { LeavesRemoved fact.old slot (D.state device.old) (D.state device.new) }
     ensures done { OnOk result (MakesRemoved fact.old fact.new slot (D.state device.old) (D.state device.new)) }
+    ensures settled { OnOk result (SettlesRemoved fact.old slot (D.state device.old) (D.state device.new)) }
     ensures frees { OnOk result (Frees slot fact.old fact.new) }
     ensures kept { OnErr result (fact.new ≡ fact.old) }
     ensures only { RemovesOnly fact.old slot (D.state device.old) (D.state device.new) }

@@ -3,10 +3,10 @@ ghost use Rattle.std.specs.Prelude.{◌≡◌, ◌+◌, ◌*◌, ◌<◌, ◌≤
 ghost use Rattle.pm_device.specs.State.{Rose};
 ghost use Rattle.dn_model.specs.Disk.{Disk};
 ghost use Rattle.fact_table.specs.Table.{HasTable, IsTable};
-ghost use Rattle.fact_changes.specs.Stale.{IsStale, CanClear, LeavesPage, MakesPage, StoresPage, KeepsPage, LeavesCleared, MakesTidy, ClearsOnly, KeepsCleared};
+ghost use Rattle.fact_changes.specs.Stale.{IsStale, MakesPage, LeavesPage, StoresPage, KeepsPage, MakesTidy, LeavesCleared, ClearsOnly, KeepsCleared};
 
-use crate::pointer::{POINTER_UNITS, store_pointer};
 use delete_pointer::entry_of;
+use fact_rows::pointer::{POINTER_UNITS, store_pointer};
 use fact_table::Fact;
 use pm_device::{Failed, Pm};
 
@@ -24,7 +24,7 @@ fn is_stale<D: Pm>(fact: &Fact, device: &D, page: u64) -> bool
 
 // Clears a page's pointer if it is stale.
 fn clear_page<D: Pm>(fact: &Fact, device: &mut D, who: u32, page: u64) -> Result<(), Failed>
-    requires can { CanClear (D.state device.old) fact.now }
+    requires table { HasTable (D.state device.old).now fact.now }
     requires page { page < fact.now.geometry.pages }
     requires room { STALE_UNITS ≤ (D.state device.old).spare }
     ensures images { LeavesPage fact.now page (D.state device.old) (D.state device.new) }
@@ -44,12 +44,13 @@ fn clear_page<D: Pm>(fact: &Fact, device: &mut D, who: u32, page: u64) -> Result
 /// Clears every stale pointer: one that leads to a slot without a row, or to a row of another page. A pointer that
 /// leads to the row of its page stays, and where no pointer is stale nothing is stored.
 ///
-/// At each moment a stop leaves the rows of before, and some of the stale pointers cleared.
+/// Where the table is settled before, at each moment a stop leaves the rows of before, and some of the stale pointers
+/// cleared.
 ///
 /// # Errors
 /// `Failed` where a fence failed. Some of the stale pointers are cleared.
 pub fn clear_stale<D: Pm>(fact: &Fact, device: &mut D, who: u32) -> Result<(), Failed>
-    requires can { CanClear (D.state device.old) fact.now }
+    requires table { HasTable (D.state device.old).now fact.now }
     requires room { STALE_UNITS * fact.now.geometry.pages ≤ (D.state device.old).spare }
     ensures images { LeavesCleared fact.now (D.state device.old) (D.state device.new) }
     ensures done { OnOk result (MakesTidy fact.now (D.state device.old) (D.state device.new)) }

@@ -1,15 +1,13 @@
 -- The counts of a row become others.
-use Rattle.std.specs.Prelude.{◌≡◌, ◌⊎◌, ℕ, ◌+◌, ◌-◌, ◌^◌, ◌<◌, ◌≤◌}
+use Rattle.std.specs.Prelude.{◌≡◌, ◌⊎◌, ℕ, ◌+◌, ◌-◌, ◌^◌, ◌<◌, ◌≤◌, List}
 use Rattle.pm_device.specs.State.{State}
 use Rattle.pm_device.specs.Settled.{LeavesOnly}
 use Rattle.fingerprint.specs.declared.count.CountWord.{CountWord}
 use Rattle.dn_model.specs.Table.{Row}
 use Rattle.dn_model.specs.Disk.{Disk}
-use Rattle.dn_model.specs.Image.{StandsFor}
 use Rattle.dn_row_changes.specs.Changes.{recounted}
-use Rattle.dn_table_changes.specs.CountLaws.{MayRecount}
+use Rattle.dn_row_changes.specs.Words.{HoldsTable}
 use Rattle.fact_table.specs.Table.{Table, IsTable, IsSettledTable, IsAtSlot}
-use Rattle.fact_counts.specs.Standing.{StandsWith, HasTableOf}
 
 -- what the counts of a row become: with one update more under way
 abbrev pub raised : Row → CountWord
@@ -44,29 +42,19 @@ AnyRow row = Unit {0}
 abbrev pub count_changed : (Row → CountWord) → Disk → ℕ → Row → Disk
 count_changed f d slot row = recounted d slot (f row).rfc (f row).uc
 
--- on the way each image has the table of before or the table of after
+-- in the end the words hold the table of after; what is kept in memory stays
+abbrev pub MakesTable : (Row → CountWord) → Table → ℕ → State → State → Type 0
+MakesTable f t slot old new = (d : Disk) (row : Row) → IsTable d old.now t → IsAtSlot d slot row → IsTable (count_changed f d slot row) new.now t
+
+-- it is settled, if the table of before was
+abbrev pub SettlesTable : (Row → CountWord) → Table → ℕ → State → State → Type 0
+SettlesTable f t slot old new = (d : Disk) (row : Row) → IsSettledTable d old t → IsAtSlot d slot row → IsSettledTable (count_changed f d slot row) new t
+
+-- and then on the way each image has the table of before or that of after
 abbrev pub LeavesTables : (Row → CountWord) → Table → ℕ → State → State → Type 0
 LeavesTables f t slot old new = (d : Disk) (row : Row) → IsSettledTable d old t → IsAtSlot d slot row
-    → LeavesOnly old new (λ c. HasTableOf c d ⊎ HasTableOf c (count_changed f d slot row))
-
--- in the end the table is that of after; what is kept in memory stays
-abbrev pub MakesTable : (Row → CountWord) → Table → ℕ → State → State → Type 0
-MakesTable f t slot old new = (d : Disk) (row : Row) → IsSettledTable d old t → IsAtSlot d slot row → IsSettledTable (count_changed f d slot row) new t
-
--- the row of the disk that the device stands for may get these counts
-pub record MayChange (f : Row → CountWord) (d : Disk) (t : Table) (slot : ℕ) (row : Row) (s : State) : Type 0 where
-  pub stands : StandsWith d s t
-  pub may : MayRecount d row (f row).rfc (f row).uc
-  pub slot_is : row.slot ≡ slot
-
--- then on the way each image stands for the disk of before or the disk of after
-abbrev pub LeavesDisks : (Row → CountWord) → Table → ℕ → State → State → Type 0
-LeavesDisks f t slot old new = (d : Disk) (row : Row) → MayChange f d t slot row old → LeavesOnly old new (λ c. StandsFor c d ⊎ StandsFor c (count_changed f d slot row))
-
--- and in the end the device stands for the disk of after
-abbrev pub MakesDisk : (Row → CountWord) → Table → ℕ → State → State → Type 0
-MakesDisk f t slot old new = (d : Disk) (row : Row) → MayChange f d t slot row old → StandsWith (count_changed f d slot row) new t
+    → LeavesOnly old new (λ c. HoldsTable c d ⊎ HoldsTable c (count_changed f d slot row))
 
 -- these are the counts of the row at this slot
-abbrev pub CountsAre : State → Table → ℕ → CountWord → Type 0
-CountsAre s t slot counts = (d : Disk) (row : Row) → IsTable d s.now t → IsAtSlot d slot row → counts ≡ record { rfc = row.rfc; uc = row.uc }
+abbrev pub CountsAre : List ℕ → Table → ℕ → CountWord → Type 0
+CountsAre words t slot counts = (d : Disk) (row : Row) → IsTable d words t → IsAtSlot d slot row → counts ≡ record { rfc = row.rfc; uc = row.uc }

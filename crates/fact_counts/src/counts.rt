@@ -4,7 +4,7 @@ ghost use Rattle.pm_device.specs.State.{Rose};
 ghost use Rattle.pm_device.specs.Settled.{StoresOnly, KeepsFlushed, Others};
 ghost use Rattle.pm_layout.specs.Geometry.{slot_word};
 ghost use Rattle.fact_counts.specs.Standing.{HasRowWith};
-ghost use Rattle.fact_counts.specs.Counted.{raised, up, down, counted, MayRaise, MaySettleUp, MaySettleDown, AnyRow, CountsAre, LeavesTables, MakesTable, LeavesDisks, MakesDisk};
+ghost use Rattle.fact_counts.specs.Counted.{raised, up, down, counted, MayRaise, MaySettleUp, MaySettleDown, AnyRow, CountsAre, MakesTable, SettlesTable, LeavesTables};
 
 use fact_slot::{commit_field, load_field};
 use fact_table::Fact;
@@ -19,8 +19,8 @@ pub const COUNT_UNITS: u64 = 4;
 
 // The counts of the row at a slot.
 fn counts_at<D: Pm>(fact: &Fact, device: &D, slot: u64) -> CountWord
-    requires row { HasRowWith (D.state device.now) fact.now slot AnyRow }
-    ensures counts { CountsAre (D.state device.now) fact.now slot result }
+    requires row { HasRowWith (D.state device.now).now fact.now slot AnyRow }
+    ensures counts { CountsAre (D.state device.now).now fact.now slot result }
 {
     CountWord::of_word(load_field(device, &fact.geometry(), slot, COUNT))
 }
@@ -35,12 +35,11 @@ fn set_counts<D: Pm>(
 ) -> Result<(), Failed>
     requires rfc { counts.rfc < 2 ^ 32 }
     requires uc { counts.uc < 2 ^ 32 }
-    requires row { HasRowWith (D.state device.old) fact.now slot AnyRow }
+    requires row { HasRowWith (D.state device.old).now fact.now slot AnyRow }
     requires room { COUNT_UNITS ≤ (D.state device.old).spare }
-    ensures tables { LeavesTables (λ row. counts) fact.now slot (D.state device.old) (D.state device.new) }
+    ensures images { LeavesTables (λ row. counts) fact.now slot (D.state device.old) (D.state device.new) }
     ensures table { OnOk result (MakesTable (λ row. counts) fact.now slot (D.state device.old) (D.state device.new)) }
-    ensures disks { LeavesDisks (λ row. counts) fact.now slot (D.state device.old) (D.state device.new) }
-    ensures disk { OnOk result (MakesDisk (λ row. counts) fact.now slot (D.state device.old) (D.state device.new)) }
+    ensures settled { OnOk result (SettlesTable (λ row. counts) fact.now slot (D.state device.old) (D.state device.new)) }
     ensures only { StoresOnly (λ a. a ≡ slot_word fact.now.geometry slot 4) (D.state device.old) (D.state device.new) }
     ensures others { KeepsFlushed (Others who) (λ a. a ≡ slot_word fact.now.geometry slot 4) (D.state device.old) (D.state device.new) }
     ensures spare { (D.state device.old).spare ≤ (D.state device.new).spare + COUNT_UNITS }
@@ -52,19 +51,18 @@ fn set_counts<D: Pm>(
 
 /// One update more of the row at a slot is under way.
 ///
-/// One word of the table is fenced, stored, flushed and fenced. At each moment a stop leaves the counts of before
-/// or those of after.
+/// One word of the table is fenced, stored, flushed and fenced. Where the table is settled before, at each moment a stop
+/// leaves the counts of before or those of after.
 ///
 /// # Errors
 /// `Failed` where one of the two fences failed. After the first the counts are those of before; after the second
 /// the new ones are stored, and a stop may leave either.
 pub fn raise<D: Pm>(fact: &Fact, device: &mut D, who: u32, slot: u64) -> Result<(), Failed>
-    requires row { HasRowWith (D.state device.old) fact.now slot MayRaise }
+    requires row { HasRowWith (D.state device.old).now fact.now slot MayRaise }
     requires room { COUNT_UNITS ≤ (D.state device.old).spare }
-    ensures tables { LeavesTables raised fact.now slot (D.state device.old) (D.state device.new) }
+    ensures images { LeavesTables raised fact.now slot (D.state device.old) (D.state device.new) }
     ensures table { OnOk result (MakesTable raised fact.now slot (D.state device.old) (D.state device.new)) }
-    ensures disks { LeavesDisks raised fact.now slot (D.state device.old) (D.state device.new) }
-    ensures disk { OnOk result (MakesDisk raised fact.now slot (D.state device.old) (D.state device.new)) }
+    ensures settled { OnOk result (SettlesTable raised fact.now slot (D.state device.old) (D.state device.new)) }
     ensures only { StoresOnly (λ a. a ≡ slot_word fact.now.geometry slot 4) (D.state device.old) (D.state device.new) }
     ensures others { KeepsFlushed (Others who) (λ a. a ≡ slot_word fact.now.geometry slot 4) (D.state device.old) (D.state device.new) }
     ensures spare { (D.state device.old).spare ≤ (D.state device.new).spare + COUNT_UNITS }
@@ -77,19 +75,18 @@ pub fn raise<D: Pm>(fact: &Fact, device: &mut D, who: u32, slot: u64) -> Result<
 
 /// An update of the row at a slot is made, which adds a reference to its page.
 ///
-/// One word of the table is fenced, stored, flushed and fenced. At each moment a stop leaves the counts of before
-/// or those of after.
+/// One word of the table is fenced, stored, flushed and fenced. Where the table is settled before, at each moment a stop
+/// leaves the counts of before or those of after.
 ///
 /// # Errors
 /// `Failed` where one of the two fences failed. After the first the counts are those of before; after the second
 /// the new ones are stored, and a stop may leave either.
 pub fn settle_up<D: Pm>(fact: &Fact, device: &mut D, who: u32, slot: u64) -> Result<(), Failed>
-    requires row { HasRowWith (D.state device.old) fact.now slot MaySettleUp }
+    requires row { HasRowWith (D.state device.old).now fact.now slot MaySettleUp }
     requires room { COUNT_UNITS ≤ (D.state device.old).spare }
-    ensures tables { LeavesTables up fact.now slot (D.state device.old) (D.state device.new) }
+    ensures images { LeavesTables up fact.now slot (D.state device.old) (D.state device.new) }
     ensures table { OnOk result (MakesTable up fact.now slot (D.state device.old) (D.state device.new)) }
-    ensures disks { LeavesDisks up fact.now slot (D.state device.old) (D.state device.new) }
-    ensures disk { OnOk result (MakesDisk up fact.now slot (D.state device.old) (D.state device.new)) }
+    ensures settled { OnOk result (SettlesTable up fact.now slot (D.state device.old) (D.state device.new)) }
     ensures only { StoresOnly (λ a. a ≡ slot_word fact.now.geometry slot 4) (D.state device.old) (D.state device.new) }
     ensures others { KeepsFlushed (Others who) (λ a. a ≡ slot_word fact.now.geometry slot 4) (D.state device.old) (D.state device.new) }
     ensures spare { (D.state device.old).spare ≤ (D.state device.new).spare + COUNT_UNITS }
@@ -102,19 +99,18 @@ pub fn settle_up<D: Pm>(fact: &Fact, device: &mut D, who: u32, slot: u64) -> Res
 
 /// An update of the row at a slot is made, which takes a reference to its page away.
 ///
-/// One word of the table is fenced, stored, flushed and fenced. At each moment a stop leaves the counts of before
-/// or those of after.
+/// One word of the table is fenced, stored, flushed and fenced. Where the table is settled before, at each moment a stop
+/// leaves the counts of before or those of after.
 ///
 /// # Errors
 /// `Failed` where one of the two fences failed. After the first the counts are those of before; after the second
 /// the new ones are stored, and a stop may leave either.
 pub fn settle_down<D: Pm>(fact: &Fact, device: &mut D, who: u32, slot: u64) -> Result<(), Failed>
-    requires row { HasRowWith (D.state device.old) fact.now slot MaySettleDown }
+    requires row { HasRowWith (D.state device.old).now fact.now slot MaySettleDown }
     requires room { COUNT_UNITS ≤ (D.state device.old).spare }
-    ensures tables { LeavesTables down fact.now slot (D.state device.old) (D.state device.new) }
+    ensures images { LeavesTables down fact.now slot (D.state device.old) (D.state device.new) }
     ensures table { OnOk result (MakesTable down fact.now slot (D.state device.old) (D.state device.new)) }
-    ensures disks { LeavesDisks down fact.now slot (D.state device.old) (D.state device.new) }
-    ensures disk { OnOk result (MakesDisk down fact.now slot (D.state device.old) (D.state device.new)) }
+    ensures settled { OnOk result (SettlesTable down fact.now slot (D.state device.old) (D.state device.new)) }
     ensures only { StoresOnly (λ a. a ≡ slot_word fact.now.geometry slot 4) (D.state device.old) (D.state device.new) }
     ensures others { KeepsFlushed (Others who) (λ a. a ≡ slot_word fact.now.geometry slot 4) (D.state device.old) (D.state device.new) }
     ensures spare { (D.state device.old).spare ≤ (D.state device.new).spare + COUNT_UNITS }
@@ -127,8 +123,8 @@ pub fn settle_down<D: Pm>(fact: &Fact, device: &mut D, who: u32, slot: u64) -> R
 
 /// The row at a slot gets this count of references, and no update of it is under way.
 ///
-/// One word of the table is fenced, stored, flushed and fenced. At each moment a stop leaves the counts of before
-/// or those of after.
+/// One word of the table is fenced, stored, flushed and fenced. Where the table is settled before, at each moment a stop
+/// leaves the counts of before or those of after.
 ///
 /// # Errors
 /// `Failed` where one of the two fences failed. After the first the counts are those of before; after the second
@@ -140,12 +136,11 @@ pub fn recount<D: Pm>(
     slot: u64,
     rfc: u32,
 ) -> Result<(), Failed>
-    requires row { HasRowWith (D.state device.old) fact.now slot AnyRow }
+    requires row { HasRowWith (D.state device.old).now fact.now slot AnyRow }
     requires room { COUNT_UNITS ≤ (D.state device.old).spare }
-    ensures tables { LeavesTables (counted rfc) fact.now slot (D.state device.old) (D.state device.new) }
+    ensures images { LeavesTables (counted rfc) fact.now slot (D.state device.old) (D.state device.new) }
     ensures table { OnOk result (MakesTable (counted rfc) fact.now slot (D.state device.old) (D.state device.new)) }
-    ensures disks { LeavesDisks (counted rfc) fact.now slot (D.state device.old) (D.state device.new) }
-    ensures disk { OnOk result (MakesDisk (counted rfc) fact.now slot (D.state device.old) (D.state device.new)) }
+    ensures settled { OnOk result (SettlesTable (counted rfc) fact.now slot (D.state device.old) (D.state device.new)) }
     ensures only { StoresOnly (λ a. a ≡ slot_word fact.now.geometry slot 4) (D.state device.old) (D.state device.new) }
     ensures others { KeepsFlushed (Others who) (λ a. a ≡ slot_word fact.now.geometry slot 4) (D.state device.old) (D.state device.new) }
     ensures spare { (D.state device.old).spare ≤ (D.state device.new).spare + COUNT_UNITS }

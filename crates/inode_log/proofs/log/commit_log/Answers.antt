@@ -1,4 +1,5 @@
-use Rattle.std.proofs.Common.{arith}
+use Rattle.std.proofs.Common.{sym, subst, arith}
+use Rattle.pm_device.specs.Settled.{IsSettled}
 use Rattle.dn_model.proofs.Regions.{inode_word_low}
 use Rattle.inode_log.proofs.Committed.{committed_log, new_log_stands, on_ok_map}
 use Rattle.inode_log.proofs.log.commit_log.Goals as goal
@@ -9,7 +10,7 @@ commit-requires-clause-inside g c =
 
 pub returns-clause-any_moment : goal.returns-clause-any_moment
 returns-clause-any_moment g c settled =
-    committed_log c.args.g.now c.args.who c.args.ino c.args.tail c.inode_word.result c.inode_word.ensures c.requires.ino (g.D.Pm.state c.args.device.now) (g.D.Pm.state c.commit.new.device) (c.commit.ensures.any_moment settled)
+    committed_log c.args.g.now c.args.who c.args.ino c.args.tail c.inode_word.result c.inode_word.ensures c.requires.ino (g.D.Pm.state c.args.device.now) (g.D.Pm.state c.commit.new.device) (c.commit.ensures.any_moment (subst (IsSettled (g.D.Pm.state c.args.device.now)) (sym c.inode_word.ensures) settled))
 
 pub returns-clause-stands : goal.returns-clause-stands
 returns-clause-stands g c =

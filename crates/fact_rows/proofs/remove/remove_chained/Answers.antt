@@ -2,8 +2,8 @@ use Rattle.std.proofs.Common.{◌∙◌}
 use Rattle.std.specs.Prelude.{slice_index}
 use Rattle.pm_layout.specs.Geometry.{slot_word}
 use Rattle.fact_counts.proofs.Counting.{on_ok_map}
-use Rattle.fact_changes.proofs.TakenOut.{Went, Cleared, unlinks, before_small, gone_page_lt, deciding_settled, gone_failed, pointer_still, gone_images, gone_stands, gone_only_front, gone_keeps_front, gone_only, gone_keeps}
-use Rattle.fact_changes.proofs.remove.remove_chained.Goals as goal
+use Rattle.fact_rows.proofs.TakenOut.{Went, Cleared, unlinks, before_small, gone_page_lt, deciding_settled, gone_failed, pointer_still, gone_images, gone_stands, gone_only_front, gone_keeps_front, gone_only, gone_keeps}
+use Rattle.fact_rows.proofs.remove.remove_chained.Goals as goal
 
 pub unlink-requires-clause-before : goal.unlink-requires-clause-before
 unlink-requires-clause-before g c =

@@ -4,8 +4,8 @@ ghost use Rattle.pm_device.specs.State.{Rose};
 ghost use Rattle.pm_device.specs.Settled.{StoresOnly};
 ghost use Rattle.pm_device.specs.Lines.{StoresRun};
 ghost use Rattle.pm_layout.specs.Geometry.{IsAccepted, slot_word, directs, slots};
-ghost use Rattle.dn_table_changes.specs.RowLaws.{opened_words, linked_words};
-ghost use Rattle.fact_changes.specs.Put.{new_row, CanPutAt, IsPutWord, KeepsOthers, LeavesOpened, MakesOpened, LeavesLinked, MakesLinked};
+ghost use Rattle.dn_row_changes.specs.Rows.{opened_words, linked_words};
+ghost use Rattle.fact_rows.specs.Put.{new_row, CanPutAt, IsPutWord, KeepsOthers, MakesOpened, SettlesOpened, LeavesOpened, MakesLinked, SettlesLinked, LeavesLinked};
 
 use crate::pointer::store_pointer;
 use fact_chain::link;
@@ -78,7 +78,8 @@ fn fill_linked<D: Pm>(
 /// Puts a new row into a direct slot that has none: fills the slot, makes the page's pointer lead to it, flushes and
 /// fences; then opens the slot by its page word. The row has no reference yet, and one update under way.
 ///
-/// At each moment a stop leaves the rows of before, with or without the new pointer, or the new row too.
+/// Where the table is settled before, at each moment a stop leaves the rows of before, with or without the new pointer,
+/// or the new row too.
 ///
 /// # Errors
 /// `Failed` where a fence failed. The row is stored or it isn't, and a stop may leave either.
@@ -92,10 +93,11 @@ pub fn insert_direct<D: Pm>(
 ) -> Result<(), Failed>
     requires accepted { IsAccepted g.now }
     requires size { length (D.state device.old).now ≡ 512 * g.now.pages }
-    requires can { CanPutAt (D.state device.old) g.now direct direct print.now page }
+    requires can { CanPutAt (D.state device.old).now g.now direct direct print.now page }
     requires room { INSERT_UNITS ≤ (D.state device.old).spare }
     ensures images { LeavesOpened g.now direct print.now page (D.state device.old) (D.state device.new) }
     ensures done { OnOk result (MakesOpened g.now direct print.now page (D.state device.old) (D.state device.new)) }
+    ensures settled { OnOk result (SettlesOpened g.now direct print.now page (D.state device.old) (D.state device.new)) }
     ensures only { StoresOnly (IsPutWord g.now direct page (slot_word g.now direct 0)) (D.state device.old) (D.state device.new) }
     ensures others { KeepsOthers who (IsPutWord g.now direct page (slot_word g.now direct 0)) (D.state device.old) (D.state device.new) }
     ensures spare { (D.state device.old).spare ≤ (D.state device.new).spare + INSERT_UNITS }
@@ -111,7 +113,8 @@ pub fn insert_direct<D: Pm>(
 /// makes the page's pointer lead to it, flushes and fences; then links it by the direct slot's next word. The row has
 /// no reference yet, and one update under way.
 ///
-/// At each moment a stop leaves the rows of before, with or without the new pointer, or the new row too.
+/// Where the table is settled before, at each moment a stop leaves the rows of before, with or without the new pointer,
+/// or the new row too.
 ///
 /// # Errors
 /// `Failed` where a fence failed. The row is stored or it isn't, and a stop may leave either.
@@ -128,10 +131,11 @@ pub fn insert_chained<D: Pm>(
     requires size { length (D.state device.old).now ≡ 512 * g.now.pages }
     requires indirect { directs g.now ≤ slot }
     requires slot { slot < slots g.now }
-    requires can { CanPutAt (D.state device.old) g.now direct slot print.now page }
+    requires can { CanPutAt (D.state device.old).now g.now direct slot print.now page }
     requires room { INSERT_UNITS ≤ (D.state device.old).spare }
     ensures images { LeavesLinked g.now direct slot print.now page (D.state device.old) (D.state device.new) }
     ensures done { OnOk result (MakesLinked g.now direct slot print.now page (D.state device.old) (D.state device.new)) }
+    ensures settled { OnOk result (SettlesLinked g.now direct slot print.now page (D.state device.old) (D.state device.new)) }
     ensures only { StoresOnly (IsPutWord g.now slot page (slot_word g.now direct 5)) (D.state device.old) (D.state device.new) }
     ensures others { KeepsOthers who (IsPutWord g.now slot page (slot_word g.now direct 5)) (D.state device.old) (D.state device.new) }
     ensures spare { (D.state device.old).spare ≤ (D.state device.new).spare + INSERT_UNITS }

@@ -3,7 +3,7 @@ ghost use Rattle.std.specs.Prelude.{◌≡◌, ◌+◌, ◌*◌, ◌≤◌, ◌<
 ghost use Rattle.pm_device.specs.State.{Rose};
 ghost use Rattle.pm_device.specs.Settled.{StoresOnly, KeepsFlushed, Others};
 ghost use Rattle.pm_layout.specs.Geometry.{IsAccepted, slot_word, directs, slots};
-ghost use Rattle.fact_changes.specs.Gone.{CanTakeOut, CanUnlink, IsGoneWord, LeavesClosed, MakesClosed, LeavesUnlinked, MakesUnlinked};
+ghost use Rattle.fact_rows.specs.Gone.{CanTakeOut, CanUnlink, IsGoneWord, MakesClosed, SettlesClosed, LeavesClosed, MakesUnlinked, SettlesUnlinked, LeavesUnlinked};
 
 use crate::pointer::store_pointer;
 use fact_chain::unlink;
@@ -17,7 +17,8 @@ pub const REMOVE_UNITS: u64 = 7;
 /// Takes a row out of its direct slot: closes the slot by a page word of 0, flushes and fences; then clears the page's
 /// pointer, flushes and fences. The rows that are chained behind the slot stay.
 ///
-/// At each moment a stop leaves the rows of before, or those without this one, with or without the pointer.
+/// Where the table is settled before, at each moment a stop leaves the rows of before, or those without this one, with
+/// or without the pointer.
 ///
 /// # Errors
 /// `Failed` where a fence failed. The row is gone or it isn't, and a stop may leave either.
@@ -30,10 +31,11 @@ pub fn remove_direct<D: Pm>(
 ) -> Result<(), Failed>
     requires accepted { IsAccepted g.now }
     requires size { length (D.state device.old).now ≡ 512 * g.now.pages }
-    requires can { CanTakeOut (D.state device.old) g.now direct direct page }
+    requires can { CanTakeOut (D.state device.old).now g.now direct direct page }
     requires room { REMOVE_UNITS ≤ (D.state device.old).spare }
     ensures images { LeavesClosed g.now direct page (D.state device.old) (D.state device.new) }
     ensures done { OnOk result (MakesClosed g.now direct page (D.state device.old) (D.state device.new)) }
+    ensures settled { OnOk result (SettlesClosed g.now direct page (D.state device.old) (D.state device.new)) }
     ensures only { StoresOnly (IsGoneWord g.now (slot_word g.now direct 0) page) (D.state device.old) (D.state device.new) }
     ensures others { KeepsFlushed (Others who) (IsGoneWord g.now (slot_word g.now direct 0) page) (D.state device.old) (D.state device.new) }
     ensures spare { (D.state device.old).spare ≤ (D.state device.new).spare + REMOVE_UNITS }
@@ -48,7 +50,8 @@ pub fn remove_direct<D: Pm>(
 /// word of the row's slot, so that the rest of the chain follows, and is flushed and fenced; then the page's pointer is
 /// cleared, flushed and fenced.
 ///
-/// At each moment a stop leaves the rows of before, or those without this one, with or without the pointer.
+/// Where the table is settled before, at each moment a stop leaves the rows of before, or those without this one, with
+/// or without the pointer.
 ///
 /// # Errors
 /// `Failed` where a fence failed. The row is gone or it isn't, and a stop may leave either.
@@ -64,10 +67,11 @@ pub fn remove_chained<D: Pm>(
     requires size { length (D.state device.old).now ≡ 512 * g.now.pages }
     requires indirect { directs g.now ≤ slot }
     requires slot { slot < slots g.now }
-    requires can { CanUnlink (D.state device.old) g.now before slot page }
+    requires can { CanUnlink (D.state device.old).now g.now before slot page }
     requires room { REMOVE_UNITS ≤ (D.state device.old).spare }
     ensures images { LeavesUnlinked g.now before slot page (D.state device.old) (D.state device.new) }
     ensures done { OnOk result (MakesUnlinked g.now before slot page (D.state device.old) (D.state device.new)) }
+    ensures settled { OnOk result (SettlesUnlinked g.now before slot page (D.state device.old) (D.state device.new)) }
     ensures only { StoresOnly (IsGoneWord g.now (slot_word g.now before 5) page) (D.state device.old) (D.state device.new) }
     ensures others { KeepsFlushed (Others who) (IsGoneWord g.now (slot_word g.now before 5) page) (D.state device.old) (D.state device.new) }
     ensures spare { (D.state device.old).spare ≤ (D.state device.new).spare + REMOVE_UNITS }

@@ -2,10 +2,10 @@ use Rattle.std.proofs.Common.{◌∙◌, arith}
 use Rattle.pm_layout.specs.Geometry.{slot_word}
 use Rattle.pm_layout.proofs.Bits.{slots_small}
 use Rattle.dn_table_changes.specs.RowLaws.{opened_words}
-use Rattle.fact_changes.specs.Put.{new_row}
+use Rattle.fact_rows.specs.Put.{new_row}
 use Rattle.fact_counts.proofs.Counting.{on_ok_map}
-use Rattle.fact_changes.proofs.Inserted.{Filled, Decided, put_direct_lt, put_page_lt, open_failed, gate_settled, open_images, open_stands, pointer_settled, closed_here, put_only_front, put_keeps_front, put_only, put_keeps}
-use Rattle.fact_changes.proofs.put.insert_direct.Goals as goal
+use Rattle.fact_rows.proofs.Inserted.{Filled, Decided, put_direct_lt, put_page_lt, open_failed, gate_settled, open_images, open_stands, pointer_settled, closed_here, put_only_front, put_keeps_front, put_only, put_keeps}
+use Rattle.fact_rows.proofs.put.insert_direct.Goals as goal
 
 pub fill_closed-requires-clause-slot : goal.fill_closed-requires-clause-slot
 fill_closed-requires-clause-slot g c =

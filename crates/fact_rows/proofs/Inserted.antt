@@ -29,7 +29,7 @@ use Rattle.dn_table_changes.proofs.Opened.{open_one_word}
 use Rattle.dn_table_changes.proofs.Linked.{link_one_word}
 use Rattle.dn_table_changes.proofs.TableRows.{prefix_small}
 use Rattle.dn_table_changes.proofs.TableDiffers.{pointer_above}
-use Rattle.fact_changes.specs.Put.{new_row, pointed, opened_with, linked_with, MayPutAt, StandsForOneOf, IsPutWord, KeepsOthers}
+use Rattle.fact_rows.specs.Put.{new_row, pointed, opened_with, linked_with, MayPutAt, StandsForOneOf, IsPutWord, KeepsOthers}
 
 -- Values are stored to words of a slot, and then a page's pointer is made to lead to it.
 pub record Filled (g : Geometry) (who slot from page : ℕ) (values : List ℕ) (s0 s1 s2 : State) : Type 0 where

@@ -4,8 +4,8 @@ use Rattle.pm_device.specs.State.{Stores, Flushes}
 use Rattle.pm_layout.specs.Geometry.{pointer_word}
 use Rattle.pm_device.proofs.Committed.{on_ok}
 use Rattle.delete_pointer.proofs.Places.{pointer_word-below_data}
-use Rattle.fact_changes.proofs.Pointed.{Points, leaves, done, only, others}
-use Rattle.fact_changes.proofs.pointer.store_pointer.Goals as goal
+use Rattle.fact_rows.proofs.Pointed.{Points, leaves, done, only, others}
+use Rattle.fact_rows.proofs.pointer.store_pointer.Goals as goal
 
 pub store-requires-clause-inside : goal.store-requires-clause-inside
 store-requires-clause-inside g c =

@@ -25,8 +25,8 @@ use Rattle.dn_table_changes.proofs.Rows.{listed_cases, row_found}
 use Rattle.dn_table_changes.proofs.Slots.{HasSlot}
 use Rattle.dn_table_changes.proofs.TableRows.{in_table, row_slot_small}
 use Rattle.dn_table_changes.proofs.Taken.{before_owned, after_here, after_other}
-use Rattle.fact_changes.specs.Put.{StandsForOneOf}
-use Rattle.fact_changes.specs.Gone.{MayTakeOut, MayUnlink, cleared, IsGoneWord}
+use Rattle.fact_rows.specs.Put.{StandsForOneOf}
+use Rattle.fact_rows.specs.Gone.{MayTakeOut, MayUnlink, cleared, IsGoneWord}
 
 -- One word is committed.
 pub record Went (g : Geometry) (who gate value : ℕ) (s0 s1 : State) : Type 0 where

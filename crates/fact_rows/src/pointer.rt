@@ -4,7 +4,7 @@ ghost use Rattle.pm_device.specs.State.{Rose};
 ghost use Rattle.pm_device.specs.Settled.{IsSettled, LeavesOnly, StoresOnly, KeepsFlushed, Others};
 ghost use Rattle.pm_device.specs.Commit.{IsDone};
 ghost use Rattle.pm_layout.specs.Geometry.{IsAccepted, pointer_word};
-ghost use Rattle.dn_table_changes.specs.OneWord.{LeavesOneWord};
+ghost use Rattle.dn_row_changes.specs.Words.{LeavesOneWord};
 
 use pm_device::{Failed, Pm};
 use pm_layout::Geometry;
@@ -13,9 +13,9 @@ use pm_layout::Geometry;
 pub const POINTER_UNITS: u64 = 3;
 
 /// Makes a page's pointer this word: 0, or a slot's number plus 1. It is stored, flushed and fenced, and so is all
-/// that this actor had flushed before. The pointer is settled before.
+/// that this actor had flushed before.
 ///
-/// At each moment on the way a stop leaves the pointer old or new.
+/// Where the pointer is settled before, at each moment on the way a stop leaves it old or new.
 ///
 /// # Errors
 /// `Failed` where the fence failed. Then the pointer is stored, and a stop may leave either.
@@ -30,8 +30,7 @@ pub fn store_pointer<D: Pm>(
     requires size { length (D.state device.old).now ≡ 512 * g.now.pages }
     requires page { page < g.now.pages }
     requires room { POINTER_UNITS ≤ (D.state device.old).spare }
-    requires settled { IsSettled (D.state device.old) (pointer_word g.now page) }
-    ensures any_moment { LeavesOnly (D.state device.old) (D.state device.new) (LeavesOneWord (pointer_word g.now page) word (D.state device.old)) }
+    ensures any_moment { IsSettled (D.state device.old) (pointer_word g.now page) → LeavesOnly (D.state device.old) (D.state device.new) (LeavesOneWord (pointer_word g.now page) word (D.state device.old)) }
     ensures done { OnOk result (IsDone who (pointer_word g.now page) word (D.state device.old) (D.state device.new)) }
     ensures only { StoresOnly (λ a. a ≡ pointer_word g.now page) (D.state device.old) (D.state device.new) }
     ensures others { KeepsFlushed (Others who) (λ a. a ≡ pointer_word g.now page) (D.state device.old) (D.state device.new) }

@@ -1,8 +1,8 @@
 use Rattle.std.proofs.Common.{◌∙◌}
 use Rattle.pm_layout.specs.Geometry.{slot_word}
 use Rattle.fact_counts.proofs.Counting.{on_ok_map}
-use Rattle.fact_changes.proofs.TakenOut.{Went, Cleared, closes, gone_direct_lt, gone_page_lt, deciding_settled, gone_failed, pointer_still, gone_images, gone_stands, gone_only_front, gone_keeps_front, gone_only, gone_keeps}
-use Rattle.fact_changes.proofs.remove.remove_direct.Goals as goal
+use Rattle.fact_rows.proofs.TakenOut.{Went, Cleared, closes, gone_direct_lt, gone_page_lt, deciding_settled, gone_failed, pointer_still, gone_images, gone_stands, gone_only_front, gone_keeps_front, gone_only, gone_keeps}
+use Rattle.fact_rows.proofs.remove.remove_direct.Goals as goal
 
 pub close_direct-requires-clause-slot : goal.close_direct-requires-clause-slot
 close_direct-requires-clause-slot g c =
