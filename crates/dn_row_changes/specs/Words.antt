@@ -1,6 +1,6 @@
 -- A change of a table that one store decides. Of a disk only the table is spoken of: its geometry, chains and pointers.
 use Rattle.std.specs.Prelude.{◌≡◌, ◌≢◌, ◌⊎◌, ℕ, ◌*◌, ◌<◌, List, [], length, slice_index}
-use Rattle.pm_device.specs.State.{State, Agree}
+use Rattle.pm_device.specs.State.{State}
 use Rattle.pm_device.specs.Settled.{IsSettled, LeavesOnly, StoresOnly}
 use Rattle.pm_device.specs.Reading.{Said, Reads, Stands, IsReady, DiffersAt}
 use Rattle.pm_device.specs.Words.{IsIn}

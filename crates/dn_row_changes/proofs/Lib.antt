@@ -1,0 +1,13 @@
+pub mod Words
+pub mod Rows
+pub mod TableRows
+pub mod Slots
+pub mod Put
+pub mod Taken
+pub mod Counted
+pub mod Pointed
+pub mod PutTable
+pub mod Opened
+pub mod Linked
+pub mod Gone
+pub mod Unused
