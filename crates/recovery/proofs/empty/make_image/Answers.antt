@@ -1,4 +1,5 @@
 use Rattle.std.proofs.Common.{◌<◌, length, arith}
+use Rattle.pm_device.specs.Settled.{IsSettled}
 use Rattle.recovery.proofs.Making.{some_tables}
 use Rattle.recovery.proofs.Formatted.{clear_leaves, cleared_still, cleared_flushed, cleared_zero, made_settled, Formats, formats_leaves, formats_done, on_ok_map}
 use Rattle.recovery.proofs.empty.make_image.Goals as goal
@@ -11,8 +12,9 @@ make_parts-requires-clause-flushed g c =
     let S = g.D.Pm.state in
     cleared_flushed c.args.g.now 16 (S c.args.device.now) (S c.commit.new.device) c.requires.still (omega (arith, c.requires.size, c.requires.accepted.pages)) c.commit.ensures.only.words c.in_ok-commit.ensures.done
 
-pub commit-requires-2-clause-settled : goal.commit-requires-2-clause-settled
-commit-requires-2-clause-settled g c =
+-- before the magic is stored its word is settled
+magic_settled : (g : _) (c : goal.After-commit-2 g) → IsSettled (g.D.Pm.state c.make_parts.new.device) 0
+magic_settled g c =
     let S = g.D.Pm.state in let s = S c.args.device.now in let t = S c.commit.new.device in
     let some : 0 < length s.now = omega (arith, c.requires.size, c.requires.accepted.pages) in
     made_settled c.args.g.now s.now t (S c.make_parts.new.device)
@@ -25,7 +27,7 @@ pub returns-in_err-commit-clause-any_moment : goal.returns-in_err-commit-clause-
 returns-in_err-commit-clause-any_moment g c =
     let S = g.D.Pm.state in
     clear_leaves c.args.g.now 16 (S c.args.device.now) (S c.commit.new.device) c.requires.still (omega (arith, c.requires.size, c.requires.accepted.pages)) c.commit.ensures.only.words
-    (g.met.D.Pm.agree c.commit.new.device) c.commit.ensures.any_moment
+    (g.met.D.Pm.agree c.commit.new.device) (c.commit.ensures.any_moment (c.requires.still 0 (omega (arith, c.requires.size, c.requires.accepted.pages))))
 
 -- the three parts
 parts : (g : _) (c : goal.After-commit-2 g) → Formats c.args.g.now 16 (g.D.Pm.state c.args.device.now) (g.D.Pm.state c.commit.new.device) (g.D.Pm.state c.make_parts.new.device) (g.D.Pm.state c.commit-2.new.device)
@@ -35,13 +37,13 @@ parts g c = record {
   still = c.requires.still;
   agree_t = g.met.D.Pm.agree c.commit.new.device;
   agree_v = g.met.D.Pm.agree c.commit-2.new.device;
-  first = c.commit.ensures.any_moment;
+  first = c.commit.ensures.any_moment (c.requires.still 0 (omega (arith, c.requires.size, c.requires.accepted.pages)));
   first_words = c.commit.ensures.only.words;
   cleared = c.in_ok-commit.ensures.done;
   only = c.make_parts.ensures.only;
   made = c.make_parts.ensures.made;
   flushed = c.make_parts.ensures.flushed;
-  last = c.commit-2.ensures.any_moment;
+  last = c.commit-2.ensures.any_moment (magic_settled g c);
   last_words = c.commit-2.ensures.only.words;
 }
 
