@@ -7,7 +7,8 @@ use Rattle.dn_model.specs.Disk.{Disk, maps}
 use Rattle.dn_model.specs.Counts.{total, hit}
 use Rattle.dn_model.specs.Files.{named}
 use Rattle.image_logs.specs.declared.logs.LogsRead.{LogsRead}
-use Rattle.image_logs.specs.Logs.{IsInUse, IsSaid, log_hit, file_hit, dying_hit}
+use Rattle.dn_model.specs.Numbers.{file_hit, dying_hit}
+use Rattle.image_logs.specs.Logs.{IsInUse, IsSaid, log_hit}
 
 -- what the first k inodes of this state say
 pub record IsCountedOf (d : Disk) (k : ℕ) (read : LogsRead) : Type 0 where
