@@ -1,175 +1,113 @@
 -- The counts of a row are committed: what images have on the way, and what stands in the end.
-use Rattle.std.proofs.Common.{◌≡◌, ◌⊎◌, inl, inr, ⊎_elim, ℕ, ◌+◌, ◌*◌, ◌^◌, ◌<◌, ◌≤◌, List, [], length, sym, ◌∙◌, ap, subst, arith}
+use Rattle.std.proofs.Common.{◌≡◌, ◌⊎◌, ℕ, ◌+◌, ◌*◌, ◌^◌, ◌<◌, List, [], length, inl, sym, ◌∙◌, ap, subst, arith, get_or-set_same}
 use Rattle.std.specs.Prelude.{slice_index, Result, Ok, Err, OnOk}
-use Rattle.pm_device.specs.State.{State, Agree}
+use Rattle.pm_device.specs.State.{State}
 use Rattle.pm_device.specs.Settled.{IsSettled, LeavesOnly, StoresOnly}
-use Rattle.pm_device.specs.Reading.{Reads, Stands, DiffersAt, IsReady}
+use Rattle.pm_device.specs.Pages.{SaysRun}
+use Rattle.pm_device.specs.Reading.{Reads}
 use Rattle.pm_device.specs.Commit.{IsCommitted, IsDone}
-use Rattle.pm_device.proofs.OneWord.{reads_old_or_new, stands_new}
-use Rattle.pm_device.proofs.Layers.{stands-both, stands-weaken}
-use Rattle.pm_device.proofs.Moments.{leaves_only-weaken}
 use Rattle.pm_layout.specs.declared.Geometry.{Geometry}
-use Rattle.pm_layout.specs.Geometry.{slot_word, directs, slots}
+use Rattle.pm_layout.specs.Geometry.{IsAccepted, slot_word, directs, slots}
 use Rattle.fingerprint.specs.Count.{count_word}
 use Rattle.fingerprint.specs.declared.count.CountWord.{CountWord}
 use Rattle.fingerprint.proofs.SlotLaws.{count_word-one}
-use Rattle.fact_slot.proofs.Places.{slot_word-below_data}
 use Rattle.dn_model.specs.Table.{Row, at_row}
-use Rattle.dn_model.specs.Disk.{Disk, DiskSays, of_chains, of_pointers, ChainsSay, PointersSay}
-use Rattle.dn_model.specs.Image.{StandsFor}
-use Rattle.dn_row_changes.specs.Changes.{recounted}
-use Rattle.dn_table_changes.specs.CountLaws.{MayRecount}
-use Rattle.dn_table_changes.specs.OneWord.{IsOneWord}
-use Rattle.dn_table_changes.proofs.Recounted.{recount_one_word}
-use Rattle.dn_table_changes.proofs.OneWord.{one_word_images, one_word_stands, nothing_ready}
-use Rattle.dn_table_changes.proofs.Slots.{field_said}
-use Rattle.dn_table_changes.proofs.TableRows.{of_chain}
-use Rattle.dn_table_changes.proofs.Rows.{at_listed}
-use Rattle.fact_table.specs.Table.{Table, IsTable, IsSettledTable, IsAtSlot}
-use Rattle.fact_counts.specs.Standing.{StandsWith, HasTableOf, HasRowWith}
-use Rattle.fact_counts.specs.Counted.{LeavesTables, MakesTable, MayChange, LeavesDisks, MakesDisk, CountsAre, AnyRow}
-use Rattle.fact_counts.proofs.Recounted.{TableSays, NothingSaid, table_differs, good_rows, none_kept, row_kept}
+use Rattle.dn_model.specs.Disk.{Disk, ChainsSay, TableSays}
+use Rattle.dn_row_changes.specs.Changes.{recount, recounted}
+use Rattle.dn_row_changes.specs.Rows.{MayCount}
+use Rattle.dn_row_changes.specs.Words.{HoldsTable, IsOneTableWord}
+use Rattle.dn_row_changes.proofs.Counted.{count_word_decides, recounts_rows}
+use Rattle.dn_row_changes.proofs.Rows.{at_listed}
+use Rattle.dn_row_changes.proofs.Slots.{field_said}
+use Rattle.dn_row_changes.proofs.TableRows.{of_chain, row_slot_small}
+use Rattle.dn_row_changes.proofs.Words.{word_settled, word_images, word_stands, word_reads, nothing_ready}
+use Rattle.fact_table.specs.Table.{Table, IsTable, IsSettledTable, IsAtSlot, HasRow, HasNoneAt}
+use Rattle.fact_counts.specs.Standing.{HasRowWith}
+use Rattle.fact_counts.specs.Counted.{LeavesTables, MakesTable, SettlesTable, CountsAre, AnyRow}
 
--- what stands with a disk is settled as its table
-pub settled_table : (d : Disk) (s : State) (t : Table) → StandsWith d s t → IsSettledTable d s t
-settled_table d s t stands = record {
-  table = stands.table;
-  chains = stands-weaken s (DiskSays d) (ChainsSay d) (λ a v told. of_chains told) stands.disk;
-  pointers = stands-weaken s (DiskSays d) (PointersSay d) (λ a v told. of_pointers told) stands.disk;
-}
+-- the slots with rows are those of before
+module _ (d : Disk) (slot rfc uc : ℕ) where
+  pub none_kept : (s : ℕ) → HasNoneAt d s → HasNoneAt (recounted d slot rfc uc) s
+  none_kept s none row has e = let was = (recounts_rows d slot rfc uc).only row has in none was.0 was.1 (ap (λ (r : Row). r.slot) was.2 ∙ e)
+
+  pub row_kept : (s : ℕ) → HasRow d s → HasRow (recounted d slot rfc uc) s
+  row_kept s has = record {
+    row = recount slot rfc uc has.row;
+    is = record { there = (recounts_rows d slot rfc uc).kept has.row has.is.there; slot_is = has.is.slot_is };
+  }
 
 -- the row at a slot
 module _ (d : Disk) (words : List ℕ) (t : Table) (is : IsTable d words t) (slot : ℕ) (row : Row) (at_slot : IsAtSlot d slot row) where
   pub row_small : slot < slots t.geometry
-  row_small =
-      let in_chain = of_chain d row at_slot.there in
-      let place = (is.good.table in_chain.0 in_chain.2.0 row in_chain.1 (at_listed (d.chain in_chain.0) row in_chain.2)).place in
-      subst (λ (g : Geometry). slot < slots g) is.geometry
-      (⊎_elim (λ (direct : (row.slot ≡ in_chain.0) × (in_chain.2.0 ≡ 0)). omega (arith, direct.0, in_chain.1, at_slot.slot_is))
-      (λ (high : (directs d.geometry ≤ row.slot) × (row.slot < slots d.geometry)). omega (arith, high.1, at_slot.slot_is)) place)
+  row_small = subst (λ (g : Geometry). slot < slots g) is.geometry (subst (λ (s : ℕ). s < slots d.geometry) at_slot.slot_is (row_slot_small d is.good row at_slot.there))
 
   pub row_uc : row.uc < 2 ^ 32
   row_uc = let in_chain = of_chain d row at_slot.there in (is.good.table in_chain.0 in_chain.2.0 row in_chain.1 (at_listed (d.chain in_chain.0) row in_chain.2)).uc
 
   -- its count word is told
-  pub count_told : ChainsSay d (slot_word t.geometry slot 4) (count_word row.rfc row.uc)
+  pub count_told : TableSays d (slot_word t.geometry slot 4) (count_word row.rfc row.uc)
   count_told =
       let in_chain = of_chain d row at_slot.there in
       let here : ChainsSay d (slot_word d.geometry row.slot 4) (count_word row.rfc row.uc) =
       record { prefix = in_chain.0; direct = in_chain.1; says = at_row (field_said d.geometry row (d.chain in_chain.0) 4 (omega arith) in_chain.2) } in
-      subst (λ (g : Geometry). ChainsSay d (slot_word g slot 4) (count_word row.rfc row.uc)) is.geometry
-      (subst (λ (s : ℕ). ChainsSay d (slot_word d.geometry s 4) (count_word row.rfc row.uc)) at_slot.slot_is here)
+      subst (λ (g : Geometry). TableSays d (slot_word g slot 4) (count_word row.rfc row.uc)) is.geometry
+      (subst (λ (s : ℕ). TableSays d (slot_word d.geometry s 4) (count_word row.rfc row.uc)) at_slot.slot_is (inl here))
 
   pub count_read : slice_index words (slot_word t.geometry slot 4) ≡ count_word row.rfc row.uc
-  count_read = is.chains _ _ count_told
+  count_read = is.says _ _ count_told
 
--- the count word of the slot lies in the device
-pub count_inside : (t : Table) (slot : ℕ) (words : List ℕ) (d : Disk) → IsTable d words t → slot < slots t.geometry → slot_word t.geometry slot 4 < length words
-count_inside t slot words d is small = let low = slot_word-below_data t.geometry slot is.accepted small in omega (arith, low, is.accepted.room, is.size)
+  module _ (rfc uc : ℕ) (rfc_fits : rfc < 2 ^ 32) (uc_fits : uc < 2 ^ 32) where
+    -- one word decides
+    pub count_decides : IsOneTableWord d (recounted d slot rfc uc) 0 [] (slot_word t.geometry slot 4) (count_word rfc uc)
+    count_decides =
+        let may : MayCount d row rfc uc = record { accepted = subst IsAccepted (sym is.geometry) is.accepted; good = is.good; has = at_slot.there; rfc_fits = rfc_fits; uc_fits = uc_fits } in
+        subst (λ (g : Geometry). IsOneTableWord d (recounted d slot rfc uc) 0 [] (slot_word g slot 4) (count_word rfc uc)) is.geometry
+        (subst (λ (s : ℕ). IsOneTableWord d (recounted d s rfc uc) 0 [] (slot_word d.geometry s 4) (count_word rfc uc)) at_slot.slot_is (count_word_decides d row rfc uc may))
 
-module _ (t : Table) (slot rfc uc who : ℕ) (s : State) where
-  abbrev at : ℕ
-  at = slot_word t.geometry slot 4
-
-  module _ (d : Disk) (settled : IsSettledTable d s t) (small : slot < slots t.geometry) where
-    abbrev new : Disk
-    new = recounted d slot rfc uc
-
-    differs : DiffersAt (TableSays d) (TableSays new) NothingSaid at (count_word rfc uc)
-    differs = subst (λ (g : Geometry). slot < slots g → DiffersAt (TableSays d) (TableSays new) NothingSaid (slot_word g slot 4) (count_word rfc uc)) settled.table.geometry
-        (λ lt. table_differs d slot rfc uc lt) small
-
-    both : Stands (TableSays d) s
-    both = stands-both s (ChainsSay d) (PointersSay d) settled.chains settled.pointers
-
-    ready : IsReady who NothingSaid s
-    ready = record { within = λ a v told. absurd told; reads = λ a v told. absurd told; flushed = λ a v told. absurd told }
-
-    has_table : (c : List ℕ) (e : Disk) → Reads (TableSays e) c → HasTableOf c e
-    has_table c e reads = record { chains = λ a v told. reads a v (inl told); pointers = λ a v told. reads a v (inr told) }
-
-    pub table_images : (u : State) → LeavesOnly s u (IsCommitted who at (count_word rfc uc) s) → LeavesOnly s u (λ c. HasTableOf c d ⊎ HasTableOf c new)
-    table_images u leaves = leaves_only-weaken s u _ _
-        (λ c is. ⊎_elim (λ (old : Reads (TableSays d) c). inl (has_table c d old)) (λ (after : Reads (TableSays new) c). inr (has_table c new after))
-        (reads_old_or_new (TableSays d) (TableSays new) NothingSaid who at (count_word rfc uc) s c differs both ready is)) leaves
-
-    pub table_after : rfc < 2 ^ 32 → uc < 2 ^ 32 → (u : State) → IsDone who at (count_word rfc uc) s u → StoresOnly (λ a. a ≡ at) s u → IsSettledTable new u t
-    table_after rfc_fits uc_fits u done only =
-        let after = stands_new (TableSays d) (TableSays new) NothingSaid who at (count_word rfc uc) s u differs both ready (count_inside t slot s.now d settled.table small) done only in
-        let chains = stands-weaken u (TableSays new) (ChainsSay new) (λ a v told. inl told) after in
-        let pointers = stands-weaken u (TableSays new) (PointersSay new) (λ a v told. inr told) after in
-        record {
-          table = record {
-            geometry = settled.table.geometry;
-            accepted = settled.table.accepted;
-            size = only.words ∙ settled.table.size;
-            chains = chains.reads;
-            pointers = pointers.reads;
-            good = good_rows d slot rfc uc (subst (λ (g : Geometry). slot < slots g) (sym settled.table.geometry) small) settled.table.good rfc_fits uc_fits;
-            set = settled.table.set;
-            free = λ k has. none_kept d slot rfc uc (directs t.geometry + k) (settled.table.free k has);
-            taken = λ k lt not. row_kept d slot rfc uc (directs t.geometry + k) (settled.table.taken k lt not);
-          };
-          chains = chains;
-          pointers = pointers;
-        }
-
-  -- the disk that the device stands for
-  module _ (d : Disk) (row : Row) (stands : StandsWith d s t) (may : MayRecount d row rfc uc) (slot_is : row.slot ≡ slot) where
-    one_word : IsOneWord d (recounted d slot rfc uc) 0 [] at (count_word rfc uc)
-    one_word = subst (λ (g : Geometry). IsOneWord d (recounted d slot rfc uc) 0 [] (slot_word g slot 4) (count_word rfc uc)) stands.table.geometry
-        (subst (λ (q : ℕ). IsOneWord d (recounted d q rfc uc) 0 [] (slot_word d.geometry q 4) (count_word rfc uc)) slot_is (recount_one_word d row rfc uc may))
-
-    size_is : length s.now ≡ 512 * d.geometry.pages
-    size_is = stands.table.size ∙ ap (λ (g : Geometry). 512 * g.pages) (sym stands.table.geometry)
-
-    pub disk_images : (u : State) → Agree u.now u.past → StoresOnly (λ a. a ≡ at) s u → LeavesOnly s u (IsCommitted who at (count_word rfc uc) s)
-        → LeavesOnly s u (λ c. StandsFor c d ⊎ StandsFor c (recounted d slot rfc uc))
-    disk_images u agree only leaves = one_word_images d (recounted d slot rfc uc) 0 [] at (count_word rfc uc) one_word who s u agree (only.words ∙ size_is) stands.disk (nothing_ready who 0 s) leaves
-
-    pub disk_after : (u : State) → IsDone who at (count_word rfc uc) s u → StoresOnly (λ a. a ≡ at) s u → StandsWith (recounted d slot rfc uc) u t
-    disk_after u done only = record {
-      disk = one_word_stands d (recounted d slot rfc uc) 0 [] at (count_word rfc uc) one_word who s u size_is stands.disk (nothing_ready who 0 s) done only;
-      table = (table_after d (settled_table d s t stands) (row_small d s.now t stands.table slot row (record { there = may.has; slot_is = slot_is })) may.rfc_fits may.uc_fits u done only).table;
+    -- words that read as the table of after hold it, with the same slots unused
+    pub recounted_table : (after : List ℕ) → length after ≡ length words → HoldsTable after (recounted d slot rfc uc) → IsTable (recounted d slot rfc uc) after t
+    recounted_table after long holds = record {
+      geometry = is.geometry;
+      accepted = is.accepted;
+      size = long ∙ is.size;
+      says = holds;
+      good = count_decides.good;
+      set = is.set;
+      free = λ k has. none_kept d slot rfc uc (directs t.geometry + k) (is.free k has);
+      taken = λ k lt not. row_kept d slot rfc uc (directs t.geometry + k) (is.taken k lt not);
     }
 
 -- the counts that were read are those of the row
-pub counts_read : (t : Table) (slot word : ℕ) (s : State) (counts : CountWord) → word ≡ slice_index s.now (slot_word t.geometry slot 4) → count_word counts.rfc counts.uc ≡ word → counts.uc < 2 ^ 32
-    → CountsAre s t slot counts
-counts_read t slot word s counts read is fits d row table at_slot =
-    let same = count_word-one counts.rfc counts.uc row.rfc row.uc fits (row_uc d s.now t table slot row at_slot) (is ∙ read ∙ count_read d s.now t table slot row at_slot) in
+pub counts_read : (t : Table) (slot word : ℕ) (words : List ℕ) (counts : CountWord) → word ≡ slice_index words (slot_word t.geometry slot 4) → count_word counts.rfc counts.uc ≡ word → counts.uc < 2 ^ 32
+    → CountsAre words t slot counts
+counts_read t slot word words counts read is fits d row table at_slot =
+    let same = count_word-one counts.rfc counts.uc row.rfc row.uc fits (row_uc d words t table slot row at_slot) (is ∙ read ∙ count_read d words t table slot row at_slot) in
     λ i. record { rfc = same.0 i; uc = same.1 i }
 
 -- where the new counts are those that f makes of the row, the clauses of the one are those of the other
 module _ (f : Row → CountWord) (counts : CountWord) (t : Table) (slot : ℕ) (s u : State)
     (same : (d : Disk) (row : Row) → IsTable d s.now t → IsAtSlot d slot row → counts ≡ f row) where
-  pub same_tables : LeavesTables (λ row. counts) t slot s u → LeavesTables f t slot s u
-  same_tables leaves d row settled at_slot =
-      subst (λ (x : CountWord). LeavesOnly s u (λ c. HasTableOf c d ⊎ HasTableOf c (recounted d slot x.rfc x.uc))) (same d row settled.table at_slot) (leaves d row settled at_slot)
+  pub same_images : LeavesTables (λ row. counts) t slot s u → LeavesTables f t slot s u
+  same_images leaves d row settled at_slot =
+      subst (λ (x : CountWord). LeavesOnly s u (λ c. HoldsTable c d ⊎ HoldsTable c (recounted d slot x.rfc x.uc))) (same d row settled.table at_slot) (leaves d row settled at_slot)
 
   pub same_table : MakesTable (λ row. counts) t slot s u → MakesTable f t slot s u
-  same_table makes d row settled at_slot = subst (λ (x : CountWord). IsSettledTable (recounted d slot x.rfc x.uc) u t) (same d row settled.table at_slot) (makes d row settled at_slot)
+  same_table makes d row is at_slot = subst (λ (x : CountWord). IsTable (recounted d slot x.rfc x.uc) u.now t) (same d row is at_slot) (makes d row is at_slot)
 
-  may_same : (d : Disk) (row : Row) (may : MayChange f d t slot row s) → counts ≡ f row
-  may_same d row may = same d row may.stands.table (record { there = may.may.has; slot_is = may.slot_is })
-
-  may_set : (d : Disk) (row : Row) → MayChange f d t slot row s → MayChange (λ r. counts) d t slot row s
-  may_set d row may = record { stands = may.stands; may = subst (λ (x : CountWord). MayRecount d row x.rfc x.uc) (sym (may_same d row may)) may.may; slot_is = may.slot_is }
-
-  pub same_disks : LeavesDisks (λ row. counts) t slot s u → LeavesDisks f t slot s u
-  same_disks leaves d row may =
-      subst (λ (x : CountWord). LeavesOnly s u (λ c. StandsFor c d ⊎ StandsFor c (recounted d slot x.rfc x.uc))) (may_same d row may) (leaves d row (may_set d row may))
-
-  pub same_disk : MakesDisk (λ row. counts) t slot s u → MakesDisk f t slot s u
-  same_disk makes d row may = subst (λ (x : CountWord). StandsWith (recounted d slot x.rfc x.uc) u t) (may_same d row may) (makes d row (may_set d row may))
+  pub same_settled : SettlesTable (λ row. counts) t slot s u → SettlesTable f t slot s u
+  same_settled settles d row settled at_slot = subst (λ (x : CountWord). IsSettledTable (recounted d slot x.rfc x.uc) u t) (same d row settled.table at_slot) (settles d row settled at_slot)
 
 -- The clauses, where the code holds the geometry and the word.
-module _ (t : Table) (slot who : ℕ) (counts : CountWord) (s u : State) (k : Geometry) (same : k ≡ t.geometry) (w : ℕ) (is : w ≡ count_word counts.rfc counts.uc) where
+module _ (t : Table) (slot who : ℕ) (counts : CountWord) (s u : State) (k : Geometry) (same : k ≡ t.geometry) (w : ℕ) (is : w ≡ count_word counts.rfc counts.uc)
+    (rfc_fits : counts.rfc < 2 ^ 32) (uc_fits : counts.uc < 2 ^ 32) where
   abbrev place : ℕ
   place = slot_word t.geometry slot 4
 
+  abbrev value : ℕ
+  value = count_word counts.rfc counts.uc
+
   abbrev Committed : Type 0
-  Committed = LeavesOnly s u (IsCommitted who (slot_word k slot 4) w s)
+  Committed = IsSettled s (slot_word k slot 4) → LeavesOnly s u (IsCommitted who (slot_word k slot 4) w s)
 
   abbrev Done : Type 0
   Done = IsDone who (slot_word k slot 4) w s u
@@ -177,35 +115,54 @@ module _ (t : Table) (slot who : ℕ) (counts : CountWord) (s u : State) (k : Ge
   abbrev Only : Type 0
   Only = StoresOnly (λ a. a ≡ slot_word k slot 4) s u
 
-  committed_here : Committed → LeavesOnly s u (IsCommitted who place (count_word counts.rfc counts.uc) s)
-  committed_here leaves = subst (λ (x : ℕ). LeavesOnly s u (IsCommitted who place x s)) is (subst (λ (g : Geometry). LeavesOnly s u (IsCommitted who (slot_word g slot 4) w s)) same leaves)
+  committed_here : Committed → IsSettled s place → LeavesOnly s u (IsCommitted who place value s)
+  committed_here leaves = subst (λ (x : ℕ). IsSettled s place → LeavesOnly s u (IsCommitted who place x s)) is
+      (subst (λ (g : Geometry). IsSettled s (slot_word g slot 4) → LeavesOnly s u (IsCommitted who (slot_word g slot 4) w s)) same leaves)
 
-  done_here : Done → IsDone who place (count_word counts.rfc counts.uc) s u
+  done_here : Done → IsDone who place value s u
   done_here done = subst (λ (x : ℕ). IsDone who place x s u) is (subst (λ (g : Geometry). IsDone who (slot_word g slot 4) w s u) same done)
 
   only_here : Only → StoresOnly (λ a. a ≡ place) s u
   only_here only = subst (λ (g : Geometry). StoresOnly (λ a. a ≡ slot_word g slot 4) s u) same only
 
-  pub set_tables : Committed → LeavesTables (λ row. counts) t slot s u
-  set_tables leaves d row settled at_slot = table_images t slot counts.rfc counts.uc who s d settled (row_small d s.now t settled.table slot row at_slot) u (committed_here leaves)
+  module _ (d : Disk) (row : Row) (table : IsTable d s.now t) (at_slot : IsAtSlot d slot row) where
+    abbrev new : Disk
+    new = recounted d slot counts.rfc counts.uc
 
-  pub set_table : counts.rfc < 2 ^ 32 → counts.uc < 2 ^ 32 → Only → Done → MakesTable (λ row. counts) t slot s u
-  set_table rfc_fits uc_fits only done d row settled at_slot =
-      table_after t slot counts.rfc counts.uc who s d settled (row_small d s.now t settled.table slot row at_slot) rfc_fits uc_fits u (done_here done) (only_here only)
+    decides : IsOneTableWord d new 0 [] place value
+    decides = count_decides d s.now t table slot row at_slot counts.rfc counts.uc rfc_fits uc_fits
 
-  pub set_disks : Agree u.now u.past → Only → Committed → LeavesDisks (λ row. counts) t slot s u
-  set_disks agree only leaves d row may = disk_images t slot counts.rfc counts.uc who s d row may.stands may.may may.slot_is u agree (only_here only) (committed_here leaves)
+    size_is : length s.now ≡ 512 * d.geometry.pages
+    size_is = table.size ∙ ap (λ (g : Geometry). 512 * g.pages) (sym table.geometry)
 
-  pub set_disk : Only → Done → MakesDisk (λ row. counts) t slot s u
-  set_disk only done d row may = disk_after t slot counts.rfc counts.uc who s d row may.stands may.may may.slot_is u (done_here done) (only_here only)
+    moved : Done → slice_index u.now place ≡ value
+    moved done = ap (λ (c : List ℕ). slice_index c place) (done_here done).now ∙ get_or-set_same s.now place value 0 (omega (arith, decides.inside, size_is))
 
--- the row's count word is settled
-pub count_settled : (t : Table) (slot : ℕ) (s : State) (k : Geometry) → k ≡ t.geometry → HasRowWith s t slot AnyRow → IsSettled s (slot_word k slot 4)
-count_settled t slot s k same has =
-    subst (λ (g : Geometry). IsSettled s (slot_word g slot 4)) (sym same) (has.table.chains.settled _ _ (count_told has.disk s.now t has.table.table slot has.row has.at_slot))
+    nothing_read : Reads (SaysRun 0 []) s.now
+    nothing_read = (nothing_ready who 0 s).reads
 
-pub slot_small : (t : Table) (slot : ℕ) (s : State) (k : Geometry) → k ≡ t.geometry → HasRowWith s t slot AnyRow → slot < slots k
-slot_small t slot s k same has = subst (λ (g : Geometry). slot < slots g) (sym same) (row_small has.disk s.now t has.table.table slot has.row has.at_slot)
+    table_after : Only → Done → IsTable new u.now t
+    table_after only done = recounted_table d s.now t table slot row at_slot counts.rfc counts.uc rfc_fits uc_fits u.now only.words
+        (word_reads d new 0 [] place value decides s u table.says nothing_read (moved done) (only_here only))
+
+  pub set_images : Committed → LeavesTables (λ row. counts) t slot s u
+  set_images leaves d row settled at_slot =
+      let one = decides d row settled.table at_slot in
+      word_images d (new d row settled.table at_slot) 0 [] place value one who s u settled.stands (nothing_ready who 0 s)
+      (committed_here leaves (word_settled d (new d row settled.table at_slot) 0 [] place value one s settled.stands))
+
+  pub set_table : Only → Done → MakesTable (λ row. counts) t slot s u
+  set_table only done d row table at_slot = table_after d row table at_slot only done
+
+  pub set_settled : Only → Done → SettlesTable (λ row. counts) t slot s u
+  set_settled only done d row settled at_slot = record {
+    table = table_after d row settled.table at_slot only done;
+    stands = word_stands d (new d row settled.table at_slot) 0 [] place value (decides d row settled.table at_slot) who s u
+        (size_is d row settled.table at_slot) settled.stands (nothing_ready who 0 s) (done_here done) (only_here only);
+  }
+
+pub slot_small : (t : Table) (slot : ℕ) (words : List ℕ) (k : Geometry) → k ≡ t.geometry → HasRowWith words t slot AnyRow → slot < slots k
+slot_small t slot words k same has = subst (λ (g : Geometry). slot < slots g) (sym same) (row_small has.disk words t has.table slot has.row has.at_slot)
 
 pub on_ok_map : {T E : Type 0} (r : Result T E) (P Q : Type 0) → (P → Q) → OnOk r P → OnOk r Q
 on_ok_map (Ok x) P Q gives holds = gives holds
