@@ -26,7 +26,6 @@ pointed g c =
     let below = pointer_word-below_data c.args.g.now c.args.page c.requires.accepted c.requires.page in
     record {
       inside = omega (arith, c.requires.size, c.requires.accepted.room, below);
-      settled = c.requires.settled;
       stores = subst (λ (a : ℕ). Stores a (c.args.word ∷ []) (S c.args.device.now) (S c.store.new.self)) c.pointer_word-at.ensures c.store.ensures.stores;
       flushes = subst (λ (a : ℕ). Flushes c.args.who (a / 8) 1 (S c.store.new.self) (S c.flush.new.self)) c.pointer_word-at.ensures c.flush.ensures.flushes;
       last = c.fence.ensures.fences;
@@ -37,7 +36,7 @@ pointed g c =
     }
 
 pub returns-clause-any_moment : goal.returns-clause-any_moment
-returns-clause-any_moment g c = leaves _ _ _ _ _ _ _ _ (pointed g c)
+returns-clause-any_moment g c settled = leaves _ _ _ _ _ _ _ _ (pointed g c) settled
 
 pub returns-clause-done : goal.returns-clause-done
 returns-clause-done g c = on_ok c.fence.result _ (done _ _ _ _ _ _ _ _ (pointed g c))
