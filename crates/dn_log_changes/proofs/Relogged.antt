@@ -15,7 +15,7 @@ use Rattle.dn_changes.specs.WithLog.{with_log}
 use Rattle.dn_changes.specs.Events.{Relogs, IsReadPage, IsUnused}
 use Rattle.dn_changes.proofs.Unread.{unused_unread}
 use Rattle.dn_changes.proofs.WithLog.{with_log-inode, with_log-log, with_log-other, with_log-relogs}
-use Rattle.dn_table_changes.proofs.Rows.{none_or_some}
+use Rattle.dn_row_changes.proofs.Rows.{none_or_some}
 use Rattle.dn_log_changes.specs.Relogged.{relogged}
 
 module _ (d : Disk) (ino : ℕ) (log : Log) where

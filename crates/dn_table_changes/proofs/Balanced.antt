@@ -9,8 +9,8 @@ use Rattle.dn_row_changes.specs.Changes.{recount}
 use Rattle.dn_table_changes.specs.RowLaws.{IsNewRow}
 use Rattle.dn_table_changes.specs.MappingLaws.{AddsMapping}
 use Rattle.dn_table_changes.specs.BalanceLaws.{IsBalanced, RecountsBalanced}
-use Rattle.dn_table_changes.proofs.Rows.{same_test, none_found}
-use Rattle.dn_table_changes.proofs.TableRows.{of_chain, is_row}
+use Rattle.dn_row_changes.proofs.Rows.{same_test, none_found}
+use Rattle.dn_row_changes.proofs.TableRows.{of_chain, is_row, good_of}
 use Rattle.dn_table_changes.proofs.Frame.{mappings_same}
 use Rattle.dn_table_changes.proofs.Mappings.{mapped_once}
 
@@ -28,7 +28,7 @@ dropped_balance old new row raised added dropped drops is = record { updates = o
 
 module _ (d : Disk) (row : Row) (valid : IsValid d) (has : Contains (rows d) row) where
   stands : IsRow d.geometry (of_chain d row has).0 (of_chain d row has).2.0 row
-  stands = let found = of_chain d row has in is_row d valid found.0 row found.1 found.2
+  stands = let found = of_chain d row has in is_row d (good_of d valid) found.0 row found.1 found.2
 
   -- the counts that are balanced may be stored
   recounts : (rfc uc raised added dropped : ℕ) → rfc < 2 ^ 32 → uc < 2 ^ 32 → uc ≡ raised + added + dropped → mappings d row.page + dropped ≡ rfc + added → RecountsBalanced d row rfc uc raised added dropped

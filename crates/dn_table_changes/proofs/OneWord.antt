@@ -1,23 +1,22 @@
 -- A change that one store decides: what its images stand for, and what the device stands for at the end.
-use Rattle.std.proofs.Common.{◌≡◌, ◌≢◌, ◌⊎◌, inl, inr, ⊎_elim, ℕ, ◌+◌, ◌-◌, ◌*◌, ◌<◌, ◌≤◌, List, [], ◌++◌, length, sym, ◌∙◌, ap, subst, arith, length-append}
+use Rattle.std.proofs.Common.{◌≡◌, ◌≢◌, ◌⊎◌, inl, inr, ⊎_elim, ℕ, ◌*◌, List, [], length, sym, ◌∙◌, ap, subst, arith}
 use Rattle.std.specs.Prelude.{slice_index}
 use Rattle.std.proofs.lemmas.Bool.{cases_eq}
-use Rattle.std.proofs.lemmas.List.{get_or_append_left}
 use Rattle.pm_device.specs.State.{State, Agree}
 use Rattle.pm_device.specs.Settled.{LeavesOnly, StoresOnly}
 use Rattle.pm_device.specs.Reading.{Reads, Stands, IsReady}
 use Rattle.pm_device.specs.Words.{IsIn}
-use Rattle.pm_device.specs.Pages.{HoldsRun, SaysRun}
-use Rattle.pm_device.specs.Lines.{StoresRun}
+use Rattle.pm_device.specs.Pages.{SaysRun}
 use Rattle.pm_device.specs.Commit.{IsCommitted, IsDone}
 use Rattle.pm_device.proofs.OneWord.{reads_old_or_new, stands_new, stands-stores}
-use Rattle.pm_device.proofs.Layers.{leaves_only-stores, ready-weaken, stands_is_ready, run_is_ready}
+use Rattle.pm_device.proofs.Layers.{leaves_only-stores}
 use Rattle.pm_layout.specs.declared.Geometry.{Geometry}
 use Rattle.dn_model.specs.Disk.{Disk, DiskSays}
 use Rattle.dn_model.specs.Valid.{IsValid}
 use Rattle.dn_model.specs.Image.{StandsFor}
 use Rattle.dn_changes.proofs.WriteEvent.{length-left, stands_for_read}
-use Rattle.dn_table_changes.specs.OneWord.{IsOneWord, LeavesOneWord, MayCommit}
+use Rattle.dn_row_changes.specs.Words.{LeavesOneWord}
+use Rattle.dn_table_changes.specs.OneWord.{IsOneWord, MayCommit}
 
 module _ (old new : Disk) (first : ℕ) (fresh : List ℕ) (at value : ℕ) (is : IsOneWord old new first fresh at value) (who : ℕ) (s t : State) where
   pub one_word_images : Agree t.now t.past → length t.now ≡ 512 * old.geometry.pages → Stands (DiskSays old) s → IsReady who (SaysRun first fresh) s
@@ -68,40 +67,6 @@ module _ (old new : Disk) (first at value : ℕ) (is : IsOneWord old new first [
 pub one_word_may_commit : (old new : Disk) (first : ℕ) (fresh : List ℕ) (at value : ℕ) → IsOneWord old new first fresh at value
     → (s : State) → length s.now ≡ 512 * old.geometry.pages → Stands (DiskSays old) s → MayCommit s at
 one_word_may_commit old new first fresh at value is s size stands = record { settled = stands.settled at is.said.value is.said.told; line = omega (arith, is.inside, size) }
-
--- a word of a run
-pub says_run : (first : ℕ) (values : List ℕ) (a v k : ℕ) → k < length values → a ≡ first + k → v ≡ slice_index values k → SaysRun first values a v
-says_run first values a v k below place value = let back : k ≡ a - first = omega arith in ((omega arith, omega arith), value ∙ ap (slice_index values) back)
-
-pub held_run_ready : (who first : ℕ) (values : List ℕ) (s : State) → first + length values ≤ length s.now → HoldsRun who first values s → IsReady who (SaysRun first values) s
-held_run_ready = run_is_ready
-
-pub stored_run_ready : (who first : ℕ) (values : List ℕ) (s t : State) → first + length values ≤ length s.now → StoresRun who first values s t → IsReady who (SaysRun first values) t
-stored_run_ready who first values s t inside stores = run_is_ready who first values t (omega (arith, stores.only.words, inside)) (record { reads = stores.reads; flushed = stores.flushed })
-
-pub front_ready : (who first : ℕ) (values more : List ℕ) (s : State) → IsReady who (SaysRun first (values ++ more)) s → IsReady who (SaysRun first values) s
-front_ready who first values more s ready = ready-weaken who s (SaysRun first (values ++ more)) (SaysRun first values) front ready
-  where
-    front : (a v : ℕ) → SaysRun first values a v → SaysRun first (values ++ more) a v
-    front a v said = let long = length-append values more in ((said.0.0, omega (arith, said.0.1)), said.1 ∙ sym (get_or_append_left values more 0 (a - first) (omega (arith, said.0.0, said.0.1))))
-
-pub ready_through : (who q first : ℕ) (values : List ℕ) (at value : ℕ) (s t : State) → IsReady who (SaysRun first values) s → (IsIn first (length values) at → ⊥)
-    → IsDone who at value s t → StoresOnly (λ a. a ≡ at) s t → IsReady q (SaysRun first values) t
-ready_through who q first values at value s t ready out done only = stands_is_ready q t (SaysRun first values) (record {
-  within = λ a v said. omega (arith, ready.within a v said, only.words);
-  reads = λ a v said. only.read a (apart a v said) ∙ ready.reads a v said;
-  settled = λ a v said. done.flushed a (ready.within a v said) (ready.flushed a v said) (apart a v said);
-})
-  where
-    apart : (a v : ℕ) → SaysRun first values a v → a ≢ at
-    apart a v said e = out (subst (IsIn first (length values)) e said.0)
-
-pub nothing_ready : (who first : ℕ) (s : State) → IsReady who (SaysRun first []) s
-nothing_ready who first s = record {
-  within = λ a v said. absurd (omega (arith, said.0.0, said.0.1));
-  reads = λ a v said. absurd (omega (arith, said.0.0, said.0.1));
-  flushed = λ a v said. absurd (omega (arith, said.0.0, said.0.1));
-}
 
 -- stores to words of which the disk says nothing
 module _ (d : Disk) (first n : ℕ) (unread : (a v : ℕ) → DiskSays d a v → IsIn first n a → ⊥) (s t : State) (only : StoresOnly (IsIn first n) s t) (stands : Stands (DiskSays d) s) where

@@ -5,3 +5,4 @@ pub mod PointerLaws
 pub mod RowLaws
 pub mod MappingLaws
 pub mod BalanceLaws
+pub mod TableLaws

@@ -1,5 +1,5 @@
 -- A change of a disk that one store decides.
-use Rattle.std.specs.Prelude.{◌≡◌, ◌≢◌, ◌⊎◌, ℕ, ◌+◌, ◌*◌, ◌/◌, ◌<◌, ◌≤◌, List, [], ◌++◌, length, slice_index}
+use Rattle.std.specs.Prelude.{◌≡◌, ◌⊎◌, ℕ, ◌+◌, ◌*◌, ◌/◌, ◌<◌, ◌≤◌, List, [], ◌++◌, length}
 use Rattle.pm_device.specs.State.{State, Agree}
 use Rattle.pm_device.specs.Settled.{IsSettled, LeavesOnly, StoresOnly}
 use Rattle.pm_device.specs.Reading.{Said, Stands, IsReady, DiffersAt}
@@ -10,6 +10,7 @@ use Rattle.pm_device.specs.Commit.{IsCommitted, IsDone}
 use Rattle.dn_model.specs.Disk.{Disk, DiskSays}
 use Rattle.dn_model.specs.Valid.{IsValid}
 use Rattle.dn_model.specs.Image.{StandsFor}
+use Rattle.dn_row_changes.specs.Words.{LeavesOneWord}
 
 -- Word `at` becomes `value`, once fresh values stand from word `first` on: then the disk is the new one. Both make sense.
 pub record IsOneWord (old new : Disk) (first : ℕ) (fresh : List ℕ) (at value : ℕ) : Type 0 where
@@ -25,11 +26,6 @@ abbrev pub OneWordLeavesOldOrNew : Type 0
 OneWordLeavesOldOrNew = (old new : Disk) (first : ℕ) (fresh : List ℕ) (at value : ℕ) → IsOneWord old new first fresh at value
     → (who : ℕ) (s t : State) → Agree t.now t.past → length t.now ≡ 512 * old.geometry.pages → Stands (DiskSays old) s → IsReady who (SaysRun first fresh) s
     → LeavesOnly s t (IsCommitted who at value s) → LeavesOnly s t (λ c. StandsFor c old ⊎ StandsFor c new)
-
--- a stop leaves the word old or new, and what was settled as it was, whatever becomes of what was flushed
-pub record LeavesOneWord (at value : ℕ) (s : State) (c : List ℕ) : Type 0 where
-  pub word : (slice_index c at ≡ slice_index s.now at) ⊎ (slice_index c at ≡ value)
-  pub others : (a : ℕ) → a < length s.now → IsSettled s a → a ≢ at → slice_index c a ≡ slice_index s.now a
 
 -- where no word is fresh that is enough, so that the word needs no fence before its store
 abbrev pub OneWordInAnyOrder : Type 0

@@ -20,11 +20,7 @@ pub record MayRepoint (d : Disk) (page value : ℕ) : Type 0 where
 abbrev pub RepointIsOneWord : Type 0
 RepointIsOneWord = (d : Disk) (page value : ℕ) → MayRepoint d page value → IsOneWord d (repointed d page value) 0 [] (pointer_word d.geometry page) value
 
--- the rows are those of before
-abbrev pub RepointKeepsRows : Type 0
-RepointKeepsRows = (d : Disk) (page value : ℕ) → rows (repointed d page value) ≡ rows d
-
--- and their counts are as exact as before
+-- the counts are as exact as before
 abbrev pub RepointStaysExact : Type 0
 RepointStaysExact = (d : Disk) (page value : ℕ) → Exact d → Exact (repointed d page value)
 

@@ -1,15 +1,15 @@
 -- Laws of rows that come into the table and go: one word of it each.
-use Rattle.std.specs.Prelude.{◌≡◌, ◌≢◌, ◌⊎◌, ℕ, ◌+◌, ◌^◌, ◌<◌, ◌≤◌, if◌then◌else◌, ◌==◌, List, [], ◌∷◌, length, All, Contains, Some, None, IsNone}
-use Rattle.pm_layout.specs.declared.Geometry.{Geometry}
+use Rattle.std.specs.Prelude.{◌≡◌, ◌≢◌, ℕ, ◌+◌, ◌^◌, ◌<◌, ◌≤◌, [], length, All, Contains, IsNone}
 use Rattle.pm_layout.specs.Geometry.{directs, slots, slot_word}
 use Rattle.dn_model.specs.Maps.{Mapping}
-use Rattle.dn_model.specs.Table.{Row, row_of, row_word, first_slot, chained, prefix_of}
+use Rattle.dn_model.specs.Table.{Row, row_of, first_slot, chained, prefix_of}
 use Rattle.dn_model.specs.Disk.{Disk, IsMapped, rows}
 use Rattle.dn_model.specs.Counts.{mappings, Exact}
 use Rattle.dn_model.specs.Valid.{IsValid}
 use Rattle.dn_model.specs.Own.{Print, page_bytes, LivePlace, IsAlone, IsOwn}
 use Rattle.log_entry.specs.declared.item.Flag.TheVariants.{Complete}
 use Rattle.dn_row_changes.specs.Changes.{repointed, opened, linked, removed, slot_before, slot_after}
+use Rattle.dn_row_changes.specs.Rows.{PutsRow, TakesRow, StandsInChain, opened_words, linked_words}
 use Rattle.dn_table_changes.specs.OneWord.{IsOneWord, IsUnread}
 use Rattle.dn_table_changes.specs.PointerLaws.{MayRepoint}
 use Rattle.dn_table_changes.specs.CountLaws.{OthersAreExact}
@@ -43,14 +43,6 @@ abbrev pub PointedRowMayPut : Type 0
 PointedRowMayPut = (d : Disk) (prefix : ℕ) (row : Row) → IsValid d → IsNewRow d prefix row → row.slot < slots d.geometry
     → MayPut (repointed d row.page (row.slot + 1)) prefix row
 
--- words 1 to 4 of a slot, which stand before the page word opens it
-abbrev pub opened_words : Row → List ℕ
-opened_words row = row_word row 1 ∷ row_word row 2 ∷ row_word row 3 ∷ row_word row 4 ∷ []
-
--- words 0 to 5, which stand before the slot is linked
-abbrev pub linked_words : Row → ℕ → List ℕ
-linked_words row next = row_word row 0 ∷ row_word row 1 ∷ row_word row 2 ∷ row_word row 3 ∷ row_word row 4 ∷ next ∷ []
-
 -- the page word of the direct slot decides
 abbrev pub OpenIsOneWord : Type 0
 OpenIsOneWord = (d : Disk) (prefix : ℕ) (row : Row) → MayPut d prefix row → row.slot ≡ prefix
@@ -62,12 +54,6 @@ LinkIsOneWord = (d : Disk) (prefix : ℕ) (row : Row) → MayPut d prefix row �
     → IsOneWord d (linked d prefix row) (slot_word d.geometry row.slot 0) (linked_words row (first_slot (chained prefix (d.chain prefix)))) (slot_word d.geometry prefix 5) row.slot
 
 -- the rows are those of before and this one
-pub record PutsRow (row : Row) (olds news : List Row) : Type 0 where
-  pub here : Contains news row
-  pub kept : (r : Row) → Contains olds r → Contains news r
-  pub only : (r : Row) → Contains news r → (r ≡ row) ⊎ Contains olds r
-  pub found : (page : ℕ) → row_of news page ≡ (if row.page == page then Some row else row_of olds page)
-
 abbrev pub OpenPutsRow : Type 0
 OpenPutsRow = (d : Disk) (prefix : ℕ) (row : Row) → MayPut d prefix row → PutsRow row (rows d) (rows (opened d prefix row))
 
@@ -98,17 +84,7 @@ abbrev pub ClosedSlotsAreUnread : Type 0
 ClosedSlotsAreUnread = (d : Disk) → IsValid d → (slot : ℕ) → slot < directs d.geometry → ((r : Row) → Contains (rows d) r → r.slot ≢ slot)
     → IsUnread d (slot_word d.geometry slot 1) 4
 
--- a prefix is the number of a direct slot
-abbrev pub PrefixesAreDirect : Type 0
-PrefixesAreDirect = (g : Geometry) (print : List ℕ) → length print ≡ 20 → All (λ b. b < 256) print → prefix_of g print < directs g
-
 -- a row stands in the chain of its prefix, in the direct slot or an indirect one
-pub record StandsInChain (d : Disk) (prefix : ℕ) (row : Row) : Type 0 where
-  pub direct : prefix < directs d.geometry
-  pub prefix_is : prefix_of d.geometry row.print ≡ prefix
-  pub listed : Contains (d.chain prefix) row
-  pub slot : (row.slot ≡ prefix) ⊎ ((directs d.geometry ≤ row.slot) × (row.slot < slots d.geometry))
-
 abbrev pub RowsStandInChains : Type 0
 RowsStandInChains = (d : Disk) → IsValid d → (row : Row) → Contains (rows d) row → StandsInChain d (prefix_of d.geometry row.print) row
 
@@ -142,11 +118,6 @@ abbrev pub StalePointersMayClear : Type 0
 StalePointersMayClear = (d : Disk) (page : ℕ) → IsValid d → page < d.geometry.pages → IsNone (row_of (rows d) page) → MayRepoint d page 0
 
 -- the rows are those of before without this one
-pub record TakesRow (row : Row) (olds news : List Row) : Type 0 where
-  pub kept : (r : Row) → Contains olds r → (r ≡ row) ⊎ Contains news r
-  pub only : (r : Row) → Contains news r → Contains olds r × (r.slot ≢ row.slot) × (r.print ≢ row.print) × (r.page ≢ row.page)
-  pub found : (page : ℕ) → row_of news page ≡ (if row.page == page then None else row_of olds page)
-
 abbrev pub RemoveTakesRow : Type 0
 RemoveTakesRow = (d : Disk) (row : Row) → IsValid d → Contains (rows d) row → TakesRow row (rows d) (rows (removed d row.slot))
 

@@ -1,22 +1,20 @@
 //! Laws of the counts of a row, and of the pointer of a page.
 //!
 //! Each function states laws of all disks; it does nothing.
-ghost use Rattle.dn_table_changes.specs.CountLaws.{RecountIsOneWord, RecountChangesOneRow, RecountMakesExact, RecountStaysOwn};
-ghost use Rattle.dn_table_changes.specs.PointerLaws.{RepointIsOneWord, RepointKeepsRows, RepointStaysExact, RepointStaysOwn};
+ghost use Rattle.dn_table_changes.specs.CountLaws.{RecountIsOneWord, RecountMakesExact, RecountStaysOwn};
+ghost use Rattle.dn_table_changes.specs.PointerLaws.{RepointIsOneWord, RepointStaysExact, RepointStaysOwn};
 
-/// A row gets other counts: one word of the table decides between two valid disks, and no other row changes. Once
-/// the last count that was off is right, all are exact.
+/// A row gets other counts: one word of the table decides between two valid disks. Once the last count that was off
+/// is right, all are exact.
 pub fn row_is_recounted()
     ensures one_word { RecountIsOneWord }
-    ensures one_row { RecountChangesOneRow }
     ensures exact { RecountMakesExact }
     ensures own { RecountStaysOwn }
 {}
 
-/// A page gets another pointer: one word of the table decides between two valid disks, and no row changes.
+/// A page gets another pointer: one word of the table decides between two valid disks.
 pub fn page_is_repointed()
     ensures one_word { RepointIsOneWord }
-    ensures rows_same { RepointKeepsRows }
     ensures exact { RepointStaysExact }
     ensures own { RepointStaysOwn }
 {}

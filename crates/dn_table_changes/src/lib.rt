@@ -6,3 +6,4 @@ pub mod counted;
 pub mod counts;
 pub mod one_word;
 pub mod row_changes;
+pub mod table_laws;

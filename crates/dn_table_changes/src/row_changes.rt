@@ -1,7 +1,7 @@
 //! Laws of rows that come into the table and go.
 //!
 //! Each function states laws of all disks; it does nothing.
-ghost use Rattle.dn_table_changes.specs.RowLaws.{OpenIsOneWord, OpenPutsRow, OpenStaysExact, OpenStaysOwn, LinkIsOneWord, LinkPutsRow, LinkStaysExact, LinkStaysOwn, UnusedSlotsAreUnread, ClosedSlotsAreUnread, PrefixesAreDirect, RowsStandInChains, ChainsHoldRows, NewRowMayPoint, PointedRowMayPut, RemovedRowMayClear, StalePointersMayClear, CloseIsOneWord, UnlinkIsOneWord, RemoveTakesRow, RemoveMakesExact, RemoveStaysOwn};
+ghost use Rattle.dn_table_changes.specs.RowLaws.{OpenIsOneWord, OpenPutsRow, OpenStaysExact, OpenStaysOwn, LinkIsOneWord, LinkPutsRow, LinkStaysExact, LinkStaysOwn, UnusedSlotsAreUnread, ClosedSlotsAreUnread, RowsStandInChains, ChainsHoldRows, NewRowMayPoint, PointedRowMayPut, RemovedRowMayClear, StalePointersMayClear, CloseIsOneWord, UnlinkIsOneWord, RemoveTakesRow, RemoveMakesExact, RemoveStaysOwn};
 
 /// A row comes into a direct slot: its page word decides between two valid disks, and the rows are those of before
 /// and this one.
@@ -41,7 +41,6 @@ pub fn row_is_removed()
 /// A row stands in the chain of its fingerprint's prefix, in the direct slot or an indirect one, and all that stands
 /// in a chain is a row of the table.
 pub fn rows_stand_in_chains()
-    ensures prefixes { PrefixesAreDirect }
     ensures listed { RowsStandInChains }
     ensures held { ChainsHoldRows }
 {}

@@ -1,11 +1,8 @@
-use Rattle.dn_table_changes.proofs.Repointed.{repoint_one_word, rows_repointed, repoint_exact, repoint_own}
+use Rattle.dn_table_changes.proofs.Repointed.{repoint_one_word, repoint_exact, repoint_own}
 use Rattle.dn_table_changes.proofs.counts.page_is_repointed.Goals as goal
 
 pub returns-clause-one_word : goal.returns-clause-one_word
 returns-clause-one_word c = repoint_one_word
-
-pub returns-clause-rows_same : goal.returns-clause-rows_same
-returns-clause-rows_same c = rows_repointed
 
 pub returns-clause-exact : goal.returns-clause-exact
 returns-clause-exact c = repoint_exact

@@ -1,11 +1,8 @@
-use Rattle.dn_table_changes.proofs.Recounted.{recount_one_word, recounts_rows, recount_exact, recount_own}
+use Rattle.dn_table_changes.proofs.Recounted.{recount_one_word, recount_exact, recount_own}
 use Rattle.dn_table_changes.proofs.counts.row_is_recounted.Goals as goal
 
 pub returns-clause-one_word : goal.returns-clause-one_word
 returns-clause-one_word c = recount_one_word
-
-pub returns-clause-one_row : goal.returns-clause-one_row
-returns-clause-one_row c = recounts_rows
 
 pub returns-clause-exact : goal.returns-clause-exact
 returns-clause-exact c = recount_exact

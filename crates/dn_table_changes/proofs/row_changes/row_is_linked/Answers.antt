@@ -1,11 +1,11 @@
-use Rattle.dn_table_changes.proofs.Linked.{link_one_word, link_puts_row, link_exact, link_own}
+use Rattle.dn_table_changes.proofs.PutRows.{link_one_word, link_puts, link_exact, link_own}
 use Rattle.dn_table_changes.proofs.row_changes.row_is_linked.Goals as goal
 
 pub returns-clause-one_word : goal.returns-clause-one_word
 returns-clause-one_word c = link_one_word
 
 pub returns-clause-one_row : goal.returns-clause-one_row
-returns-clause-one_row c = link_puts_row
+returns-clause-one_row c = link_puts
 
 pub returns-clause-exact : goal.returns-clause-exact
 returns-clause-exact c = link_exact

@@ -1,4 +1,4 @@
-use Rattle.dn_table_changes.proofs.Opened.{open_one_word, open_puts_row, open_exact, open_own}
+use Rattle.dn_table_changes.proofs.PutRows.{open_one_word, open_puts_row, open_exact, open_own}
 use Rattle.dn_table_changes.proofs.row_changes.row_is_opened.Goals as goal
 
 pub returns-clause-one_word : goal.returns-clause-one_word

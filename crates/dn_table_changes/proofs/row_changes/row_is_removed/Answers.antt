@@ -1,4 +1,4 @@
-use Rattle.dn_table_changes.proofs.Removed.{close_one_word, unlink_one_word, takes_row, remove_exact, remove_own}
+use Rattle.dn_table_changes.proofs.Removed.{takes, close_one_word, unlink_one_word, remove_exact, remove_own}
 use Rattle.dn_table_changes.proofs.row_changes.row_is_removed.Goals as goal
 
 pub returns-clause-closed : goal.returns-clause-closed
@@ -8,7 +8,7 @@ pub returns-clause-unlinked : goal.returns-clause-unlinked
 returns-clause-unlinked c = unlink_one_word
 
 pub returns-clause-one_row : goal.returns-clause-one_row
-returns-clause-one_row c = takes_row
+returns-clause-one_row c = takes
 
 pub returns-clause-exact : goal.returns-clause-exact
 returns-clause-exact c = remove_exact

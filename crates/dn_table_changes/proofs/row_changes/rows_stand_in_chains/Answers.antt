@@ -1,11 +1,8 @@
-use Rattle.dn_table_changes.proofs.TableRows.{prefix_small, stands_in_chain, chain_holds}
+use Rattle.dn_row_changes.proofs.TableRows.{good_of, stands_in_chain, chain_holds}
 use Rattle.dn_table_changes.proofs.row_changes.rows_stand_in_chains.Goals as goal
 
-pub returns-clause-prefixes : goal.returns-clause-prefixes
-returns-clause-prefixes c = prefix_small
-
 pub returns-clause-listed : goal.returns-clause-listed
-returns-clause-listed c = stands_in_chain
+returns-clause-listed c = λ d valid. stands_in_chain d (good_of d valid)
 
 pub returns-clause-held : goal.returns-clause-held
-returns-clause-held c = chain_holds
+returns-clause-held c = λ d valid. chain_holds d (good_of d valid)
