@@ -2,7 +2,6 @@
 use Rattle.std.proofs.Common.{◌≡◌, ◌≢◌, inl, inr, ⊎_elim, ℕ, ◌+◌, ◌-◌, ◌*◌, ◌<◌, ◌≤◌, Bool, List, length, refl, sym, ◌∙◌, ap, subst, arith}
 use Rattle.std.specs.Prelude.{Contains, if◌then◌else◌}
 use Rattle.std.proofs.lemmas.Bool.{cases_eq}
-use Rattle.std.proofs.lemmas.List.Elements.{All-contains}
 use Rattle.pm_device.specs.State.{State}
 use Rattle.pm_device.specs.Settled.{LeavesOnly, StoresOnly, KeepsFlushed, Others}
 use Rattle.pm_device.specs.Reading.{Stands}
@@ -11,50 +10,45 @@ use Rattle.pm_device.proofs.Flushed.{keeps-weaken}
 use Rattle.pm_layout.specs.declared.Geometry.{Geometry}
 use Rattle.pm_layout.specs.Geometry.{IsAccepted, slot_word, pointer_word, directs, slots}
 use Rattle.dn_model.specs.Table.{Row, prefix_of, chained, direct_page_word}
-use Rattle.dn_model.specs.Disk.{Disk, DiskSays, rows}
-use Rattle.dn_model.specs.Counts.{IsNear}
-use Rattle.dn_model.specs.Valid.{IsValid}
+use Rattle.dn_model.specs.Disk.{Disk, TableSays, rows}
+use Rattle.dn_model.specs.Valid.{HasGoodRows}
 use Rattle.dn_row_changes.specs.Changes.{removed, slot_before}
-use Rattle.dn_table_changes.specs.RowLaws.{StandsInChain, MayRemove, TakesRow}
-use Rattle.dn_table_changes.proofs.Rows.{same_test, other_test, at_listed}
-use Rattle.dn_table_changes.proofs.TableRows.{stands_in_chain}
-use Rattle.dn_table_changes.proofs.Repointed.{rows_repointed, repoint_one_word}
-use Rattle.dn_table_changes.proofs.PutPointers.{removed_may_clear}
-use Rattle.dn_table_changes.proofs.Removed.{takes_row}
+use Rattle.dn_row_changes.specs.Words.{HoldsTable}
+use Rattle.dn_row_changes.specs.Rows.{StandsInChain, MayTakeRow, TakesRow}
+use Rattle.dn_row_changes.proofs.Rows.{same_test, other_test, at_listed}
+use Rattle.dn_row_changes.proofs.TableRows.{stands_in_chain, row_slot_small}
+use Rattle.dn_row_changes.proofs.Pointed.{rows_repointed, pointed_good}
+use Rattle.dn_row_changes.proofs.Gone.{takes_row, taken_may_clear}
 use Rattle.fact_table.specs.Table.{Table, IsTable, HasRow, HasNoneAt, GivesBackSlot}
 use Rattle.fact_table.proofs.Tables.{head_or_behind, chain_behind, next_word}
-use Rattle.fact_counts.specs.Standing.{StandsWith}
-use Rattle.fact_counts.proofs.Counting.{row_small}
-use Rattle.fact_rows.specs.Put.{StandsForOneOf}
-use Rattle.fact_rows.specs.Gone.{MayTakeOut, CanTakeOut, MayUnlink, CanUnlink, cleared, IsGoneWord, MakesClosed, LeavesUnlinked, MakesUnlinked}
+use Rattle.fact_rows.specs.Put.{HoldsOneOf}
+use Rattle.fact_rows.specs.Gone.{MayTakeOut, CanTakeOut, MayUnlink, CanUnlink, cleared, IsGoneWord, MakesClosed, LeavesUnlinked, MakesUnlinked, SettlesUnlinked}
 use Rattle.fact_changes.specs.Removal.{IsChainTo, HasChainTo, IsBefore, MayRemoveAt, deciding_word, IsRemoveWord}
 use Rattle.fact_changes.proofs.SlotBefore.{before_behind}
-use Rattle.fact_changes.proofs.Slotted.{table_of}
+use Rattle.fact_changes.proofs.Slotted.{table_of, accepted_disk}
 
-module _ (d : Disk) (row : Row) (s : State) (t : Table) (slot : ℕ) (may : MayRemoveAt d row s t slot) where
+module _ (d : Disk) (row : Row) (s : State) (t : Table) (slot : ℕ) (may : MayRemoveAt d row s.now t slot) where
   abbrev is : IsTable d s.now t
-  is = may.stands.table
+  is = may.table
 
   abbrev prefix : ℕ
   prefix = prefix_of d.geometry row.print
 
   stands_there : StandsInChain d prefix row
-  stands_there = stands_in_chain d may.valid row may.at_slot.there
+  stands_there = stands_in_chain d is.good row may.at_slot.there
 
-  may_remove : MayRemove d prefix row
-  may_remove =
-      let near = All-contains (IsNear d) (rows d) row may.valid.near may.at_slot.there in
-      record { valid = may.valid; direct = stands_there.direct; has = stands_there.listed; few = omega (arith, near.0, may.no_reference, may.no_update) }
+  may_take : MayTakeRow d prefix row
+  may_take = record { accepted = accepted_disk d s.now t is; good = is.good; direct = stands_there.direct; has = stands_there.listed }
 
   pub zero_small : slot < slots t.geometry
-  zero_small = row_small d s.now t is slot row may.at_slot
+  zero_small = subst (λ (n : ℕ). n < slots t.geometry) may.at_slot.slot_is (subst (λ (g : Geometry). row.slot < slots g) is.geometry (row_slot_small d is.good row may.at_slot.there))
 
   -- the rows that are left
   pub rows_left : TakesRow row (rows d) (rows (cleared d row))
-  rows_left = subst (λ (rs : List Row). TakesRow row (rows d) rs) (sym (rows_repointed (removed d row.slot) row.page 0)) (takes_row d row may.valid may.at_slot.there)
+  rows_left = subst (λ (rs : List Row). TakesRow row (rows d) rs) (sym (rows_repointed (removed d row.slot) row.page 0)) (takes_row d row is.good may.at_slot.there)
 
-  pub valid_left : IsValid (cleared d row)
-  valid_left = (repoint_one_word (removed d row.slot) row.page 0 (removed_may_clear d prefix row may_remove)).new_valid
+  pub good_left : HasGoodRows (cleared d row)
+  good_left = pointed_good (removed d row.slot) row.page 0 (taken_may_clear d prefix row may_take)
 
   still : (other : ℕ) → other ≢ slot → HasRow d other → HasRow (cleared d row) other
   still other ne has = ⊎_elim (λ (e : has.row ≡ row). absurd (ne (sym has.is.slot_is ∙ ap (λ (r : Row). r.slot) e ∙ may.at_slot.slot_is)))
@@ -67,15 +61,15 @@ module _ (d : Disk) (row : Row) (s : State) (t : Table) (slot : ℕ) (may : MayR
   pub zero_taken : (k : ℕ) → directs t.geometry + k ≡ slot → ¬ Contains t.free.free k
   zero_taken k place has = is.free k has row may.at_slot.there (may.at_slot.slot_is ∙ sym place)
 
-  module _ (u : State) (size : length u.now ≡ 512 * t.geometry.pages) (stands : Stands (DiskSays (cleared d row)) u) where
-    pub direct_table : slot < directs t.geometry → StandsWith (cleared d row) u t
-    direct_table low = table_of (cleared d row) u t is.geometry is.accepted size stands valid_left is.set
+  module _ (news : List ℕ) (size : length news ≡ 512 * t.geometry.pages) (holds : HoldsTable news (cleared d row)) where
+    pub direct_table : slot < directs t.geometry → IsTable (cleared d row) news t
+    direct_table low = table_of (cleared d row) news t is.geometry is.accepted size holds good_left is.set
         (λ k has. none_left (directs t.geometry + k) (is.free k has)) (λ k lt not. still (directs t.geometry + k) (λ e. omega (arith, e, low)) (is.taken k lt not))
 
-    pub indirect_table : directs t.geometry ≤ slot → (t' : Table) → GivesBackSlot slot t t' → StandsWith (cleared d row) u t'
+    pub indirect_table : directs t.geometry ≤ slot → (t' : Table) → GivesBackSlot slot t t' → IsTable (cleared d row) news t'
     indirect_table high t' gives =
         let same = gives.geometry in
-        table_of (cleared d row) u t' (is.geometry ∙ sym same) (subst IsAccepted (sym same) is.accepted) (size ∙ ap (λ (g : Geometry). 512 * g.pages) (sym same)) stands valid_left
+        table_of (cleared d row) news t' (is.geometry ∙ sym same) (subst IsAccepted (sym same) is.accepted) (size ∙ ap (λ (g : Geometry). 512 * g.pages) (sym same)) holds good_left
         (gives.gives_back.pages ∙ is.set ∙ ap (λ (g : Geometry). g.pages) (sym same))
         (λ k. subst (λ (g : Geometry). Contains t'.free.free k → HasNoneAt (cleared d row) (directs g + k)) (sym same) (free_now k))
         (λ k. subst (λ (g : Geometry). k < g.pages → ¬ Contains t'.free.free k → HasRow (cleared d row) (directs g + k)) (sym same) (taken_now k))
@@ -103,8 +97,8 @@ module _ (d : Disk) (row : Row) (s : State) (t : Table) (slot : ℕ) (may : MayR
     pub zero_pointer : pointer_word k page ≡ pointer_word d.geometry row.page
     zero_pointer = ap (λ (p : ℕ). pointer_word k p) (sym page_is) ∙ ap (λ (g : Geometry). pointer_word g row.page) (sym there)
 
-    take_at : (p : ℕ) → p ≡ prefix → MayTakeOut d row s k p slot page
-    take_at p e = record { geometry = there; stands = may.stands.disk; may = subst (λ (q : ℕ). MayRemove d q row) (sym e) may_remove; slot_is = may.at_slot.slot_is; page_is = page_is }
+    take_at : (p : ℕ) → p ≡ prefix → MayTakeOut d row s.now k p slot page
+    take_at p e = record { geometry = there; holds = is.says; may = subst (λ (q : ℕ). MayTakeRow d q row) (sym e) may_take; slot_is = may.at_slot.slot_is; page_is = page_is }
 
     -- stores to its words are stores to those of the removal
     module _ (gate : ℕ) (gate_is : gate ≡ deciding_word d row) where
@@ -125,10 +119,10 @@ module _ (d : Disk) (row : Row) (s : State) (t : Table) (slot : ℕ) (may : MayR
           let far : directs k ≤ row.slot = subst (λ (g : Geometry). directs g ≤ row.slot) there high.0 in
           absurd (omega (arith, far, may.at_slot.slot_is, low))) stands_there.slot
 
-      pub direct_take : MayTakeOut d row s k slot slot page
+      pub direct_take : MayTakeOut d row s.now k slot slot page
       direct_take = take_at slot slot_prefix
 
-      pub direct_can : CanTakeOut s k slot slot page
+      pub direct_can : CanTakeOut s.now k slot slot page
       direct_can = record { disk = d; row = row; may = direct_take }
 
       pub direct_gate : slot_word k slot 0 ≡ deciding_word d row
@@ -137,8 +131,8 @@ module _ (d : Disk) (row : Row) (s : State) (t : Table) (slot : ℕ) (may : MayR
           ∙ ap (λ (b : Bool). if b then slot_word d.geometry row.slot 0 else slot_word d.geometry (slot_before prefix (d.chain prefix) row.slot) 5)
           (sym (same_test row.slot prefix (may.at_slot.slot_is ∙ slot_prefix)))
 
-      pub direct_made : (u : State) → length u.now ≡ length s.now → MakesClosed k slot page s u → StandsWith (cleared d row) u t
-      direct_made u long makes = direct_table u (long ∙ is.size) (makes d row direct_take) (subst (λ (g : Geometry). slot < directs g) same low)
+      pub direct_made : (u : State) → length u.now ≡ length s.now → MakesClosed k slot page s u → IsTable (cleared d row) u.now t
+      direct_made u long makes = direct_table u.now (long ∙ is.size) (makes d row direct_take) (subst (λ (g : Geometry). slot < directs g) same low)
 
     -- behind it
     module _ (high : directs k ≤ slot) (direct : ℕ) (direct_is : direct ≡ prefix) where
@@ -171,10 +165,10 @@ module _ (d : Disk) (row : Row) (s : State) (t : Table) (slot : ℕ) (may : MayR
             is_before (chained direct (d.chain direct)) behind_chain ∙ before_behind direct slot other (d.chain direct)
             ∙ ap (λ (q : ℕ). slot_before direct (d.chain direct) q) (sym may.at_slot.slot_is) ∙ ap (λ (p : ℕ). slot_before p (d.chain p) row.slot) direct_is
 
-        pub behind_may : MayUnlink d row prefix s k before slot page
+        pub behind_may : MayUnlink d row prefix s.now k before slot page
         behind_may = record { take = take_at prefix refl; before_is = before_at }
 
-        pub behind_can : CanUnlink s k before slot page
+        pub behind_can : CanUnlink s.now k before slot page
         behind_can = record { disk = d; row = row; prefix = prefix; may = behind_may }
 
         pub behind_gate : slot_word k before 5 ≡ deciding_word d row
@@ -183,8 +177,11 @@ module _ (d : Disk) (row : Row) (s : State) (t : Table) (slot : ℕ) (may : MayR
             ∙ ap (λ (b : Bool). if b then slot_word d.geometry row.slot 0 else slot_word d.geometry (slot_before prefix (d.chain prefix) row.slot) 5)
             (sym (other_test row.slot prefix (λ e. other (sym may.at_slot.slot_is ∙ e ∙ sym direct_is))))
 
-        pub behind_images : (u : State) → LeavesUnlinked k before slot page s u → LeavesOnly s u (λ c. StandsForOneOf c d (removed d row.slot) (cleared d row))
+        pub behind_images : (u : State) → LeavesUnlinked k before slot page s u → Stands (TableSays d) s → LeavesOnly s u (λ c. HoldsOneOf c d (removed d row.slot) (cleared d row))
         behind_images u leaves = leaves d row prefix behind_may
 
-        pub behind_made : (u : State) → length u.now ≡ length s.now → MakesUnlinked k before slot page s u → (t' : Table) → GivesBackSlot slot t t' → StandsWith (cleared d row) u t'
-        behind_made u long makes t' gives = indirect_table u (long ∙ is.size) (makes d row prefix behind_may) (subst (λ (g : Geometry). directs g ≤ slot) same high) t' gives
+        pub behind_settles : (u : State) → SettlesUnlinked k before slot page s u → Stands (TableSays d) s → Stands (TableSays (cleared d row)) u
+        behind_settles u settles = settles d row prefix behind_may
+
+        pub behind_made : (u : State) → length u.now ≡ length s.now → MakesUnlinked k before slot page s u → (t' : Table) → GivesBackSlot slot t t' → IsTable (cleared d row) u.now t'
+        behind_made u long makes t' gives = indirect_table u.now (long ∙ is.size) (makes d row prefix behind_may) (subst (λ (g : Geometry). directs g ≤ slot) same high) t' gives

@@ -1,5 +1,5 @@
--- Stale pointers are cleared: what images stand for on the way, and the device in the end.
-use Rattle.std.proofs.Common.{◌≡◌, ◌≢◌, inl, inr, ⊎_elim, ℕ, ◌+◌, ◌*◌, ◌<◌, ◌≤◌, Bool, true, false, List, [], length, refl, sym, ◌∙◌, ap, subst, arith}
+-- Stale pointers are cleared: what images have on the way, and the table in the end.
+use Rattle.std.proofs.Common.{◌≡◌, ◌≢◌, inl, inr, ⊎_elim, ℕ, ◌+◌, ◌*◌, ◌<◌, ◌≤◌, Bool, true, false, List, [], length, refl, sym, ◌∙◌, ap, subst, arith, get_or-set_same}
 use Rattle.std.specs.Prelude.{slice_index, Contains, if◌then◌else◌, Option, Some, None, IsNone, is_some, not, IfSome, IfNone, IsTrue}
 use Rattle.std.proofs.lemmas.Bool.{cases_eq, false≢true}
 use Rattle.pm_device.specs.State.{State, Agree}
@@ -13,20 +13,18 @@ use Rattle.pm_device.proofs.Flushed.{keeps-none, keeps-then, keeps-weaken}
 use Rattle.pm_layout.specs.declared.Geometry.{Geometry}
 use Rattle.pm_layout.specs.Geometry.{pointer_word, directs}
 use Rattle.dn_model.specs.Table.{Row}
-use Rattle.dn_model.specs.Disk.{Disk, DiskSays, of_pointers, rows}
-use Rattle.dn_model.specs.Image.{StandsFor}
+use Rattle.dn_model.specs.Disk.{Disk, TableSays, rows}
 use Rattle.dn_row_changes.specs.Changes.{with_table, repointed}
-use Rattle.dn_table_changes.specs.OneWord.{IsOneWord, LeavesOneWord}
-use Rattle.dn_table_changes.proofs.OneWord.{one_word_any_order, one_word_stands, nothing_ready, unread_images}
-use Rattle.dn_table_changes.proofs.PutPointers.{stale_may_clear}
-use Rattle.dn_table_changes.proofs.Repointed.{rows_repointed, repoint_one_word}
-use Rattle.dn_table_changes.proofs.Rows.{same_test, other_test, none_found}
+use Rattle.dn_row_changes.specs.Words.{HoldsTable, IsOneTableWord, LeavesOneWord}
+use Rattle.dn_row_changes.proofs.Words.{word_settled, word_any_order, word_stands, word_reads, nothing_ready, untold_images}
+use Rattle.dn_row_changes.proofs.Pointed.{rows_repointed, pointer_decides, stale_may_clear}
+use Rattle.dn_row_changes.proofs.Rows.{same_test, other_test}
 use Rattle.fact_table.specs.Table.{Table, IsTable, HasNoneOf, IsOfPage}
 use Rattle.fact_table.specs.Seen.{as_row}
 use Rattle.fact_scan.specs.declared.row.Row.{Row as FoundRow}
 use Rattle.fact_table.proofs.Tables.{pointer_read}
-use Rattle.fact_changes.specs.Stale.{IsStale, Clears, MayClear, HasCleared, IsTidied, IsStaleWord, IsPageCleared, stays, clears, HasPage, IsPageWord}
-use Rattle.fact_changes.proofs.Slotted.{table_of}
+use Rattle.fact_changes.specs.Stale.{IsStale, Clears, HasCleared, IsTidied, IsStaleWord, IsPageCleared, stays, clears, HasPage, IsPageWord}
+use Rattle.fact_changes.proofs.Slotted.{table_of, accepted_disk}
 
 -- what a pointer is once one is cleared
 pointer_here : (d : Disk) (page q : ℕ) → q ≡ page → (repointed d page 0).pointer q ≡ 0
@@ -35,11 +33,9 @@ pointer_here d page q e = ap (λ (b : Bool). if b then 0 else d.pointer q) (same
 pointer_other : (d : Disk) (page q : ℕ) → q ≢ page → (repointed d page 0).pointer q ≡ d.pointer q
 pointer_other d page q ne = ap (λ (b : Bool). if b then 0 else d.pointer q) (other_test q page ne)
 
--- nothing is stored: each image stands for the disk
-pub still_images : (d : Disk) (s : State) (t : Table) → MayClear d s t → Agree s.now s.past → LeavesOnly s s (λ c. StandsFor c d)
-still_images d s t may agree =
-    unread_images d 0 0 (λ a v told h. omega (arith, h.0, h.1)) s s (stores_only-none _ s agree) may.stands.disk may.valid agree
-    (may.stands.table.size ∙ ap (λ (g : Geometry). 512 * g.pages) (sym may.stands.table.geometry))
+-- nothing is stored: each image has the table
+pub still_images : (d : Disk) (s : State) → Agree s.now s.past → Stands (TableSays d) s → LeavesOnly s s (λ c. HoldsTable c d)
+still_images d s agree = untold_images d 0 0 (λ a v told h. omega (arith, h.0, h.1)) s s (stores_only-none _ s agree)
 
 -- whether a pointer is stale, by its word and by the row of its page
 module _ (d : Disk) (words : List ℕ) (t : Table) (is : IsTable d words t) (k : Geometry) (same : k ≡ t.geometry) (page : ℕ) (lt : page < t.geometry.pages) where
@@ -67,39 +63,49 @@ module _ (d : Disk) (words : List ℕ) (t : Table) (is : IsTable d words t) (k :
   stale_answer (Some x) (Some r) false some zero e none found = (λ t. absurd (false≢true t), λ stale. absurd (stale.no_row (as_row r) (found d is).there (found d is).page_is))
 
 -- one stale pointer is cleared
-module _ (d : Disk) (s : State) (t : Table) (may : MayClear d s t) (page : ℕ) (stale : IsStale d page) where
-  one : IsOneWord d (repointed d page 0) 0 [] (pointer_word d.geometry page) 0
-  one = repoint_one_word d page 0 (stale_may_clear d page may.valid stale.in_image (none_found (rows d) page stale.no_row))
+module _ (d : Disk) (s : State) (t : Table) (is : IsTable d s.now t) (page : ℕ) (stale : IsStale d page) where
+  abbrev new : Disk
+  new = repointed d page 0
+
+  one : IsOneTableWord d new 0 [] (pointer_word d.geometry page) 0
+  one = pointer_decides d page 0 (stale_may_clear d page (accepted_disk d s.now t is) is.good stale.in_image stale.no_row)
 
   size_is : length s.now ≡ 512 * d.geometry.pages
-  size_is = may.stands.table.size ∙ ap (λ (g : Geometry). 512 * g.pages) (sym may.stands.table.geometry)
+  size_is = is.size ∙ ap (λ (g : Geometry). 512 * g.pages) (sym is.geometry)
 
   -- where the code holds the geometry
   module _ (k : Geometry) (same : k ≡ t.geometry) where
     here : d.geometry ≡ k
-    here = may.stands.table.geometry ∙ sym same
+    here = is.geometry ∙ sym same
 
-    pub stale_settled : IsSettled s (pointer_word k page)
-    stale_settled = subst (λ (g : Geometry). IsSettled s (pointer_word g page)) here
-        (may.stands.disk.settled (pointer_word d.geometry page) (d.pointer page) (of_pointers (record { page = page; in_image = stale.in_image; place = refl; value = refl })))
+    pointer_settled : Stands (TableSays d) s → IsSettled s (pointer_word k page)
+    pointer_settled stands = subst (λ (g : Geometry). IsSettled s (pointer_word g page)) here (word_settled d new 0 [] (pointer_word d.geometry page) 0 one s stands)
 
-    pub stale_images : (u : State) → Agree u.now u.past → StoresOnly (λ a. a ≡ pointer_word k page) s u → LeavesOnly s u (LeavesOneWord (pointer_word k page) 0 s) → LeavesOnly s u (HasPage d page)
-    stale_images u agree only leaves = leaves_only-weaken s u _ _ (λ c. ⊎_elim (λ old. inl old) (λ after. inr (stale, after)))
-        (one_word_any_order d (repointed d page 0) 0 (pointer_word d.geometry page) 0 one s may.stands.disk u agree (only.words ∙ size_is)
-        (subst (λ (g : Geometry). LeavesOnly s u (LeavesOneWord (pointer_word g page) 0 s)) (sym here) leaves))
+    pub stale_images : (u : State) → (IsSettled s (pointer_word k page) → LeavesOnly s u (LeavesOneWord (pointer_word k page) 0 s)) → Stands (TableSays d) s → LeavesOnly s u (HasPage d page)
+    stale_images u leaves stands = leaves_only-weaken s u _ _ (λ c. ⊎_elim (λ old. inl old) (λ after. inr (stale, after)))
+        (word_any_order d new 0 (pointer_word d.geometry page) 0 one s u stands
+        (subst (λ (g : Geometry). LeavesOnly s u (LeavesOneWord (pointer_word g page) 0 s)) (sym here) (leaves (pointer_settled stands))))
 
-    pub stale_cleared : (who : ℕ) (u : State) → StoresOnly (λ a. a ≡ pointer_word k page) s u → IsDone who (pointer_word k page) 0 s u → IsPageCleared d page u t
-    stale_cleared who u only done =
-        let new : Disk = repointed d page 0 in
-        let is = may.stands.table in
-        let done_here = subst (λ (g : Geometry). IsDone who (pointer_word g page) 0 s u) (sym here) done in
-        let only_here = subst (λ (g : Geometry). StoresOnly (λ a. a ≡ pointer_word g page) s u) (sym here) only in
-        let stands : Stands (DiskSays new) u = one_word_stands d new 0 [] (pointer_word d.geometry page) 0 one who s u size_is may.stands.disk (nothing_ready who 0 s) done_here only_here in
-        let same_rows : rows d ≡ rows new = sym (rows_repointed d page 0) in
-        clears stale
-        (table_of new u t is.geometry is.accepted (only.words ∙ is.size) stands one.new_valid is.set
-        (λ q has. subst (λ (rs : List Row). (r : Row) → Contains rs r → r.slot ≢ directs t.geometry + q) same_rows (is.free q has))
-        (λ q lt not. let has = is.taken q lt not in record { row = has.row; is = record { there = subst (λ (rs : List Row). Contains rs has.row) same_rows has.is.there; slot_is = has.is.slot_is } }))
+    module _ (who : ℕ) (u : State) (only : StoresOnly (λ a. a ≡ pointer_word k page) s u) (done : IsDone who (pointer_word k page) 0 s u) where
+      only_here : StoresOnly (λ a. a ≡ pointer_word d.geometry page) s u
+      only_here = subst (λ (g : Geometry). StoresOnly (λ a. a ≡ pointer_word g page) s u) (sym here) only
+
+      done_here : IsDone who (pointer_word d.geometry page) 0 s u
+      done_here = subst (λ (g : Geometry). IsDone who (pointer_word g page) 0 s u) (sym here) done
+
+      cleared_reads : HoldsTable u.now new
+      cleared_reads = word_reads d new 0 [] (pointer_word d.geometry page) 0 one s u is.says (nothing_ready who 0 s).reads
+          (ap (λ (xs : List ℕ). slice_index xs (pointer_word d.geometry page)) done_here.now ∙ get_or-set_same s.now (pointer_word d.geometry page) 0 0 (omega (arith, one.inside, size_is))) only_here
+
+      cleared_table : IsTable new u.now t
+      cleared_table =
+          let same_rows : rows d ≡ rows new = sym (rows_repointed d page 0) in
+          table_of new u.now t is.geometry is.accepted (only.words ∙ is.size) cleared_reads one.good is.set
+          (λ q has. subst (λ (rs : List Row). (r : Row) → Contains rs r → r.slot ≢ directs t.geometry + q) same_rows (is.free q has))
+          (λ q lt not. let has = is.taken q lt not in record { row = has.row; is = record { there = subst (λ (rs : List Row). Contains rs has.row) same_rows has.is.there; slot_is = has.is.slot_is } })
+
+      pub stale_cleared : IsPageCleared d page t s u
+      stale_cleared = clears stale cleared_table (λ stands. word_stands d new 0 [] (pointer_word d.geometry page) 0 one who s u size_is stands (nothing_ready who 0 s) done_here only_here)
 
     pub stale_only : (u : State) → StoresOnly (λ a. a ≡ pointer_word k page) s u → StoresOnly (IsPageWord d page) s u
     stale_only u only = stores_only-weaken _ _ s u (λ a e. (stale, e ∙ ap (λ (g : Geometry). pointer_word g page) (sym here))) only
@@ -135,33 +141,36 @@ module _ (d e : Disk) (was : Clears d e) where
 pub clears_none : (d : Disk) → Clears d d
 clears_none d = record { same = refl; rows_same = refl; pointers = λ q. inl refl }
 
--- the pages below p were looked at
+-- The pages below p were looked at: what the words hold, whatever is settled, and what stands and images have, where
+-- the table of before stood.
 pub record IsClearedFront (d : Disk) (who p : ℕ) (t : Table) (s0 s : State) : Type 0 where
   pub disk : Disk
   pub clears : Clears d disk
   pub tidy : (q : ℕ) → q < p → IsStale disk q → ⊥
-  pub may : MayClear disk s t
-  pub images : LeavesOnly s0 s (HasCleared d)
+  pub table : IsTable disk s.now t
   pub only : StoresOnly (IsStaleWord d) s0 s
   pub others : KeepsFlushed (Others who) (IsStaleWord d) s0 s
+  pub settled : Stands (TableSays d) s0 → Stands (TableSays disk) s
+  pub images : Stands (TableSays d) s0 → LeavesOnly s0 s (HasCleared d)
 
 pub record IsClearing (t : Table) (who p : ℕ) (s0 s : State) : Type 0 where
   pub spare : s0.spare ≤ s.spare + 3 * p
   pub faults : s0.faults ≤ s.faults
-  pub front : (d : Disk) → MayClear d s0 t → IsClearedFront d who p t s0 s
+  pub front : (d : Disk) → IsTable d s0.now t → IsClearedFront d who p t s0 s
 
 pub clearing_begins : (t : Table) (who : ℕ) (s : State) → Agree s.now s.past → IsClearing t who 0 s s
 clearing_begins t who s agree = record {
   spare = omega arith;
   faults = omega arith;
-  front = λ d may. record {
+  front = λ d is. record {
     disk = d;
     clears = clears_none d;
     tidy = λ q lt stale. absurd (omega arith);
-    may = may;
-    images = leaves_only-weaken s s _ _ (λ c stands. record { disk = d; clears = clears_none d; stands_for = stands }) (still_images d s t may agree);
+    table = is;
     only = stores_only-none _ s agree;
     others = keeps-none _ _ s;
+    settled = λ stands. stands;
+    images = λ stands. leaves_only-weaken s s _ _ (λ c holds. record { disk = d; clears = clears_none d; holds = holds }) (still_images d s agree stands);
   };
 }
 
@@ -170,10 +179,10 @@ module _ (d : Disk) (who p : ℕ) (t : Table) (s0 s : State) (front : IsClearedF
   e = front.disk
 
   -- what one page more makes of it, with a failure or without
-  pub front_images : LeavesOnly s u (HasPage e p) → LeavesOnly s0 u (HasCleared d)
-  front_images leaves = leaves_only-then s0 s u (HasCleared d) front.images
-      (leaves_only-weaken s u _ _ (λ c. ⊎_elim (λ (old : StandsFor c e). record { disk = e; clears = front.clears; stands_for = old })
-      (λ (after : IsStale e p × StandsFor c (repointed e p 0)). record { disk = repointed e p 0; clears = clears_more d e front.clears p after.0; stands_for = after.1 })) leaves)
+  pub front_images : (Stands (TableSays e) s → LeavesOnly s u (HasPage e p)) → Stands (TableSays d) s0 → LeavesOnly s0 u (HasCleared d)
+  front_images leaves stands = leaves_only-then s0 s u (HasCleared d) (front.images stands)
+      (leaves_only-weaken s u _ _ (λ c. ⊎_elim (λ (old : HoldsTable c e). record { disk = e; clears = front.clears; holds = old })
+      (λ (after : IsStale e p × HoldsTable c (repointed e p 0)). record { disk = repointed e p 0; clears = clears_more d e front.clears p after.0; holds = after.1 })) (leaves (front.settled stands)))
 
   of_page : (a : ℕ) → IsPageWord e p a → IsStaleWord d a
   of_page a word = record { page = p; stale = stale_was d e front.clears p word.0; place = word.1 ∙ ap (λ (x : Disk). pointer_word x.geometry p) front.clears.same }
@@ -184,17 +193,18 @@ module _ (d : Disk) (who p : ℕ) (t : Table) (s0 s : State) (front : IsClearedF
   pub front_others : KeepsFlushed (Others who) (IsPageWord e p) s u → KeepsFlushed (Others who) (IsStaleWord d) s0 u
   front_others keeps = keeps-then (Others who) (IsStaleWord d) s0 s u front.others (keeps-weaken (Others who) (Others who) _ _ s u (λ q other. other) of_page keeps)
 
-  pub front_on : LeavesOnly s u (HasPage e p) → StoresOnly (IsPageWord e p) s u → KeepsFlushed (Others who) (IsPageWord e p) s u → IsPageCleared e p u t → IsClearedFront d who (p + 1) t s0 u
-  front_on leaves only keeps (stays fresh stands) = record {
+  pub front_on : (Stands (TableSays e) s → LeavesOnly s u (HasPage e p)) → StoresOnly (IsPageWord e p) s u → KeepsFlushed (Others who) (IsPageWord e p) s u → IsPageCleared e p t s u → IsClearedFront d who (p + 1) t s0 u
+  front_on leaves only keeps (stays fresh table stands) = record {
     disk = e;
     clears = front.clears;
     tidy = λ q lt stale. elim (cases_eq q p) [ inl here ↦ fresh (subst (IsStale e) here stale) | inr other ↦ front.tidy q (omega arith) stale ];
-    may = record { stands = stands; valid = front.may.valid };
-    images = front_images leaves;
+    table = table;
     only = front_only only;
     others = front_others keeps;
+    settled = λ before. stands (front.settled before);
+    images = front_images leaves;
   }
-  front_on leaves only keeps (clears stale stands) = record {
+  front_on leaves only keeps (clears stale table stands) = record {
     disk = repointed e p 0;
     clears = clears_more d e front.clears p stale;
     tidy = λ q lt left. elim (cases_eq q p) [
@@ -205,20 +215,21 @@ module _ (d : Disk) (who p : ℕ) (t : Table) (s0 s : State) (front : IsClearedF
         no_row = subst (λ (rs : List Row). (r : Row) → Contains rs r → r.page ≢ q) (rows_repointed e p 0) left.no_row;
       })
     ];
-    may = record { stands = stands; valid = (one e s t front.may p stale).new_valid };
-    images = front_images leaves;
+    table = table;
     only = front_only only;
     others = front_others keeps;
+    settled = λ before. stands (front.settled before);
+    images = front_images leaves;
   }
 
 -- where all pages were looked at no pointer is stale
-pub front_ends : (d : Disk) (who p : ℕ) (t : Table) (s0 s : State) → MayClear d s0 t → IsClearedFront d who p t s0 s → t.geometry.pages ≤ p → IsTidied d s t
-front_ends d who p t s0 s may front all = record {
+pub front_ends : (d : Disk) (who p : ℕ) (t : Table) (s0 s : State) → IsClearedFront d who p t s0 s → t.geometry.pages ≤ p → IsTidied d t s0 s
+front_ends d who p t s0 s front all = record {
   disk = front.disk;
   clears = front.clears;
   none_stale = λ q stale.
-      let lt : q < t.geometry.pages = subst (λ (g : Geometry). q < g.pages) front.may.stands.table.geometry stale.in_image in
+      let lt : q < t.geometry.pages = subst (λ (g : Geometry). q < g.pages) front.table.geometry stale.in_image in
       front.tidy q (omega (arith, lt, all)) stale;
-  stands = front.may.stands;
-  valid = front.may.valid;
+  table = front.table;
+  settled = front.settled;
 }

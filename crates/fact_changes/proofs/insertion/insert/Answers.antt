@@ -25,7 +25,7 @@ returns-clause-images g c =
 pub returns-clause-done : goal.returns-clause-done
 returns-clause-done g c =
     let S = g.D.Pm.state in
-    λ d may. made_opens d (S c.args.device.now) c.args.fact.now c.args.print.now c.args.page may c.direct_of-direct.result c.geometry-g.result (c.direct_of-direct.ensures.slot ∙ ap (λ (k : Geometry). prefix_of k c.args.print.now) c.geometry-g.ensures) c.geometry-g.ensures (sym c.load_field.ensures ∙ c.if-load_field-ne0.false) (S c.insert_direct.new.device) c.insert_direct.ensures.only.words c.in_ok-insert_direct.ensures.done
+    λ d may. made_opens d (S c.args.device.now) c.args.fact.now c.args.print.now c.args.page may c.direct_of-direct.result c.geometry-g.result (c.direct_of-direct.ensures.slot ∙ ap (λ (k : Geometry). prefix_of k c.args.print.now) c.geometry-g.ensures) c.geometry-g.ensures (sym c.load_field.ensures ∙ c.if-load_field-ne0.false) (S c.insert_direct.new.device) c.insert_direct.ensures.only.words c.in_ok-insert_direct.ensures.done c.in_ok-insert_direct.ensures.settled
 
 pub returns-in_err-insert_direct-clause-only : goal.returns-in_err-insert_direct-clause-only
 returns-in_err-insert_direct-clause-only g c =

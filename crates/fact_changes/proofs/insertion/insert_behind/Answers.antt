@@ -23,17 +23,17 @@ returns-in_ok-insert_chained-in-Some-clause-images g c =
 pub returns-in_ok-insert_chained-in-Some-clause-done : goal.returns-in_ok-insert_chained-in-Some-clause-done
 returns-in_ok-insert_chained-in-Some-clause-done g c =
     let S = g.D.Pm.state in
-    λ d may. made_links d (S c.args.device.now) c.args.fact.now c.args.print.now c.args.page may c.args.direct c.geometry-g.result c.requires.direct c.geometry-g.ensures c.requires.row c.in-Some.slot c.take_slot.new.self c.in-Some.ensures.takes (S c.insert_chained.new.device) c.insert_chained.ensures.only.words c.in_ok-insert_chained-in-Some.ensures.done
+    λ d may. made_links d (S c.args.device.now) c.args.fact.now c.args.print.now c.args.page may c.args.direct c.geometry-g.result c.requires.direct c.geometry-g.ensures c.requires.row c.in-Some.slot c.take_slot.new.self c.in-Some.ensures.takes (S c.insert_chained.new.device) c.insert_chained.ensures.only.words c.in_ok-insert_chained-in-Some.ensures.done c.in_ok-insert_chained-in-Some.ensures.settled
 
 pub returns-in-None-clause-images : goal.returns-in-None-clause-images
 returns-in-None-clause-images g c =
     let S = g.D.Pm.state in
-    λ d may. absurd (never_full d (S c.args.device.now) c.args.fact.now c.args.print.now c.args.page may (c.in-None.ensures.none refl))
+    λ d may. absurd (never_full d (S c.args.device.now).now c.args.fact.now c.args.print.now c.args.page may (c.in-None.ensures.none refl))
 
 pub returns-in-None-clause-done : goal.returns-in-None-clause-done
 returns-in-None-clause-done g c =
     let S = g.D.Pm.state in
-    λ d may. absurd (never_full d (S c.args.device.now) c.args.fact.now c.args.print.now c.args.page may (c.in-None.ensures.none refl))
+    λ d may. absurd (never_full d (S c.args.device.now).now c.args.fact.now c.args.print.now c.args.page may (c.in-None.ensures.none refl))
 
 pub returns-in_err-insert_chained-in-Some-clause-only : goal.returns-in_err-insert_chained-in-Some-clause-only
 returns-in_err-insert_chained-in-Some-clause-only g c =
@@ -59,4 +59,4 @@ pub returns-in-None-clause-only : goal.returns-in-None-clause-only
 returns-in-None-clause-only g c =
     let S = g.D.Pm.state in
     let can = c.requires.can in
-    absurd (never_full can.disk (S c.args.device.now) c.args.fact.now c.args.print.now c.args.page can.may (c.in-None.ensures.none refl))
+    absurd (never_full can.disk (S c.args.device.now).now c.args.fact.now c.args.print.now c.args.page can.may (c.in-None.ensures.none refl))
