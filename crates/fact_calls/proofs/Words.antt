@@ -9,13 +9,14 @@ use Rattle.pm_device.proofs.Only.{stores_only-weaken}
 use Rattle.pm_layout.specs.declared.Geometry.{Geometry}
 use Rattle.pm_layout.specs.Geometry.{slots, slot_word, pointer_word}
 use Rattle.dn_model.specs.Table.{Row, prefix_of}
-use Rattle.dn_model.specs.Disk.{Disk, rows}
-use Rattle.dn_changes.proofs.Unread.{slot_word_low, pointer_word_low, read_in_data}
+use Rattle.dn_model.specs.Disk.{Disk}
+use Rattle.dn_model.specs.Valid.{HasGoodRows}
+use Rattle.dn_changes.proofs.Unread.{slot_word_low, pointer_word_low}
 use Rattle.dn_row_changes.specs.Changes.{slot_before}
-use Rattle.dn_table_changes.proofs.Rows.{same_test, other_test, row_found}
-use Rattle.dn_table_changes.proofs.Slots.{HasSlot}
-use Rattle.dn_table_changes.proofs.TableRows.{in_table, row_slot_small, stands_in_chain}
-use Rattle.dn_table_changes.proofs.Taken.{before_owned}
+use Rattle.dn_row_changes.proofs.Rows.{same_test, other_test}
+use Rattle.dn_row_changes.proofs.Slots.{HasSlot}
+use Rattle.dn_row_changes.proofs.TableRows.{of_chain, in_table, is_row, row_slot_small, stands_in_chain}
+use Rattle.dn_row_changes.proofs.Taken.{before_owned}
 use Rattle.fact_table.specs.Table.{Table, IsTable, IsAtSlot}
 use Rattle.fact_counts.proofs.Counting.{row_small}
 use Rattle.fact_changes.specs.Insertion.{MayInsert, IsInsertWord, IsTakenWord}
@@ -42,17 +43,18 @@ counts_in d words t is slot row at s u only =
     stores_only-weaken _ _ s u (λ a e. subst (IsTableWord t.geometry) (sym e) (slot_in t.geometry slot 4 (row_small d words t is slot row at) (omega arith))) only
 
 -- a row that comes in
-pub insert_in : (d : Disk) (s : State) (t t' : Table) (print : List ℕ) (page : ℕ) → MayInsert d s t print page → (u : State) → StoresOnly (IsInsertWord t t' print page) s u → StoresOnly (IsTableWord t.geometry) s u
-insert_in d s t t' print page may u only = stores_only-weaken _ _ s u
-    (λ a. ⊎_elim (λ (direct : IsIn (slot_word t.geometry (prefix_of t.geometry print) 0) 8 a). run_in t.geometry (prefix_of t.geometry print) a (omega (arith, prefix_lt d s t print page may)) direct)
-    (⊎_elim (λ (e : a ≡ pointer_word t.geometry page). subst (IsTableWord t.geometry) (sym e) (pointer_in t.geometry page page_lt))
+pub insert_in : (d : Disk) (words : List ℕ) (t t' : Table) (print : List ℕ) (page : ℕ) → MayInsert d words t print page → (s u : State) → StoresOnly (IsInsertWord t t' print page) s u
+    → StoresOnly (IsTableWord t.geometry) s u
+insert_in d words t t' print page may s u only = stores_only-weaken _ _ s u
+    (λ a. ⊎_elim (λ (direct : IsIn (slot_word t.geometry (prefix_of t.geometry print) 0) 8 a). run_in t.geometry (prefix_of t.geometry print) a (omega (arith, prefix_lt d words t print page may)) direct)
+    (⊎_elim (λ (e : a ≡ pointer_word t.geometry page). subst (IsTableWord t.geometry) (sym e) (pointer_in t.geometry page may.data_page.high))
     (λ (taken : IsTakenWord t t' a). run_in t.geometry taken.slot a taken.takes.small taken.inside))) only
-  where
-    page_lt : page < t.geometry.pages
-    page_lt = subst (λ (g : Geometry). page < g.pages) may.stands.table.geometry (read_in_data d may.valid page (inl may.mapped)).high
 
 -- a row that goes
-module _ (d : Disk) (row : Row) (s : State) (t : Table) (slot : ℕ) (may : MayRemoveAt d row s t slot) where
+module _ (d : Disk) (row : Row) (words : List ℕ) (t : Table) (slot : ℕ) (may : MayRemoveAt d row words t slot) where
+  abbrev good : HasGoodRows d
+  good = may.table.good
+
   abbrev prefix : ℕ
   prefix = prefix_of d.geometry row.print
 
@@ -61,25 +63,25 @@ module _ (d : Disk) (row : Row) (s : State) (t : Table) (slot : ℕ) (may : MayR
 
   before_in : before < slots d.geometry
   before_in =
-      let stands = stands_in_chain d may.valid row may.at_slot.there in
+      let stands = stands_in_chain d good row may.at_slot.there in
       ⊎_elim (λ (own : before ≡ prefix). omega (arith, own, stands.direct))
-      (λ (has : HasSlot (d.chain prefix) before). omega (arith, has.2, row_slot_small d may.valid has.0 (in_table d prefix has.0 stands.direct has.1))) (before_owned row.slot prefix (d.chain prefix))
+      (λ (has : HasSlot (d.chain prefix) before). omega (arith, has.2, row_slot_small d good has.0 (in_table d prefix has.0 stands.direct has.1))) (before_owned row.slot prefix (d.chain prefix))
 
   deciding_in : IsTableWord d.geometry (deciding_word d row)
   deciding_in = elim (cases_eq row.slot prefix) [
     | inl e ↦
         subst (λ (b : Bool). IsTableWord d.geometry (if b then slot_word d.geometry row.slot 0 else slot_word d.geometry before 5)) (sym (same_test row.slot prefix e))
-        (slot_in d.geometry row.slot 0 (row_slot_small d may.valid row may.at_slot.there) (omega arith))
+        (slot_in d.geometry row.slot 0 (row_slot_small d good row may.at_slot.there) (omega arith))
     | inr ne ↦
         subst (λ (b : Bool). IsTableWord d.geometry (if b then slot_word d.geometry row.slot 0 else slot_word d.geometry before 5)) (sym (other_test row.slot prefix ne))
         (slot_in d.geometry before 5 before_in (omega arith))
   ]
 
   page_in : row.page < d.geometry.pages
-  page_in = (read_in_data d may.valid row.page (inr (row_found (rows d) row may.at_slot.there))).high
+  page_in = let found = of_chain d row may.at_slot.there in (is_row d good found.0 row found.1 found.2).data_page.high
 
-  pub zero_in : (u : State) → StoresOnly (IsRemoveWord d row) s u → StoresOnly (IsTableWord t.geometry) s u
-  zero_in u only = subst (λ (g : Geometry). StoresOnly (IsTableWord g) s u) may.stands.table.geometry
+  pub zero_in : (s u : State) → StoresOnly (IsRemoveWord d row) s u → StoresOnly (IsTableWord t.geometry) s u
+  zero_in s u only = subst (λ (g : Geometry). StoresOnly (IsTableWord g) s u) may.table.geometry
       (stores_only-weaken _ _ s u (λ a. ⊎_elim (λ (e : a ≡ deciding_word d row). subst (IsTableWord d.geometry) (sym e) deciding_in)
       (λ (e : a ≡ pointer_word d.geometry row.page). subst (IsTableWord d.geometry) (sym e) (pointer_in d.geometry row.page page_in))) only)
 

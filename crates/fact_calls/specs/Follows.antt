@@ -1,5 +1,5 @@
 -- What calls of a table make of its rows. Only lists of rows are spoken of.
-use Rattle.std.specs.Prelude.{◌≡◌, ◌≢◌, ℕ, suc, ◌+◌, ◌^◌, ◌<◌, ◌≤◌, List, slice_get, Some, Contains}
+use Rattle.std.specs.Prelude.{◌≡◌, ◌≢◌, ℕ, suc, ◌^◌, ◌<◌, ◌≤◌, List, slice_get, Some, Contains}
 use Rattle.pm_layout.specs.declared.Geometry.{Geometry}
 use Rattle.pm_layout.specs.Geometry.{InData, directs, slots}
 use Rattle.fingerprint.specs.Print.{IsPrint}

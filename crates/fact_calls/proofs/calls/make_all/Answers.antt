@@ -24,7 +24,7 @@ make-requires-clause-room g c =
 pub returns-in_err-make-clause-images : goal.returns-in_err-make-clause-images
 returns-in_err-make-clause-images g c =
     let S = g.D.Pm.state in
-    λ d may. next_images c.args.calls.now c.loop-i.i c.args.fact.now c.loop-i.fact (S c.args.device.now) (S c.loop-i.device) c.loop-i.invariant _ (get_at c.args.calls.now c.loop-i.i _ (omega arith)) d may (S c.make.new.device) (c.make.ensures.images (c.loop-i.invariant.made d may).disk (next_may c.args.calls.now c.loop-i.i c.args.fact.now c.loop-i.fact (S c.args.device.now) (S c.loop-i.device) c.loop-i.invariant _ (get_at c.args.calls.now c.loop-i.i _ (omega arith)) d may))
+    λ d may. next_images c.args.calls.now c.loop-i.i c.args.fact.now c.loop-i.fact (S c.args.device.now) (S c.loop-i.device) c.loop-i.invariant _ (get_at c.args.calls.now c.loop-i.i _ (omega arith)) d may (S c.make.new.device) c.make.ensures.images
 
 pub returns-in_err-make-clause-spare : goal.returns-in_err-make-clause-spare
 returns-in_err-make-clause-spare g c =
@@ -41,16 +41,14 @@ loop-i-preserved g c =
     record {
       spare = omega (arith, used, c.loop-i.invariant.spare);
       faults = omega (arith, c.make.ensures.faults, c.loop-i.invariant.faults);
-      pages = next_geometry c.args.calls.now c.loop-i.i c.args.fact.now c.loop-i.fact (S c.args.device.now) (S c.loop-i.device) c.loop-i.invariant _ (get_at c.args.calls.now c.loop-i.i _ (omega arith)) can.disk can.may (S c.make.new.device) c.make.new.fact (c.in_ok-make.ensures.done (c.loop-i.invariant.made can.disk can.may).disk (next_may c.args.calls.now c.loop-i.i c.args.fact.now c.loop-i.fact (S c.args.device.now) (S c.loop-i.device) c.loop-i.invariant _ (get_at c.args.calls.now c.loop-i.i _ (omega arith)) can.disk can.may));
+      pages = next_geometry c.args.calls.now c.loop-i.i c.args.fact.now c.loop-i.fact (S c.args.device.now) (S c.loop-i.device) c.loop-i.invariant _ (get_at c.args.calls.now c.loop-i.i _ (omega arith)) can.disk can.may (S c.make.new.device) c.make.new.fact c.in_ok-make.ensures.done;
       only = next_only c.args.calls.now c.loop-i.i c.args.fact.now c.loop-i.fact (S c.args.device.now) (S c.loop-i.device) c.loop-i.invariant (S c.make.new.device) c.make.ensures.only;
-      images = λ d may. next_images c.args.calls.now c.loop-i.i c.args.fact.now c.loop-i.fact (S c.args.device.now) (S c.loop-i.device) c.loop-i.invariant _ (get_at c.args.calls.now c.loop-i.i _ (omega arith)) d may (S c.make.new.device) (c.make.ensures.images (c.loop-i.invariant.made d may).disk (next_may c.args.calls.now c.loop-i.i c.args.fact.now c.loop-i.fact (S c.args.device.now) (S c.loop-i.device) c.loop-i.invariant _ (get_at c.args.calls.now c.loop-i.i _ (omega arith)) d may));
-      made = λ d may. next_made c.args.calls.now c.loop-i.i c.args.fact.now c.loop-i.fact (S c.args.device.now) (S c.loop-i.device) c.loop-i.invariant _ (get_at c.args.calls.now c.loop-i.i _ (omega arith)) d may (S c.make.new.device) c.make.new.fact (c.in_ok-make.ensures.done (c.loop-i.invariant.made d may).disk (next_may c.args.calls.now c.loop-i.i c.args.fact.now c.loop-i.fact (S c.args.device.now) (S c.loop-i.device) c.loop-i.invariant _ (get_at c.args.calls.now c.loop-i.i _ (omega arith)) d may));
+      images = λ d may. next_images c.args.calls.now c.loop-i.i c.args.fact.now c.loop-i.fact (S c.args.device.now) (S c.loop-i.device) c.loop-i.invariant _ (get_at c.args.calls.now c.loop-i.i _ (omega arith)) d may (S c.make.new.device) c.make.ensures.images;
+      made = λ d may. next_made c.args.calls.now c.loop-i.i c.args.fact.now c.loop-i.fact (S c.args.device.now) (S c.loop-i.device) c.loop-i.invariant _ (get_at c.args.calls.now c.loop-i.i _ (omega arith)) d may (S c.make.new.device) c.make.new.fact c.in_ok-make.ensures.done;
     }
 
 pub returns-clause-images : goal.returns-clause-images
-returns-clause-images g c =
-    let S = g.D.Pm.state in
-    c.loop-i.invariant.images
+returns-clause-images g c = c.loop-i.invariant.images
 
 pub returns-in_err-make-clause-only : goal.returns-in_err-make-clause-only
 returns-in_err-make-clause-only g c =
