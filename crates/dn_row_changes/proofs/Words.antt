@@ -5,7 +5,7 @@ use Rattle.std.proofs.lemmas.Bool.{cases_eq}
 use Rattle.std.proofs.lemmas.List.{get_or_append_left}
 use Rattle.pm_device.specs.State.{State}
 use Rattle.pm_device.specs.Settled.{IsSettled, LeavesOnly, StoresOnly}
-use Rattle.pm_device.specs.Reading.{Reads, Stands, IsReady}
+use Rattle.pm_device.specs.Reading.{Reads, Stands, IsReady, DiffersAt}
 use Rattle.pm_device.specs.Words.{IsIn}
 use Rattle.pm_device.specs.Pages.{HoldsRun, SaysRun}
 use Rattle.pm_device.specs.Lines.{StoresRun}
@@ -39,33 +39,34 @@ module _ (old new : Disk) (first : ℕ) (fresh : List ℕ) (at value : ℕ) (is 
       only.read a there.0 ∙ ⊎_elim (λ (before : TableSays old a v). holds a v before) (λ (run : SaysRun first fresh a v). ready a v run) there.1)
       (is.differs a v told)
 
--- in any order, where no word is fresh
-module _ (old new : Disk) (first at value : ℕ) (is : IsOneTableWord old new first [] at value) where
-  module _ (s : State) (stands : Stands (TableSays old) s) (c : List ℕ) (leaves : LeavesOneWord at value s c) where
-    was : (a v : ℕ) → TableSays old a v → a ≢ at → slice_index c a ≡ v
-    was a v told ne = leaves.others a (stands.within a v told) (stands.settled a v told) ne ∙ stands.reads a v told
+-- in any order, where no word is fresh: an image has what was said before or what is said after
+module _ (Old New : ℕ → ℕ → Type 0) (first at value : ℕ) (differs : DiffersAt Old New (SaysRun first []) at value) (s : State) (stands : Stands Old s) (c : List ℕ) (leaves : LeavesOneWord at value s c) where
+  was : (a v : ℕ) → Old a v → a ≢ at → slice_index c a ≡ v
+  was a v told ne = leaves.others a (stands.within a v told) (stands.settled a v told) ne ∙ stands.reads a v told
 
-    reads_old : slice_index c at ≡ slice_index s.now at → HoldsTable c old
-    reads_old same a v told = elim (cases_eq a at) [
-      | inl e ↦ subst (λ (b : ℕ). slice_index c b ≡ slice_index s.now b) (sym e) same ∙ stands.reads a v told
-      | inr ne ↦ was a v told ne
-    ]
+  reads_old : slice_index c at ≡ slice_index s.now at → Reads Old c
+  reads_old same a v told = elim (cases_eq a at) [
+    | inl e ↦ subst (λ (b : ℕ). slice_index c b ≡ slice_index s.now b) (sym e) same ∙ stands.reads a v told
+    | inr ne ↦ was a v told ne
+  ]
 
-    reads_new : slice_index c at ≡ value → HoldsTable c new
-    reads_new moved a v told = ⊎_elim
-        (λ (here : (a ≡ at) × (v ≡ value)). subst (λ (b : ℕ). slice_index c b ≡ value) (sym here.0) moved ∙ sym here.1)
-        (λ (there : (a ≢ at) × (TableSays old a v ⊎ SaysRun first [] a v)). ⊎_elim
-        (λ (before : TableSays old a v). was a v before there.0)
-        (λ (fresh : SaysRun first [] a v). absurd (omega (arith, fresh.0.0, fresh.0.1))) there.1)
-        (is.differs a v told)
+  reads_new : slice_index c at ≡ value → Reads New c
+  reads_new moved a v told = ⊎_elim
+      (λ (here : (a ≡ at) × (v ≡ value)). subst (λ (b : ℕ). slice_index c b ≡ value) (sym here.0) moved ∙ sym here.1)
+      (λ (there : (a ≢ at) × (Old a v ⊎ SaysRun first [] a v)). ⊎_elim
+      (λ (before : Old a v). was a v before there.0)
+      (λ (fresh : SaysRun first [] a v). absurd (omega (arith, fresh.0.0, fresh.0.1))) there.1)
+      (differs a v told)
 
-  pub word_any_order : (s t : State) → Stands (TableSays old) s → LeavesOnly s t (LeavesOneWord at value s) → LeavesOnly s t (λ c. HoldsTable c old ⊎ HoldsTable c new)
-  word_any_order s t stands leaves = record {
-    extends = leaves.extends;
-    each = λ m c late left.
-        let here : LeavesOneWord at value s c = leaves.each m c late left in
-        ⊎_elim (λ same. inl (reads_old s stands c here same)) (λ moved. inr (reads_new s stands c here moved)) here.word;
-  }
+  pub reads_either : Reads Old c ⊎ Reads New c
+  reads_either = ⊎_elim (λ same. inl (reads_old same)) (λ moved. inr (reads_new moved)) leaves.word
+
+pub word_any_order : (old new : Disk) (first at value : ℕ) → IsOneTableWord old new first [] at value
+    → (s t : State) → Stands (TableSays old) s → LeavesOnly s t (LeavesOneWord at value s) → LeavesOnly s t (λ c. HoldsTable c old ⊎ HoldsTable c new)
+word_any_order old new first at value is s t stands leaves = record {
+  extends = leaves.extends;
+  each = λ m c late left. reads_either (TableSays old) (TableSays new) first at value is.differs s stands c (leaves.each m c late left);
+}
 
 -- a word of a run
 pub says_run : (first : ℕ) (values : List ℕ) (a v k : ℕ) → k < length values → a ≡ first + k → v ≡ slice_index values k → SaysRun first values a v

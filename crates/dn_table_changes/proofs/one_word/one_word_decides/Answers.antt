@@ -5,7 +5,7 @@ pub returns-clause-images : goal.returns-clause-images
 returns-clause-images c = one_word_images
 
 pub returns-clause-any_order : goal.returns-clause-any_order
-returns-clause-any_order c = λ old new first at value is s t agree size stands. one_word_any_order old new first at value is s stands t agree size
+returns-clause-any_order c = one_word_any_order
 
 pub returns-clause-stands : goal.returns-clause-stands
 returns-clause-stands c = one_word_stands
