@@ -13,7 +13,8 @@ use Rattle.fact_table.specs.Table.{Table, IsTable}
 use Rattle.fact_calls.specs.declared.call.TableCall.{TableCall}
 use Rattle.fact_calls.specs.declared.call.TableCall.TheVariants.{Insert, Raise, SettleUp, SettleDown, Recount, RemoveZero, ClearStale}
 use Rattle.fact_calls.specs.Follows.{Follows, After}
-use Rattle.fact_calls.specs.Made.{IsTableWord, IsSameBut, MayCall, LeavesCall, MakesCall, MayCallAll, LeavesAll, MakesAll}
+use Rattle.dn_row_changes.specs.Words.{IsTableWord}
+use Rattle.fact_calls.specs.Made.{IsSameBut, MayCall, LeavesCall, MakesCall, MayCallAll, LeavesAll, MakesAll}
 
 -- Of these rows the call may be made on this disk: what comes in is mapped, and counts stay off the mappings by at most
 -- the updates under way.
@@ -55,7 +56,7 @@ CallLeavesDisks = (d : Disk) (t : Table) (call : TableCall) (s u : State) → Is
 -- in the end the device has those of after
 abbrev pub CallMakesDisk : Type 0
 CallMakesDisk = (d : Disk) (t t' : Table) (call : TableCall) (s u : State) → IsValid d → Stands (DiskSays d) s → MayCall d s.now t call → MayMakeOn d (rows d) call
-    → Agree u.now u.past → StoresOnly (IsTableWord t.geometry) s u → MakesCall t t' call s u
+    → StoresOnly (IsTableWord t.geometry) s u → MakesCall t t' call s u
     → IsOnDisk d t' u (Follows d.geometry (rows d) call)
 
 -- k calls were made at this moment: each image has the rows after them, or after one more
@@ -76,5 +77,5 @@ CallsLeaveDisks = (d : Disk) (t : Table) (calls : List TableCall) (s u : State) 
 -- in the end the device has the rows after all of them
 abbrev pub CallsMakeDisk : Type 0
 CallsMakeDisk = (d : Disk) (t t' : Table) (calls : List TableCall) (s u : State) → IsValid d → Stands (DiskSays d) s → MayCallAll d s.now t calls → AllowsOn d calls
-    → Agree u.now u.past → StoresOnly (IsTableWord t.geometry) s u → MakesAll t t' calls s u
+    → StoresOnly (IsTableWord t.geometry) s u → MakesAll t t' calls s u
     → IsOnDisk d t' u (After d.geometry calls (rows d) (length calls))

@@ -1,13 +1,19 @@
 -- A change of a table that one store decides. Of a disk only the table is spoken of: its geometry, chains and pointers.
-use Rattle.std.specs.Prelude.{◌≡◌, ◌≢◌, ◌⊎◌, ℕ, ◌*◌, ◌<◌, List, [], length, slice_index}
+use Rattle.std.specs.Prelude.{◌≡◌, ◌≢◌, ◌⊎◌, ℕ, ◌*◌, ◌<◌, ◌≤◌, List, [], length, slice_index}
 use Rattle.pm_device.specs.State.{State}
 use Rattle.pm_device.specs.Settled.{IsSettled, LeavesOnly, StoresOnly}
 use Rattle.pm_device.specs.Reading.{Said, Reads, Stands, IsReady, DiffersAt}
 use Rattle.pm_device.specs.Words.{IsIn}
 use Rattle.pm_device.specs.Pages.{SaysRun}
 use Rattle.pm_device.specs.Commit.{IsCommitted, IsDone}
+use Rattle.pm_layout.specs.declared.Geometry.{Geometry}
+use Rattle.pm_layout.specs.Geometry.{direct_page, first_data}
 use Rattle.dn_model.specs.Disk.{Disk, TableSays}
 use Rattle.dn_model.specs.Valid.{HasGoodRows}
+
+-- a word of the table: of a slot, or a page's pointer
+abbrev pub IsTableWord : Geometry → ℕ → Type 0
+IsTableWord g a = (512 * direct_page g ≤ a) × (a < 512 * first_data g)
 
 -- the words read as the table of d
 abbrev pub HoldsTable : List ℕ → Disk → Type 0

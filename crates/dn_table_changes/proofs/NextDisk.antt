@@ -20,11 +20,11 @@ use Rattle.dn_changes.specs.Events.{IsReadPage}
 use Rattle.dn_changes.proofs.Unread.{read_in_data, slot_word_low, pointer_word_low}
 use Rattle.dn_changes.proofs.WriteEvent.{length-left, stands_for_read}
 use Rattle.dn_row_changes.specs.Changes.{with_table}
-use Rattle.dn_row_changes.specs.Words.{HoldsTable, IsOneTableWord}
+use Rattle.dn_row_changes.specs.Words.{IsTableWord, HoldsTable, IsOneTableWord}
 use Rattle.dn_row_changes.proofs.TableRows.{in_table, row_slot_small, good_of}
 use Rattle.dn_row_changes.proofs.Slots.{HasSlot, chain_word}
 use Rattle.dn_table_changes.specs.OneWord.{IsOneWord}
-use Rattle.dn_table_changes.specs.TableLaws.{IsTableWord, IsNextDisk}
+use Rattle.dn_table_changes.specs.TableLaws.{IsNextDisk}
 use Rattle.dn_table_changes.proofs.Frame.{mapped_only}
 
 -- what a table says is said of its words

@@ -7,11 +7,10 @@ use Rattle.dn_model.specs.Table.{Row}
 use Rattle.dn_model.specs.Disk.{Disk, rows}
 use Rattle.dn_model.specs.Valid.{IsValid}
 use Rattle.dn_changes.proofs.Unread.{slot_word_low}
-use Rattle.dn_row_changes.specs.Words.{IsUntold}
+use Rattle.dn_row_changes.specs.Words.{IsTableWord, IsUntold}
 use Rattle.dn_row_changes.proofs.TableRows.{good_of}
 use Rattle.dn_row_changes.proofs.Unused.{indirect_untold, closed_untold}
 use Rattle.dn_table_changes.specs.OneWord.{IsUnread}
-use Rattle.dn_table_changes.specs.TableLaws.{IsTableWord}
 use Rattle.dn_table_changes.proofs.NextDisk.{said_of_table}
 
 module _ (d : Disk) (valid : IsValid d) where

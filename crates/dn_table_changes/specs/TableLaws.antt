@@ -4,8 +4,6 @@ use Rattle.pm_device.specs.Past.{Left, moment}
 use Rattle.pm_device.specs.State.{State, Agree}
 use Rattle.pm_device.specs.Settled.{StoresOnly}
 use Rattle.pm_device.specs.Reading.{Stands}
-use Rattle.pm_layout.specs.declared.Geometry.{Geometry}
-use Rattle.pm_layout.specs.Geometry.{direct_page, first_data}
 use Rattle.dn_model.specs.Table.{Row, row_of}
 use Rattle.dn_model.specs.Disk.{Disk, DiskSays, TableSays, rows}
 use Rattle.dn_model.specs.Counts.{mappings, IsLogPage, IsNear}
@@ -13,11 +11,7 @@ use Rattle.dn_model.specs.Valid.{HasGoodRows, IsValid}
 use Rattle.dn_model.specs.Image.{StandsFor}
 use Rattle.dn_changes.specs.Events.{IsReadPage}
 use Rattle.dn_row_changes.specs.Changes.{with_table}
-use Rattle.dn_row_changes.specs.Words.{HoldsTable}
-
--- words of the table
-abbrev pub IsTableWord : Geometry → ℕ → Type 0
-IsTableWord g a = (512 * direct_page g ≤ a) × (a < 512 * first_data g)
+use Rattle.dn_row_changes.specs.Words.{IsTableWord, HoldsTable}
 
 -- a disk with another table, which is valid, and of which no page is read that wasn't before
 pub record IsNextDisk (d e : Disk) : Type 0 where

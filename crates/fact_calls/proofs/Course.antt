@@ -16,7 +16,8 @@ use Rattle.fact_table.specs.Table.{Table}
 use Rattle.fact_changes.proofs.Staled.{still_images}
 use Rattle.fact_calls.specs.declared.call.TableCall.{TableCall}
 use Rattle.fact_calls.specs.Follows.{MayMake, Follows, After, none_made, one_more}
-use Rattle.fact_calls.specs.Made.{IsTableWord, IsSameBut, MayCall, HasCalled, HoldsRows, LeavesCall, MakesCall, MayCallAll, HasCalledSome, LeavesAfter}
+use Rattle.dn_row_changes.specs.Words.{IsTableWord}
+use Rattle.fact_calls.specs.Made.{IsSameBut, MayCall, HasCalled, HoldsRows, LeavesCall, MakesCall, MayCallAll, HasCalledSome, LeavesAfter}
 
 module _ (d e : Disk) (same : IsSameBut d e) where
   geometry_same : e.geometry ≡ d.geometry

@@ -23,7 +23,7 @@ use Rattle.fact_changes.specs.Insertion.{MayInsert, IsInsertWord, IsTakenWord}
 use Rattle.fact_changes.specs.Removal.{MayRemoveAt, deciding_word, IsRemoveWord}
 use Rattle.fact_changes.specs.Stale.{IsStaleWord}
 use Rattle.fact_changes.proofs.Slotted.{prefix_lt}
-use Rattle.fact_calls.specs.Made.{IsTableWord}
+use Rattle.dn_row_changes.specs.Words.{IsTableWord}
 
 module _ (g : Geometry) where
   slot_in : (slot i : ℕ) → slot < slots g → i < 8 → IsTableWord g (slot_word g slot i)

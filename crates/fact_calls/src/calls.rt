@@ -2,7 +2,8 @@
 ghost use Rattle.std.specs.Prelude.{◌≡◌, ◌+◌, ◌*◌, ◌≤◌, length, OnOk, IsErr};
 ghost use Rattle.pm_device.specs.State.{Rose};
 ghost use Rattle.pm_device.specs.Settled.{StoresOnly};
-ghost use Rattle.fact_calls.specs.Made.{IsTableWord, CanCall, CanCallAll, LeavesCall, MakesCall, LeavesAll, MakesAll};
+ghost use Rattle.dn_row_changes.specs.Words.{IsTableWord};
+ghost use Rattle.fact_calls.specs.Made.{CanCall, CanCallAll, LeavesCall, MakesCall, LeavesAll, MakesAll};
 
 use crate::call::TableCall;
 use fact_changes::{clear_stale, insert, remove_zero};
