@@ -8,10 +8,10 @@ use Rattle.dn_model.specs.Table.{Row, prefix_of, chained}
 use Rattle.dn_model.specs.Disk.{Disk, rows}
 use Rattle.fact_slot.specs.Words.{words_of}
 use Rattle.fact_table.specs.Seen.{as_row}
-use Rattle.fact_table.specs.Chained.{IsChainFrom, IsFound, HasNoRow}
+use Rattle.fact_table.specs.Chained.{IsChainFrom, behind_direct, IsFound, HasNoRow}
 use Rattle.fact_table.specs.Table.{Table, IsTable}
 use Rattle.fact_scan.proofs.Held.{answer}
-use Rattle.fact_table.proofs.Tables.{chain_from, found_direct, found_behind, none_found, length-behind}
+use Rattle.fact_table.proofs.Tables.{chain_from, found_direct, found_behind, none_found}
 
 -- the direct slot of the fingerprint's prefix was read
 pub record IsLookedUp (words : List ℕ) (t : Table) (print : List ℕ) (p : ℕ) (inside : Geometry) (held : FactSlot) : Type 0 where
@@ -43,5 +43,5 @@ module _ (words : List ℕ) (t : Table) (print : List ℕ) (p : ℕ) (inside : G
   pub look_none : (held.page ≢ 0 → held.print ≡ print → ⊥) → HasNoRow (chained p (d.chain p)) print → HasNoRow (rows d) print
   look_none = none_found d words t is print p prefix_here direct_here held read_here look.fits
 
-  pub look_cost : length (chained p (d.chain p)) ≤ length (d.chain (prefix_of t.geometry print))
-  look_cost = subst (λ (q : ℕ). length (chained p (d.chain p)) ≤ length (d.chain q)) prefix_here (length-behind p (d.chain p))
+  pub look_cost : length (chained p (d.chain p)) ≡ behind_direct t.geometry d.chain print
+  look_cost = ap (λ (q : ℕ). length (chained q (d.chain q))) prefix_here

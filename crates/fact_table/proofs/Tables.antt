@@ -46,14 +46,6 @@ behind_in p (r ∷ rs) row there = by_test (r.slot == p) there
     by_test true there = let at = place_of rs row there in (suc at.0, at.1)
     by_test false there = place_of (r ∷ rs) row there
 
-pub length-behind : (p : ℕ) (rs : List Row) → length (chained p rs) ≤ length rs
-length-behind p [] = omega arith
-length-behind p (r ∷ rs) = by_test (r.slot == p)
-  where
-    by_test : (b : Bool) → length (if b then rs else r ∷ rs) ≤ length (r ∷ rs)
-    by_test true = omega arith
-    by_test false = omega arith
-
 -- a page word that isn't 0 is that of the direct slot's row
 pub head_of : (p : ℕ) (rs : List Row) → direct_page_word p rs ≢ 0 → (row : Row) × (slice_get rs 0 ≡ Some row) × (row.slot ≡ p)
 head_of p [] some = absurd (some refl)

@@ -4,7 +4,7 @@ use Rattle.pm_device.specs.Reading.{Reads}
 use Rattle.pm_layout.specs.declared.Geometry.{Geometry}
 use Rattle.pm_layout.specs.Geometry.{directs, slots}
 use Rattle.fingerprint.specs.Print.{IsPrint}
-use Rattle.dn_model.specs.Table.{Row, RowsSay, first_slot}
+use Rattle.dn_model.specs.Table.{Row, RowsSay, first_slot, chained, prefix_of}
 
 -- a row that may stand in an indirect slot
 pub record IsIndirect (g : Geometry) (row : Row) : Type 0 where
@@ -27,6 +27,10 @@ pub record IsChainFrom (g : Geometry) (words : List ℕ) (first : ℕ) (rows : L
 pub record HasChain (g : Geometry) (words : List ℕ) (first : ℕ) : Type 0 where
   pub rows : List Row
   pub is : IsChainFrom g words first rows
+
+-- how many rows are chained behind the direct slot of a fingerprint's prefix
+abbrev pub behind_direct : Geometry → (ℕ → List Row) → List ℕ → ℕ
+behind_direct g chain print = length (chained (prefix_of g print) (chain (prefix_of g print)))
 
 -- it is one of these rows, and has this fingerprint
 pub record IsFound (rows : List Row) (print : List ℕ) (row : Row) : Type 0 where

@@ -1,10 +1,9 @@
 // The table as the volume holds it.
 ghost use Rattle.std.specs.Prelude.{◌≡◌, ◌+◌, ◌-◌, ◌*◌, ◌<◌, ◌≤◌, ◌↔◌, ℕ, [], length, IfSome, IfNone, IsNone, IsTrue, Contains};
 ghost use Rattle.pm_layout.specs.Geometry.{IsAccepted, directs, slots};
-ghost use Rattle.dn_model.specs.Table.{prefix_of};
 ghost use Rattle.dn_model.specs.Disk.{Disk, rows};
 ghost use Rattle.fact_table.specs.Seen.{as_row};
-ghost use Rattle.fact_table.specs.Chained.{IsFound, HasNoRow};
+ghost use Rattle.fact_table.specs.Chained.{behind_direct, IsFound, HasNoRow};
 ghost use Rattle.fact_table.specs.Table.{IsTable, HasTable, IsAtSlot, IsOfPage, IsUnused, HasNoneAt, HasNoneOf, TakesSlot, GivesBackSlot};
 
 use crate::chain::find_chained;
@@ -115,8 +114,8 @@ impl Fact {
         if row.page == page { Some(row) } else { None }
     }
 
-    /// The row with a fingerprint, or None where no row has it. It makes at most one step more than the chain of the
-    /// fingerprint's prefix has rows.
+    /// The row with a fingerprint, or None where no row has it. It makes at most one step more than rows are chained
+    /// behind the direct slot of the fingerprint's prefix.
     pub fn find<D: Pm, L: Ledger>(
         &self,
         device: &D,
@@ -126,7 +125,7 @@ impl Fact {
         requires table { HasTable (D.state device.now).now self.now }
         ensures found { IfSome result (λ r. (d : Disk) → IsTable d (D.state device.now).now self.now → IsFound (rows d) print.now (as_row r)) }
         ensures none { IfNone result ((d : Disk) → IsTable d (D.state device.now).now self.now → HasNoRow (rows d) print.now) }
-        ensures cost { (d : Disk) → IsTable d (D.state device.now).now self.now → steps.new ≤ steps.old + length (d.chain (prefix_of self.now.geometry print.now)) + 1 }
+        ensures cost { (d : Disk) → IsTable d (D.state device.now).now self.now → steps.new ≤ steps.old + behind_direct self.now.geometry d.chain print.now + 1 }
     {
         let direct = direct_of(&self.geometry, print);
         let held = read_direct(device, &self.geometry, direct, steps);
