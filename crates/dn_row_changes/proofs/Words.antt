@@ -9,11 +9,11 @@ use Rattle.pm_device.specs.Reading.{Reads, Stands, IsReady, DiffersAt}
 use Rattle.pm_device.specs.Words.{IsIn}
 use Rattle.pm_device.specs.Pages.{HoldsRun, SaysRun}
 use Rattle.pm_device.specs.Lines.{StoresRun}
-use Rattle.pm_device.specs.Commit.{IsCommitted, IsDone}
+use Rattle.pm_device.specs.Commit.{IsCommitted, IsDone, LeavesOneWord}
 use Rattle.pm_device.proofs.OneWord.{reads_old_or_new, stands_new, stands-stores}
 use Rattle.pm_device.proofs.Layers.{leaves_only-stores, ready-weaken, stands_is_ready, run_is_ready}
 use Rattle.dn_model.specs.Disk.{Disk, TableSays}
-use Rattle.dn_row_changes.specs.Words.{HoldsTable, IsOneTableWord, LeavesOneWord, IsUntold}
+use Rattle.dn_row_changes.specs.Words.{HoldsTable, IsOneTableWord, IsUntold}
 
 module _ (old new : Disk) (first : ℕ) (fresh : List ℕ) (at value : ℕ) (is : IsOneTableWord old new first fresh at value) where
   pub word_settled : (s : State) → Stands (TableSays old) s → IsSettled s at
@@ -39,34 +39,52 @@ module _ (old new : Disk) (first : ℕ) (fresh : List ℕ) (at value : ℕ) (is 
       only.read a there.0 ∙ ⊎_elim (λ (before : TableSays old a v). holds a v before) (λ (run : SaysRun first fresh a v). ready a v run) there.1)
       (is.differs a v told)
 
--- in any order, where no word is fresh: an image has what was said before or what is said after
-module _ (Old New : ℕ → ℕ → Type 0) (first at value : ℕ) (differs : DiffersAt Old New (SaysRun first []) at value) (s : State) (stands : Stands Old s) (c : List ℕ) (leaves : LeavesOneWord at value s c) where
-  was : (a v : ℕ) → Old a v → a ≢ at → slice_index c a ≡ v
-  was a v told ne = leaves.others a (stands.within a v told) (stands.settled a v told) ne ∙ stands.reads a v told
+-- in any order, where fresh words stand: an image has what was said before or what is said after
+module _ (Old New Fresh : ℕ → ℕ → Type 0) (at value : ℕ) (differs : DiffersAt Old New Fresh at value) (s : State) (stands : Stands Old s) (ready : Stands Fresh s) (c : List ℕ) (leaves : LeavesOneWord at value s c) where
+  same_there : (Says : ℕ → ℕ → Type 0) → Stands Says s → (a v : ℕ) → Says a v → a ≢ at → slice_index c a ≡ v
+  same_there Says stand a v told ne = leaves.others a (stand.within a v told) (stand.settled a v told) ne ∙ stand.reads a v told
 
   reads_old : slice_index c at ≡ slice_index s.now at → Reads Old c
   reads_old same a v told = elim (cases_eq a at) [
     | inl e ↦ subst (λ (b : ℕ). slice_index c b ≡ slice_index s.now b) (sym e) same ∙ stands.reads a v told
-    | inr ne ↦ was a v told ne
+    | inr ne ↦ same_there Old stands a v told ne
   ]
 
   reads_new : slice_index c at ≡ value → Reads New c
   reads_new moved a v told = ⊎_elim
       (λ (here : (a ≡ at) × (v ≡ value)). subst (λ (b : ℕ). slice_index c b ≡ value) (sym here.0) moved ∙ sym here.1)
-      (λ (there : (a ≢ at) × (Old a v ⊎ SaysRun first [] a v)). ⊎_elim
-      (λ (before : Old a v). was a v before there.0)
-      (λ (fresh : SaysRun first [] a v). absurd (omega (arith, fresh.0.0, fresh.0.1))) there.1)
+      (λ (there : (a ≢ at) × (Old a v ⊎ Fresh a v)). ⊎_elim (λ (before : Old a v). same_there Old stands a v before there.0) (λ (fresh : Fresh a v). same_there Fresh ready a v fresh there.0) there.1)
       (differs a v told)
 
   pub reads_either : Reads Old c ⊎ Reads New c
   reads_either = ⊎_elim (λ same. inl (reads_old same)) (λ moved. inr (reads_new moved)) leaves.word
 
-pub word_any_order : (old new : Disk) (first at value : ℕ) → IsOneTableWord old new first [] at value
-    → (s t : State) → Stands (TableSays old) s → LeavesOnly s t (LeavesOneWord at value s) → LeavesOnly s t (λ c. HoldsTable c old ⊎ HoldsTable c new)
-word_any_order old new first at value is s t stands leaves = record {
+pub word_any_order : (old new : Disk) (first : ℕ) (fresh : List ℕ) (at value : ℕ) → IsOneTableWord old new first fresh at value
+    → (s t : State) → Stands (TableSays old) s → Stands (SaysRun first fresh) s → LeavesOnly s t (LeavesOneWord at value s) → LeavesOnly s t (λ c. HoldsTable c old ⊎ HoldsTable c new)
+word_any_order old new first fresh at value is s t stands ready leaves = record {
   extends = leaves.extends;
-  each = λ m c late left. reads_either (TableSays old) (TableSays new) first at value is.differs s stands c (leaves.each m c late left);
+  each = λ m c late left. reads_either (TableSays old) (TableSays new) (SaysRun first fresh) at value is.differs s stands ready c (leaves.each m c late left);
 }
+
+-- a run of no words stands
+pub nothing_stands : (first : ℕ) (s : State) → Stands (SaysRun first []) s
+nothing_stands first s = record {
+  within = λ a v said. absurd (omega (arith, said.0.0, said.0.1));
+  reads = λ a v said. absurd (omega (arith, said.0.0, said.0.1));
+  settled = λ a v said. absurd (omega (arith, said.0.0, said.0.1));
+}
+
+-- a run that was stored and flushed stands once its actor has set another word
+pub stands_through : (who first : ℕ) (values : List ℕ) (at value : ℕ) (s t : State) → IsReady who (SaysRun first values) s → (IsIn first (length values) at → ⊥)
+    → IsDone who at value s t → StoresOnly (λ a. a ≡ at) s t → Stands (SaysRun first values) t
+stands_through who first values at value s t ready out done only = record {
+  within = λ a v said. omega (arith, ready.within a v said, only.words);
+  reads = λ a v said. only.read a (apart a v said) ∙ ready.reads a v said;
+  settled = λ a v said. done.flushed a (ready.within a v said) (ready.flushed a v said) (apart a v said);
+}
+  where
+    apart : (a v : ℕ) → SaysRun first values a v → a ≢ at
+    apart a v said e = out (subst (IsIn first (length values)) e said.0)
 
 -- a word of a run
 pub says_run : (first : ℕ) (values : List ℕ) (a v k : ℕ) → k < length values → a ≡ first + k → v ≡ slice_index values k → SaysRun first values a v
@@ -86,14 +104,7 @@ front_ready who first values more s ready = ready-weaken who s (SaysRun first (v
 
 pub ready_through : (who q first : ℕ) (values : List ℕ) (at value : ℕ) (s t : State) → IsReady who (SaysRun first values) s → (IsIn first (length values) at → ⊥)
     → IsDone who at value s t → StoresOnly (λ a. a ≡ at) s t → IsReady q (SaysRun first values) t
-ready_through who q first values at value s t ready out done only = stands_is_ready q t (SaysRun first values) (record {
-  within = λ a v said. omega (arith, ready.within a v said, only.words);
-  reads = λ a v said. only.read a (apart a v said) ∙ ready.reads a v said;
-  settled = λ a v said. done.flushed a (ready.within a v said) (ready.flushed a v said) (apart a v said);
-})
-  where
-    apart : (a v : ℕ) → SaysRun first values a v → a ≢ at
-    apart a v said e = out (subst (IsIn first (length values)) e said.0)
+ready_through who q first values at value s t ready out done only = stands_is_ready q t (SaysRun first values) (stands_through who first values at value s t ready out done only)
 
 pub nothing_ready : (who first : ℕ) (s : State) → IsReady who (SaysRun first []) s
 nothing_ready who first s = record {

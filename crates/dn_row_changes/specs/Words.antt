@@ -5,7 +5,7 @@ use Rattle.pm_device.specs.Settled.{IsSettled, LeavesOnly, StoresOnly}
 use Rattle.pm_device.specs.Reading.{Said, Reads, Stands, IsReady, DiffersAt}
 use Rattle.pm_device.specs.Words.{IsIn}
 use Rattle.pm_device.specs.Pages.{SaysRun}
-use Rattle.pm_device.specs.Commit.{IsCommitted, IsDone}
+use Rattle.pm_device.specs.Commit.{IsCommitted, IsDone, LeavesOneWord}
 use Rattle.pm_layout.specs.declared.Geometry.{Geometry}
 use Rattle.pm_layout.specs.Geometry.{direct_page, first_data}
 use Rattle.dn_model.specs.Disk.{Disk, TableSays}
@@ -39,15 +39,10 @@ TableWordLeavesOldOrNew = (old new : Disk) (first : ℕ) (fresh : List ℕ) (at 
     → (who : ℕ) (s t : State) → Stands (TableSays old) s → IsReady who (SaysRun first fresh) s
     → LeavesOnly s t (IsCommitted who at value s) → LeavesOnly s t (λ c. HoldsTable c old ⊎ HoldsTable c new)
 
--- a stop leaves the word old or new, and what was settled as it was, whatever becomes of what was flushed
-pub record LeavesOneWord (at value : ℕ) (s : State) (c : List ℕ) : Type 0 where
-  pub word : (slice_index c at ≡ slice_index s.now at) ⊎ (slice_index c at ≡ value)
-  pub others : (a : ℕ) → a < length s.now → IsSettled s a → a ≢ at → slice_index c a ≡ slice_index s.now a
-
--- where no word is fresh that is enough, so that the word needs no fence before its store
+-- where the fresh words stand already, the word needs no fence before its store
 abbrev pub TableWordInAnyOrder : Type 0
-TableWordInAnyOrder = (old new : Disk) (first at value : ℕ) → IsOneTableWord old new first [] at value
-    → (s t : State) → Stands (TableSays old) s → LeavesOnly s t (LeavesOneWord at value s) → LeavesOnly s t (λ c. HoldsTable c old ⊎ HoldsTable c new)
+TableWordInAnyOrder = (old new : Disk) (first : ℕ) (fresh : List ℕ) (at value : ℕ) → IsOneTableWord old new first fresh at value
+    → (s t : State) → Stands (TableSays old) s → Stands (SaysRun first fresh) s → LeavesOnly s t (LeavesOneWord at value s) → LeavesOnly s t (λ c. HoldsTable c old ⊎ HoldsTable c new)
 
 -- once it is stored, flushed and fenced, the table of after stands
 abbrev pub TableWordStands : Type 0

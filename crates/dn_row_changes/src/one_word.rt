@@ -4,8 +4,8 @@
 ghost use Rattle.dn_row_changes.specs.Words.{TableWordIsSettled, TableWordLeavesOldOrNew, TableWordInAnyOrder, TableWordStands, TableWordReads, UntoldStoresRead, UntoldStoresStand, UntoldStoresLeaveSame};
 
 /// Where one word decides between two tables, each image that a stop may leave while it is stored has one of them, and
-/// the new one stands once the word is fenced. Before it is stored the word is settled. Where no other word is new,
-/// images have one of them whatever becomes of what was flushed before. The device's words read as the new one
+/// the new one stands once the word is fenced. Before it is stored the word is settled. Where the
+/// fresh words stand already, images have one of them whatever becomes of what was flushed before. The device's words read as the new one
 /// whatever is settled.
 pub fn one_table_word_decides()
     ensures settled { TableWordIsSettled }

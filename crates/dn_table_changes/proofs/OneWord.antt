@@ -6,7 +6,7 @@ use Rattle.pm_device.specs.Settled.{LeavesOnly, StoresOnly}
 use Rattle.pm_device.specs.Reading.{Reads, Stands, IsReady}
 use Rattle.pm_device.specs.Words.{IsIn}
 use Rattle.pm_device.specs.Pages.{SaysRun}
-use Rattle.pm_device.specs.Commit.{IsCommitted, IsDone}
+use Rattle.pm_device.specs.Commit.{IsCommitted, IsDone, LeavesOneWord}
 use Rattle.pm_device.proofs.OneWord.{reads_old_or_new, stands_new, stands-stores}
 use Rattle.pm_device.proofs.Layers.{leaves_only-stores}
 use Rattle.pm_layout.specs.declared.Geometry.{Geometry}
@@ -14,8 +14,7 @@ use Rattle.dn_model.specs.Disk.{Disk, DiskSays}
 use Rattle.dn_model.specs.Valid.{IsValid}
 use Rattle.dn_model.specs.Image.{StandsFor}
 use Rattle.dn_changes.proofs.WriteEvent.{length-left, stands_for_read}
-use Rattle.dn_row_changes.specs.Words.{LeavesOneWord}
-use Rattle.dn_row_changes.proofs.Words.{reads_either}
+use Rattle.dn_row_changes.proofs.Words.{nothing_stands, reads_either}
 use Rattle.dn_table_changes.specs.OneWord.{IsOneWord, MayCommit}
 
 module _ (old new : Disk) (first : ℕ) (fresh : List ℕ) (at value : ℕ) (is : IsOneWord old new first fresh at value) where
@@ -45,7 +44,7 @@ pub one_word_any_order : (old new : Disk) (first at value : ℕ) → IsOneWord o
 one_word_any_order old new first at value is s t agree size stands leaves = record {
   extends = leaves.extends;
   each = λ m c late left. stands_for_either old new first [] at value is t agree size m c left
-      (reads_either (DiskSays old) (DiskSays new) first at value is.differs s stands c (leaves.each m c late left));
+      (reads_either (DiskSays old) (DiskSays new) (SaysRun first []) at value is.differs s stands (nothing_stands first s) c (leaves.each m c late left));
 }
 
 pub one_word_may_commit : (old new : Disk) (first : ℕ) (fresh : List ℕ) (at value : ℕ) → IsOneWord old new first fresh at value

@@ -6,11 +6,10 @@ use Rattle.pm_device.specs.Reading.{Said, Stands, IsReady, DiffersAt}
 use Rattle.pm_device.specs.Words.{IsIn}
 use Rattle.pm_device.specs.Pages.{HoldsRun, SaysRun}
 use Rattle.pm_device.specs.Lines.{StoresRun}
-use Rattle.pm_device.specs.Commit.{IsCommitted, IsDone}
+use Rattle.pm_device.specs.Commit.{IsCommitted, IsDone, LeavesOneWord}
 use Rattle.dn_model.specs.Disk.{Disk, DiskSays}
 use Rattle.dn_model.specs.Valid.{IsValid}
 use Rattle.dn_model.specs.Image.{StandsFor}
-use Rattle.dn_row_changes.specs.Words.{LeavesOneWord}
 
 -- Word `at` becomes `value`, once fresh values stand from word `first` on: then the disk is the new one. Both make sense.
 pub record IsOneWord (old new : Disk) (first : ℕ) (fresh : List ℕ) (at value : ℕ) : Type 0 where

@@ -8,14 +8,14 @@
 ghost use Rattle.std.specs.Prelude.{◌≡◌, ◌+◌, ◌*◌, ◌<◌, ◌≤◌, length, slice_index, OnOk, IsErr};
 ghost use Rattle.pm_device.specs.State.{Rose};
 ghost use Rattle.pm_device.specs.Settled.{IsSettled, LeavesOnly, StoresOnly, KeepsFlushed, Others};
-ghost use Rattle.pm_device.specs.Commit.{IsCommitted, IsDone};
+ghost use Rattle.pm_device.specs.Commit.{IsDone, LeavesOneWord};
 ghost use Rattle.pm_device.specs.Lines.{StoresRun};
 ghost use Rattle.pm_layout.specs.Geometry.{IsAccepted, slot_word, directs, slots};
 ghost use Rattle.fingerprint.specs.Slot.{IsSlot, IsReadFrom, IsTheSlotOf, slot_words};
 ghost use Rattle.fact_slot.specs.Words.{words_of};
 
 use fact_slot::slot::NEXT;
-use fact_slot::{Steps, commit_field, load_field, read_slot, store_fields};
+use fact_slot::{Steps, load_field, read_slot, set_field, store_fields};
 use fingerprint::FactSlot;
 use pm_device::{Failed, Pm};
 use pm_layout::Geometry;
@@ -25,7 +25,7 @@ use std::sync::ledger::Ledger;
 pub const FILL_UNITS: u64 = 9;
 
 /// The units of the device that `link` and `unlink` use, each.
-pub const LINK_UNITS: u64 = 4;
+pub const LINK_UNITS: u64 = 3;
 
 /// What an indirect slot holds. It is one step. The slot has a row where a chain reaches it.
 pub fn read_chain<D: Pm, L: Ledger>(
@@ -62,15 +62,13 @@ pub fn fill_chain<D: Pm>(device: &mut D, g: &Geometry, who: u32, slot: u64, row:
     store_fields(device, g, who, slot, 0, &row.words());
 }
 
-/// Puts a filled slot directly after the direct slot, by the direct slot's next word. All that this actor flushed
-/// before, as the fill and the page's pointer, is fenced first, and the next word is flushed and fenced.
+/// Puts a filled slot directly after the direct slot, by the direct slot's next word, which is stored, flushed and
+/// fenced. The fill and the page's pointer are fenced before.
 ///
-/// Where the next word is settled before, at each moment on the way a stop leaves it old, or leaves it new together
-/// with all that this actor had flushed before.
+/// Where the next word is settled before, at each moment on the way a stop leaves it old or new.
 ///
 /// # Errors
-/// `Failed` where one of the two fences failed. After the first the next word is old; after the second it is
-/// stored, and a stop may leave either.
+/// `Failed` where the fence failed. Then the next word is stored, and a stop may leave either.
 pub fn link<D: Pm>(
     device: &mut D,
     g: &Geometry,
@@ -84,7 +82,7 @@ pub fn link<D: Pm>(
     requires indirect { directs g.now ≤ slot }
     requires slot { slot < slots g.now }
     requires room { LINK_UNITS ≤ (D.state device.old).spare }
-    ensures any_moment { IsSettled (D.state device.old) (slot_word g.now direct 5) → LeavesOnly (D.state device.old) (D.state device.new) (IsCommitted who (slot_word g.now direct 5) slot (D.state device.old)) }
+    ensures any_moment { IsSettled (D.state device.old) (slot_word g.now direct 5) → LeavesOnly (D.state device.old) (D.state device.new) (LeavesOneWord (slot_word g.now direct 5) slot (D.state device.old)) }
     ensures done { OnOk result (IsDone who (slot_word g.now direct 5) slot (D.state device.old) (D.state device.new)) }
     ensures only { StoresOnly (λ a. a ≡ slot_word g.now direct 5) (D.state device.old) (D.state device.new) }
     ensures others { KeepsFlushed (Others who) (λ a. a ≡ slot_word g.now direct 5) (D.state device.old) (D.state device.new) }
@@ -92,18 +90,16 @@ pub fn link<D: Pm>(
     ensures faults { (D.state device.old).faults ≤ (D.state device.new).faults }
     ensures failed { IsErr result → Rose (D.state device.old).faults (D.state device.new).faults }
 {
-    commit_field(device, g, who, direct, NEXT, slot)
+    set_field(device, g, who, direct, NEXT, slot)
 }
 
 /// Takes an indirect slot out of its chain: the next word of the slot before it becomes that of the slot itself, so
-/// that the rest of the chain follows there.
+/// that the rest of the chain follows there. The word is stored, flushed and fenced.
 ///
-/// Where the next word of the slot before it is settled before, at each moment on the way a stop leaves that word
-/// old, or leaves it new together with all that this actor had flushed before.
+/// Where the next word of the slot before it is settled before, at each moment on the way a stop leaves it old or new.
 ///
 /// # Errors
-/// `Failed` where one of the two fences failed. After the first the next word is old; after the second it is
-/// stored, and a stop may leave either.
+/// `Failed` where the fence failed. Then the next word is stored, and a stop may leave either.
 pub fn unlink<D: Pm>(
     device: &mut D,
     g: &Geometry,
@@ -117,7 +113,7 @@ pub fn unlink<D: Pm>(
     requires indirect { directs g.now ≤ slot }
     requires slot { slot < slots g.now }
     requires room { LINK_UNITS ≤ (D.state device.old).spare }
-    ensures any_moment { IsSettled (D.state device.old) (slot_word g.now before 5) → LeavesOnly (D.state device.old) (D.state device.new) (IsCommitted who (slot_word g.now before 5) (slice_index (D.state device.old).now (slot_word g.now slot 5)) (D.state device.old)) }
+    ensures any_moment { IsSettled (D.state device.old) (slot_word g.now before 5) → LeavesOnly (D.state device.old) (D.state device.new) (LeavesOneWord (slot_word g.now before 5) (slice_index (D.state device.old).now (slot_word g.now slot 5)) (D.state device.old)) }
     ensures done { OnOk result (IsDone who (slot_word g.now before 5) (slice_index (D.state device.old).now (slot_word g.now slot 5)) (D.state device.old) (D.state device.new)) }
     ensures only { StoresOnly (λ a. a ≡ slot_word g.now before 5) (D.state device.old) (D.state device.new) }
     ensures others { KeepsFlushed (Others who) (λ a. a ≡ slot_word g.now before 5) (D.state device.old) (D.state device.new) }
@@ -126,7 +122,7 @@ pub fn unlink<D: Pm>(
     ensures failed { IsErr result → Rose (D.state device.old).faults (D.state device.new).faults }
 {
     let next = load_field(device, g, slot, NEXT);
-    commit_field(device, g, who, before, NEXT, next)
+    set_field(device, g, who, before, NEXT, next)
 }
 
 #[cfg(test)]

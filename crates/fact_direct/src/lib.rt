@@ -7,7 +7,7 @@
 ghost use Rattle.std.specs.Prelude.{◌≡◌, ◌+◌, ◌*◌, ◌<◌, ◌≤◌, length, OnOk, IsErr};
 ghost use Rattle.pm_device.specs.State.{Rose};
 ghost use Rattle.pm_device.specs.Settled.{IsSettled, LeavesOnly, StoresOnly, KeepsFlushed, Others};
-ghost use Rattle.pm_device.specs.Commit.{IsCommitted, IsDone};
+ghost use Rattle.pm_device.specs.Commit.{IsDone, LeavesOneWord};
 ghost use Rattle.pm_device.specs.Lines.{StoresRun};
 ghost use Rattle.pm_layout.specs.Geometry.{IsAccepted, slot_word, directs};
 ghost use Rattle.fingerprint.specs.Slot.{IsSlot, IsReadFrom, IsTheSlotOf};
@@ -15,7 +15,7 @@ ghost use Rattle.fact_slot.specs.Words.{words_of};
 ghost use Rattle.fact_direct.specs.Filled.{words_but_page};
 
 use fact_slot::slot::PAGE;
-use fact_slot::{Steps, commit_field, read_slot, store_fields};
+use fact_slot::{Steps, read_slot, set_field, store_fields};
 use fingerprint::FactSlot;
 use pm_device::{Failed, Pm};
 use pm_layout::Geometry;
@@ -25,7 +25,7 @@ use std::sync::ledger::Ledger;
 pub const FILL_UNITS: u64 = 9;
 
 /// The units of the device that `open_direct` and `close_direct` use, each.
-pub const GATE_UNITS: u64 = 4;
+pub const GATE_UNITS: u64 = 3;
 
 /// What a direct slot holds. It is one step. The slot has no row where the page is 0.
 pub fn read_direct<D: Pm, L: Ledger>(
@@ -62,15 +62,13 @@ pub fn fill_direct<D: Pm>(device: &mut D, g: &Geometry, who: u32, slot: u64, row
     store_fields(device, g, who, slot, 1, &row.words()[1..]);
 }
 
-/// Opens a filled slot by its page word: from then on it has a row. All that this actor flushed before, as the fill
-/// and the page's pointer, is fenced first, and the page word is flushed and fenced.
+/// Opens a filled slot by its page word: from then on it has a row. The page word is stored, flushed and fenced. The fill
+/// and the page's pointer are fenced before.
 ///
-/// Where the page word is settled before, at each moment on the way a stop leaves it old, or leaves it new together
-/// with all that this actor had flushed before.
+/// Where the page word is settled before, at each moment on the way a stop leaves it old or new.
 ///
 /// # Errors
-/// `Failed` where one of the two fences failed. After the first the page word is old; after the second it is
-/// stored, and a stop may leave either.
+/// `Failed` where the fence failed. Then the page word is stored, and a stop may leave either.
 pub fn open_direct<D: Pm>(
     device: &mut D,
     g: &Geometry,
@@ -83,7 +81,7 @@ pub fn open_direct<D: Pm>(
     requires slot { slot < directs g.now }
     requires page { page < g.now.pages }
     requires room { GATE_UNITS ≤ (D.state device.old).spare }
-    ensures any_moment { IsSettled (D.state device.old) (slot_word g.now slot 0) → LeavesOnly (D.state device.old) (D.state device.new) (IsCommitted who (slot_word g.now slot 0) page (D.state device.old)) }
+    ensures any_moment { IsSettled (D.state device.old) (slot_word g.now slot 0) → LeavesOnly (D.state device.old) (D.state device.new) (LeavesOneWord (slot_word g.now slot 0) page (D.state device.old)) }
     ensures done { OnOk result (IsDone who (slot_word g.now slot 0) page (D.state device.old) (D.state device.new)) }
     ensures only { StoresOnly (λ a. a ≡ slot_word g.now slot 0) (D.state device.old) (D.state device.new) }
     ensures others { KeepsFlushed (Others who) (λ a. a ≡ slot_word g.now slot 0) (D.state device.old) (D.state device.new) }
@@ -91,24 +89,22 @@ pub fn open_direct<D: Pm>(
     ensures faults { (D.state device.old).faults ≤ (D.state device.new).faults }
     ensures failed { IsErr result → Rose (D.state device.old).faults (D.state device.new).faults }
 {
-    commit_field(device, g, who, slot, PAGE, page)
+    set_field(device, g, who, slot, PAGE, page)
 }
 
-/// Closes a slot by a page word of 0: from then on it has no row. The next word stays, and so do the rows that are
-/// chained behind the slot.
+/// Closes a slot by a page word of 0: from then on it has no row. The word is stored, flushed and fenced. The next word
+/// stays, and so do the rows that are chained behind the slot.
 ///
-/// Where the page word is settled before, at each moment on the way a stop leaves it old, or leaves it 0 together
-/// with all that this actor had flushed before.
+/// Where the page word is settled before, at each moment on the way a stop leaves it old, or leaves it 0.
 ///
 /// # Errors
-/// `Failed` where one of the two fences failed. After the first the page word is old; after the second it is
-/// stored, and a stop may leave either.
+/// `Failed` where the fence failed. Then the page word is stored, and a stop may leave either.
 pub fn close_direct<D: Pm>(device: &mut D, g: &Geometry, who: u32, slot: u64) -> Result<(), Failed>
     requires accepted { IsAccepted g.now }
     requires size { length (D.state device.old).now ≡ 512 * g.now.pages }
     requires slot { slot < directs g.now }
     requires room { GATE_UNITS ≤ (D.state device.old).spare }
-    ensures any_moment { IsSettled (D.state device.old) (slot_word g.now slot 0) → LeavesOnly (D.state device.old) (D.state device.new) (IsCommitted who (slot_word g.now slot 0) 0 (D.state device.old)) }
+    ensures any_moment { IsSettled (D.state device.old) (slot_word g.now slot 0) → LeavesOnly (D.state device.old) (D.state device.new) (LeavesOneWord (slot_word g.now slot 0) 0 (D.state device.old)) }
     ensures done { OnOk result (IsDone who (slot_word g.now slot 0) 0 (D.state device.old) (D.state device.new)) }
     ensures only { StoresOnly (λ a. a ≡ slot_word g.now slot 0) (D.state device.old) (D.state device.new) }
     ensures others { KeepsFlushed (Others who) (λ a. a ≡ slot_word g.now slot 0) (D.state device.old) (D.state device.new) }
@@ -116,5 +112,5 @@ pub fn close_direct<D: Pm>(device: &mut D, g: &Geometry, who: u32, slot: u64) ->
     ensures faults { (D.state device.old).faults ≤ (D.state device.new).faults }
     ensures failed { IsErr result → Rose (D.state device.old).faults (D.state device.new).faults }
 {
-    commit_field(device, g, who, slot, PAGE, 0)
+    set_field(device, g, who, slot, PAGE, 0)
 }

@@ -2,7 +2,7 @@
 ghost use Rattle.std.specs.Prelude.{◌≡◌, ◌+◌, ◌*◌, ◌<◌, ◌≤◌, ℕ, length, slice_index, OnOk, IsErr};
 ghost use Rattle.pm_device.specs.State.{Rose};
 ghost use Rattle.pm_device.specs.Settled.{IsSettled, LeavesOnly, StoresOnly, KeepsFlushed, Others};
-ghost use Rattle.pm_device.specs.Commit.{IsCommitted, IsDone};
+ghost use Rattle.pm_device.specs.Commit.{IsDone, LeavesOneWord};
 ghost use Rattle.pm_device.specs.Lines.{StoresRun};
 ghost use Rattle.pm_layout.specs.Geometry.{IsAccepted, slot_word, slots};
 ghost use Rattle.fingerprint.specs.Slot.{IsSlot, IsReadFrom, IsTheSlotOf};
@@ -10,7 +10,7 @@ ghost use Rattle.fact_slot.specs.Words.{words_of};
 
 use crate::steps::Steps;
 use fingerprint::FactSlot;
-use pm_device::commit::commit;
+use pm_device::set::set_word;
 use pm_device::{Failed, Pm};
 use pm_layout::Geometry;
 use std::marker::Brand;
@@ -25,8 +25,8 @@ pub const NEXT: u64 = 5;
 /// The units of the device that `store_fields` uses.
 pub const STORE_UNITS: u64 = 9;
 
-/// The units of the device that `commit_field` uses.
-pub const COMMIT_UNITS: u64 = 4;
+/// The units of the device that `set_field` uses.
+pub const SET_UNITS: u64 = 3;
 
 /// One word of a slot: `field` is its place among the slot's eight words.
 pub fn load_field<D: Pm>(device: &D, g: &Geometry, slot: u64, field: u64) -> u64
@@ -136,16 +136,13 @@ pub fn store_fields<D: Pm>(
     device.flush(who, at / 8, 1);
 }
 
-/// Makes one word of a slot new, after all that this actor flushed before: fences, stores the word, flushes its
-/// line and fences again.
+/// Makes one word of a slot new: stores it, flushes its line and fences.
 ///
-/// Where the word is settled before, at each moment on the way a stop leaves the word old, or leaves it new together
-/// with all that this actor had flushed before.
+/// Where the word is settled before, at each moment on the way a stop leaves it old or new.
 ///
 /// # Errors
-/// `Failed` where one of the two fences failed. After the first the word is old; after the second it is stored, and
-/// a stop may leave either.
-pub fn commit_field<D: Pm>(
+/// `Failed` where the fence failed. Then the word is stored, and a stop may leave either.
+pub fn set_field<D: Pm>(
     device: &mut D,
     g: &Geometry,
     who: u32,
@@ -157,14 +154,14 @@ pub fn commit_field<D: Pm>(
     requires size { length (D.state device.old).now ≡ 512 * g.now.pages }
     requires slot { slot < slots g.now }
     requires field { field < 8 }
-    requires room { COMMIT_UNITS ≤ (D.state device.old).spare }
-    ensures any_moment { IsSettled (D.state device.old) (slot_word g.now slot field) → LeavesOnly (D.state device.old) (D.state device.new) (IsCommitted who (slot_word g.now slot field) value (D.state device.old)) }
+    requires room { SET_UNITS ≤ (D.state device.old).spare }
+    ensures any_moment { IsSettled (D.state device.old) (slot_word g.now slot field) → LeavesOnly (D.state device.old) (D.state device.new) (LeavesOneWord (slot_word g.now slot field) value (D.state device.old)) }
     ensures done { OnOk result (IsDone who (slot_word g.now slot field) value (D.state device.old) (D.state device.new)) }
     ensures only { StoresOnly (λ a. a ≡ slot_word g.now slot field) (D.state device.old) (D.state device.new) }
     ensures others { KeepsFlushed (Others who) (λ a. a ≡ slot_word g.now slot field) (D.state device.old) (D.state device.new) }
-    ensures spare { (D.state device.old).spare ≤ (D.state device.new).spare + COMMIT_UNITS }
+    ensures spare { (D.state device.old).spare ≤ (D.state device.new).spare + SET_UNITS }
     ensures faults { (D.state device.old).faults ≤ (D.state device.new).faults }
     ensures failed { IsErr result → Rose (D.state device.old).faults (D.state device.new).faults }
 {
-    commit(device, who, g.slot_word(slot, field), value)
+    set_word(device, who, g.slot_word(slot, field), value)
 }
