@@ -141,8 +141,7 @@ module _ (d e : Disk) (was : Clears d e) where
 pub clears_none : (d : Disk) → Clears d d
 clears_none d = record { same = refl; rows_same = refl; pointers = λ q. inl refl }
 
--- The pages below p were looked at: what the words hold, whatever is settled, and what stands and images have, where
--- the table of before stood.
+-- the pages below p were looked at; what stands and what images have is told where the table of before stood
 pub record IsClearedFront (d : Disk) (who p : ℕ) (t : Table) (s0 s : State) : Type 0 where
   pub disk : Disk
   pub clears : Clears d disk
