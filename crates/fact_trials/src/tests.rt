@@ -167,7 +167,11 @@ fn may_by(row: &Row, call: &TableCall) -> bool
         TableCall::Raise { slot } => row.slot == *slot && uc < u32::MAX,
         TableCall::SettleUp { slot } => row.slot == *slot && uc >= 1 && rfc < u32::MAX,
         TableCall::SettleDown { slot } => row.slot == *slot && uc >= 1 && rfc >= 1,
-        TableCall::Recount { slot, .. } => row.slot == *slot,
+        TableCall::Recount { slot, rfc } => {
+            // each count fits
+            let _count = *rfc;
+            row.slot == *slot
+        }
         TableCall::RemoveZero { slot } => row.slot == *slot && rfc == 0 && uc == 0,
         _ => false,
     }
@@ -190,10 +194,10 @@ fn may_insert<D: Pm>(fact: &Fact, device: &D, print: &[u8; 20], page: u64) -> bo
     ensures { IsTrue result → CanCall (D.state device.now).now fact.now (TableCall.Insert print.now page) }
 {
     let g = fact.geometry();
-    page >= g.first_data()
-        && page < g.pages
-        && find(fact, device, print).is_none()
-        && fact.by_page(device, page).is_none()
+    if page < g.first_data() || page >= g.pages || find(fact, device, print).is_some() {
+        return false;
+    }
+    fact.by_page(device, page).is_none()
 }
 
 // Whether a call may be made.
@@ -369,8 +373,16 @@ fn counts_change_at_every_moment(rt: HostRuntime) -> Result<(), Fail> {
 fn rows_go_at_every_moment(rt: HostRuntime) -> Result<(), Fail> {
     let cases: [Case; 4] = [
         (&ZEROS, TableCall::RemoveZero { slot: 0 }, &[ZERO_2, ZERO_3]),
-        (&ZEROS, TableCall::RemoveZero { slot: 65 }, &[ZERO_1, ZERO_2]),
-        (&ZEROS, TableCall::RemoveZero { slot: 64 }, &[ZERO_1, ZERO_3]),
+        (
+            &ZEROS,
+            TableCall::RemoveZero { slot: 65 },
+            &[ZERO_1, ZERO_2],
+        ),
+        (
+            &ZEROS,
+            TableCall::RemoveZero { slot: 64 },
+            &[ZERO_1, ZERO_3],
+        ),
         (&CHAIN, TableCall::ClearStale, &CHAIN),
     ];
     try_cases(&rt, rt.alloc(), &cases)
