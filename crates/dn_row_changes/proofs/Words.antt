@@ -11,7 +11,7 @@ use Rattle.pm_device.specs.Pages.{HoldsRun, SaysRun}
 use Rattle.pm_device.specs.Lines.{StoresRun}
 use Rattle.pm_device.specs.Commit.{IsCommitted, IsDone, LeavesOneWord}
 use Rattle.pm_device.proofs.OneWord.{reads_old_or_new, stands_new, stands-stores}
-use Rattle.pm_device.proofs.Layers.{leaves_only-stores, ready-weaken, stands_is_ready, run_is_ready}
+use Rattle.pm_device.proofs.Layers.{leaves_only-stores, ready-weaken, stands_is_ready, run_is_ready, stands-weaken}
 use Rattle.dn_model.specs.Disk.{Disk, TableSays}
 use Rattle.dn_row_changes.specs.Words.{HoldsTable, IsOneTableWord, IsUntold}
 
@@ -96,11 +96,16 @@ held_run_ready = run_is_ready
 pub stored_run_ready : (who first : ℕ) (values : List ℕ) (s t : State) → first + length values ≤ length s.now → StoresRun who first values s t → IsReady who (SaysRun first values) t
 stored_run_ready who first values s t inside stores = run_is_ready who first values t (omega (arith, stores.only.words, inside)) (record { reads = stores.reads; flushed = stores.flushed })
 
+-- the front of a run
+front_said : (first : ℕ) (values more : List ℕ) (a v : ℕ) → SaysRun first values a v → SaysRun first (values ++ more) a v
+front_said first values more a v said =
+    let long = length-append values more in ((said.0.0, omega (arith, said.0.1)), said.1 ∙ sym (get_or_append_left values more 0 (a - first) (omega (arith, said.0.0, said.0.1))))
+
 pub front_ready : (who first : ℕ) (values more : List ℕ) (s : State) → IsReady who (SaysRun first (values ++ more)) s → IsReady who (SaysRun first values) s
-front_ready who first values more s ready = ready-weaken who s (SaysRun first (values ++ more)) (SaysRun first values) front ready
-  where
-    front : (a v : ℕ) → SaysRun first values a v → SaysRun first (values ++ more) a v
-    front a v said = let long = length-append values more in ((said.0.0, omega (arith, said.0.1)), said.1 ∙ sym (get_or_append_left values more 0 (a - first) (omega (arith, said.0.0, said.0.1))))
+front_ready who first values more s ready = ready-weaken who s (SaysRun first (values ++ more)) (SaysRun first values) (front_said first values more) ready
+
+pub front_stands : (first : ℕ) (values more : List ℕ) (s : State) → Stands (SaysRun first (values ++ more)) s → Stands (SaysRun first values) s
+front_stands first values more s stands = stands-weaken s (SaysRun first (values ++ more)) (SaysRun first values) (front_said first values more) stands
 
 pub ready_through : (who q first : ℕ) (values : List ℕ) (at value : ℕ) (s t : State) → IsReady who (SaysRun first values) s → (IsIn first (length values) at → ⊥)
     → IsDone who at value s t → StoresOnly (λ a. a ≡ at) s t → IsReady q (SaysRun first values) t

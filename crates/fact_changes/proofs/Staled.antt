@@ -5,7 +5,7 @@ use Rattle.std.proofs.lemmas.Bool.{cases_eq, false≢true}
 use Rattle.pm_device.specs.State.{State, Agree}
 use Rattle.pm_device.specs.Settled.{IsSettled, LeavesOnly, StoresOnly, KeepsFlushed, Others}
 use Rattle.pm_device.specs.Reading.{Stands}
-use Rattle.pm_device.specs.Commit.{IsDone}
+use Rattle.pm_device.specs.Commit.{IsDone, LeavesOneWord}
 use Rattle.pm_device.proofs.Layers.{leaves_only-then}
 use Rattle.pm_device.proofs.Moments.{leaves_only-weaken}
 use Rattle.pm_device.proofs.Only.{stores_only-none, stores_only-then, stores_only-weaken}
@@ -15,8 +15,8 @@ use Rattle.pm_layout.specs.Geometry.{pointer_word, directs}
 use Rattle.dn_model.specs.Table.{Row}
 use Rattle.dn_model.specs.Disk.{Disk, TableSays, rows}
 use Rattle.dn_row_changes.specs.Changes.{with_table, repointed}
-use Rattle.dn_row_changes.specs.Words.{HoldsTable, IsOneTableWord, LeavesOneWord}
-use Rattle.dn_row_changes.proofs.Words.{word_settled, word_any_order, word_stands, word_reads, nothing_ready, untold_images}
+use Rattle.dn_row_changes.specs.Words.{HoldsTable, IsOneTableWord}
+use Rattle.dn_row_changes.proofs.Words.{word_settled, word_any_order, word_stands, word_reads, nothing_ready, nothing_stands, untold_images}
 use Rattle.dn_row_changes.proofs.Pointed.{rows_repointed, pointer_decides, stale_may_clear}
 use Rattle.dn_row_changes.proofs.Rows.{same_test, other_test}
 use Rattle.fact_table.specs.Table.{Table, IsTable, HasNoneOf, IsOfPage}
@@ -83,7 +83,7 @@ module _ (d : Disk) (s : State) (t : Table) (is : IsTable d s.now t) (page : ℕ
 
     pub stale_images : (u : State) → (IsSettled s (pointer_word k page) → LeavesOnly s u (LeavesOneWord (pointer_word k page) 0 s)) → Stands (TableSays d) s → LeavesOnly s u (HasPage d page)
     stale_images u leaves stands = leaves_only-weaken s u _ _ (λ c. ⊎_elim (λ old. inl old) (λ after. inr (stale, after)))
-        (word_any_order d new 0 (pointer_word d.geometry page) 0 one s u stands
+        (word_any_order d new 0 [] (pointer_word d.geometry page) 0 one s u stands (nothing_stands 0 s)
         (subst (λ (g : Geometry). LeavesOnly s u (LeavesOneWord (pointer_word g page) 0 s)) (sym here) (leaves (pointer_settled stands))))
 
     module _ (who : ℕ) (u : State) (only : StoresOnly (λ a. a ≡ pointer_word k page) s u) (done : IsDone who (pointer_word k page) 0 s u) where

@@ -5,7 +5,7 @@ use Rattle.pm_device.specs.State.{State}
 use Rattle.pm_device.specs.Settled.{IsSettled, LeavesOnly, StoresOnly}
 use Rattle.pm_device.specs.Pages.{SaysRun}
 use Rattle.pm_device.specs.Reading.{Reads}
-use Rattle.pm_device.specs.Commit.{IsCommitted, IsDone}
+use Rattle.pm_device.specs.Commit.{IsDone, LeavesOneWord}
 use Rattle.pm_layout.specs.declared.Geometry.{Geometry}
 use Rattle.pm_layout.specs.Geometry.{IsAccepted, slot_word, directs, slots}
 use Rattle.fingerprint.specs.Count.{count_word}
@@ -20,7 +20,7 @@ use Rattle.dn_row_changes.proofs.Counted.{count_word_decides, recounts_rows}
 use Rattle.dn_row_changes.proofs.Rows.{at_listed}
 use Rattle.dn_row_changes.proofs.Slots.{field_said}
 use Rattle.dn_row_changes.proofs.TableRows.{of_chain, row_slot_small}
-use Rattle.dn_row_changes.proofs.Words.{word_settled, word_images, word_stands, word_reads, nothing_ready}
+use Rattle.dn_row_changes.proofs.Words.{word_settled, word_any_order, word_stands, word_reads, nothing_ready, nothing_stands}
 use Rattle.fact_table.specs.Table.{Table, IsTable, IsSettledTable, IsAtSlot, HasRow, HasNoneAt}
 use Rattle.fact_counts.specs.Standing.{HasRowWith}
 use Rattle.fact_counts.specs.Counted.{LeavesTables, MakesTable, SettlesTable, CountsAre, AnyRow}
@@ -106,8 +106,8 @@ module _ (t : Table) (slot who : ℕ) (counts : CountWord) (s u : State) (k : Ge
   abbrev value : ℕ
   value = count_word counts.rfc counts.uc
 
-  abbrev Committed : Type 0
-  Committed = IsSettled s (slot_word k slot 4) → LeavesOnly s u (IsCommitted who (slot_word k slot 4) w s)
+  abbrev SetWord : Type 0
+  SetWord = IsSettled s (slot_word k slot 4) → LeavesOnly s u (LeavesOneWord (slot_word k slot 4) w s)
 
   abbrev Done : Type 0
   Done = IsDone who (slot_word k slot 4) w s u
@@ -115,9 +115,9 @@ module _ (t : Table) (slot who : ℕ) (counts : CountWord) (s u : State) (k : Ge
   abbrev Only : Type 0
   Only = StoresOnly (λ a. a ≡ slot_word k slot 4) s u
 
-  committed_here : Committed → IsSettled s place → LeavesOnly s u (IsCommitted who place value s)
-  committed_here leaves = subst (λ (x : ℕ). IsSettled s place → LeavesOnly s u (IsCommitted who place x s)) is
-      (subst (λ (g : Geometry). IsSettled s (slot_word g slot 4) → LeavesOnly s u (IsCommitted who (slot_word g slot 4) w s)) same leaves)
+  set_here : SetWord → IsSettled s place → LeavesOnly s u (LeavesOneWord place value s)
+  set_here leaves = subst (λ (x : ℕ). IsSettled s place → LeavesOnly s u (LeavesOneWord place x s)) is
+      (subst (λ (g : Geometry). IsSettled s (slot_word g slot 4) → LeavesOnly s u (LeavesOneWord (slot_word g slot 4) w s)) same leaves)
 
   done_here : Done → IsDone who place value s u
   done_here done = subst (λ (x : ℕ). IsDone who place x s u) is (subst (λ (g : Geometry). IsDone who (slot_word g slot 4) w s u) same done)
@@ -145,11 +145,11 @@ module _ (t : Table) (slot who : ℕ) (counts : CountWord) (s u : State) (k : Ge
     table_after only done = recounted_table d s.now t table slot row at_slot counts.rfc counts.uc rfc_fits uc_fits u.now only.words
         (word_reads d new 0 [] place value decides s u table.says nothing_read (moved done) (only_here only))
 
-  pub set_images : Committed → LeavesTables (λ row. counts) t slot s u
+  pub set_images : SetWord → LeavesTables (λ row. counts) t slot s u
   set_images leaves d row settled at_slot =
       let one = decides d row settled.table at_slot in
-      word_images d (new d row settled.table at_slot) 0 [] place value one who s u settled.stands (nothing_ready who 0 s)
-      (committed_here leaves (word_settled d (new d row settled.table at_slot) 0 [] place value one s settled.stands))
+      word_any_order d (new d row settled.table at_slot) 0 [] place value one s u settled.stands (nothing_stands 0 s)
+      (set_here leaves (word_settled d (new d row settled.table at_slot) 0 [] place value one s settled.stands))
 
   pub set_table : Only → Done → MakesTable (λ row. counts) t slot s u
   set_table only done d row table at_slot = table_after d row table at_slot only done

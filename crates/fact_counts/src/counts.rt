@@ -6,7 +6,7 @@ ghost use Rattle.pm_layout.specs.Geometry.{slot_word};
 ghost use Rattle.fact_counts.specs.Standing.{HasRowWith};
 ghost use Rattle.fact_counts.specs.Counted.{raised, up, down, counted, MayRaise, MaySettleUp, MaySettleDown, AnyRow, CountsAre, MakesTable, SettlesTable, LeavesTables};
 
-use fact_slot::{commit_field, load_field};
+use fact_slot::{load_field, set_field};
 use fact_table::Fact;
 use fingerprint::CountWord;
 use pm_device::{Failed, Pm};
@@ -15,7 +15,7 @@ use pm_device::{Failed, Pm};
 const COUNT: u64 = 4;
 
 /// The units of the device that each change of counts uses.
-pub const COUNT_UNITS: u64 = 4;
+pub const COUNT_UNITS: u64 = 3;
 
 // The counts of the row at a slot.
 fn counts_at<D: Pm>(fact: &Fact, device: &D, slot: u64) -> CountWord
@@ -46,17 +46,16 @@ fn set_counts<D: Pm>(
     ensures faults { (D.state device.old).faults ≤ (D.state device.new).faults }
     ensures failed { IsErr result → Rose (D.state device.old).faults (D.state device.new).faults }
 {
-    commit_field(device, &fact.geometry(), who, slot, COUNT, counts.word())
+    set_field(device, &fact.geometry(), who, slot, COUNT, counts.word())
 }
 
 /// One update more of the row at a slot is under way.
 ///
-/// One word of the table is fenced, stored, flushed and fenced. Where the table is settled before, at each moment a stop
+/// One word of the table is stored, flushed and fenced. Where the table is settled before, at each moment a stop
 /// leaves the counts of before or those of after.
 ///
 /// # Errors
-/// `Failed` where one of the two fences failed. After the first the counts are those of before; after the second
-/// the new ones are stored, and a stop may leave either.
+/// `Failed` where the fence failed. Then the new counts are stored, and a stop may leave either.
 pub fn raise<D: Pm>(fact: &Fact, device: &mut D, who: u32, slot: u64) -> Result<(), Failed>
     requires row { HasRowWith (D.state device.old).now fact.now slot MayRaise }
     requires room { COUNT_UNITS ≤ (D.state device.old).spare }
@@ -75,12 +74,11 @@ pub fn raise<D: Pm>(fact: &Fact, device: &mut D, who: u32, slot: u64) -> Result<
 
 /// An update of the row at a slot is made, which adds a reference to its page.
 ///
-/// One word of the table is fenced, stored, flushed and fenced. Where the table is settled before, at each moment a stop
+/// One word of the table is stored, flushed and fenced. Where the table is settled before, at each moment a stop
 /// leaves the counts of before or those of after.
 ///
 /// # Errors
-/// `Failed` where one of the two fences failed. After the first the counts are those of before; after the second
-/// the new ones are stored, and a stop may leave either.
+/// `Failed` where the fence failed. Then the new counts are stored, and a stop may leave either.
 pub fn settle_up<D: Pm>(fact: &Fact, device: &mut D, who: u32, slot: u64) -> Result<(), Failed>
     requires row { HasRowWith (D.state device.old).now fact.now slot MaySettleUp }
     requires room { COUNT_UNITS ≤ (D.state device.old).spare }
@@ -99,12 +97,11 @@ pub fn settle_up<D: Pm>(fact: &Fact, device: &mut D, who: u32, slot: u64) -> Res
 
 /// An update of the row at a slot is made, which takes a reference to its page away.
 ///
-/// One word of the table is fenced, stored, flushed and fenced. Where the table is settled before, at each moment a stop
+/// One word of the table is stored, flushed and fenced. Where the table is settled before, at each moment a stop
 /// leaves the counts of before or those of after.
 ///
 /// # Errors
-/// `Failed` where one of the two fences failed. After the first the counts are those of before; after the second
-/// the new ones are stored, and a stop may leave either.
+/// `Failed` where the fence failed. Then the new counts are stored, and a stop may leave either.
 pub fn settle_down<D: Pm>(fact: &Fact, device: &mut D, who: u32, slot: u64) -> Result<(), Failed>
     requires row { HasRowWith (D.state device.old).now fact.now slot MaySettleDown }
     requires room { COUNT_UNITS ≤ (D.state device.old).spare }
@@ -123,12 +120,11 @@ pub fn settle_down<D: Pm>(fact: &Fact, device: &mut D, who: u32, slot: u64) -> R
 
 /// The row at a slot gets this count of references, and no update of it is under way.
 ///
-/// One word of the table is fenced, stored, flushed and fenced. Where the table is settled before, at each moment a stop
+/// One word of the table is stored, flushed and fenced. Where the table is settled before, at each moment a stop
 /// leaves the counts of before or those of after.
 ///
 /// # Errors
-/// `Failed` where one of the two fences failed. After the first the counts are those of before; after the second
-/// the new ones are stored, and a stop may leave either.
+/// `Failed` where the fence failed. Then the new counts are stored, and a stop may leave either.
 pub fn recount<D: Pm>(
     fact: &Fact,
     device: &mut D,

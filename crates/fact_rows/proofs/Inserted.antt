@@ -3,12 +3,12 @@ use Rattle.std.proofs.Common.{◌≡◌, ◌⊎◌, inl, inr, ⊎_elim, ℕ, ◌
 use Rattle.std.specs.Prelude.{slice_index}
 use Rattle.pm_device.specs.State.{State}
 use Rattle.pm_device.specs.Settled.{IsSettled, LeavesOnly, StoresOnly, KeepsFlushed, Others}
-use Rattle.pm_device.specs.Reading.{Stands, IsReady}
+use Rattle.pm_device.specs.Reading.{Stands}
 use Rattle.pm_device.specs.Words.{IsIn}
 use Rattle.pm_device.specs.Pages.{SaysRun}
 use Rattle.pm_device.specs.Lines.{StoresRun}
-use Rattle.pm_device.specs.Commit.{IsCommitted, IsDone}
-use Rattle.pm_device.proofs.Layers.{leaves_only-then}
+use Rattle.pm_device.specs.Commit.{IsDone, LeavesOneWord}
+use Rattle.pm_device.proofs.Layers.{leaves_only-then, stands_is_ready}
 use Rattle.pm_device.proofs.Moments.{leaves_only-weaken}
 use Rattle.pm_device.proofs.Only.{stores_only-then, stores_only-weaken}
 use Rattle.pm_layout.specs.declared.Geometry.{Geometry}
@@ -16,9 +16,9 @@ use Rattle.pm_layout.specs.Geometry.{IsAccepted, slot_word, pointer_word, direct
 use Rattle.dn_model.specs.Table.{Row, first_slot, chained, at_direct_next}
 use Rattle.dn_model.specs.Disk.{Disk, TableSays}
 use Rattle.dn_row_changes.specs.Changes.{repointed}
-use Rattle.dn_row_changes.specs.Words.{HoldsTable, IsOneTableWord, IsUntold, LeavesOneWord}
+use Rattle.dn_row_changes.specs.Words.{HoldsTable, IsOneTableWord, IsUntold}
 use Rattle.dn_row_changes.specs.Rows.{MayPoint, opened_words, linked_words}
-use Rattle.dn_row_changes.proofs.Words.{word_settled, word_images, word_any_order, word_stands, word_reads, stored_run_ready, front_ready, ready_through, nothing_ready, untold_reads, untold_stands, untold_images}
+use Rattle.dn_row_changes.proofs.Words.{word_settled, word_any_order, word_stands, word_reads, stored_run_ready, front_stands, stands_through, nothing_ready, nothing_stands, untold_reads, untold_stands, untold_images}
 use Rattle.dn_row_changes.proofs.Pointed.{pointer_decides, fresh_may_point, pointed_may_put}
 use Rattle.dn_row_changes.proofs.Unused.{indirect_untold, closed_untold}
 use Rattle.dn_row_changes.proofs.Opened.{opening_decides}
@@ -26,7 +26,7 @@ use Rattle.dn_row_changes.proofs.Linked.{link_decides}
 use Rattle.dn_row_changes.proofs.TableRows.{prefix_small}
 use Rattle.dn_row_changes.proofs.Slots.{pointer_above}
 use Rattle.fact_rows.specs.Put.{new_row, pointed, opened_with, linked_with, MayPutAt, HoldsOneOf, IsPutWord, KeepsOthers}
-use Rattle.fact_rows.proofs.Pointed.{done_value}
+use Rattle.pm_device.proofs.SetWord.{done_value}
 
 -- Values are stored to words of a slot, and then a page's pointer is made to lead to it.
 pub record Filled (g : Geometry) (who slot from page : ℕ) (values : List ℕ) (s0 s1 s2 : State) : Type 0 where
@@ -35,9 +35,9 @@ pub record Filled (g : Geometry) (who slot from page : ℕ) (values : List ℕ) 
   pub leaves : IsSettled s1 (pointer_word g page) → LeavesOnly s1 s2 (LeavesOneWord (pointer_word g page) (slot + 1) s1)
   pub only : StoresOnly (λ a. a ≡ pointer_word g page) s1 s2
 
--- Then one word of a direct slot is committed.
+-- Then one word of a direct slot is set.
 pub record Decided (g : Geometry) (who direct field value : ℕ) (s2 s3 : State) : Type 0 where
-  pub leaves : IsSettled s2 (slot_word g direct field) → LeavesOnly s2 s3 (IsCommitted who (slot_word g direct field) value s2)
+  pub leaves : IsSettled s2 (slot_word g direct field) → LeavesOnly s2 s3 (LeavesOneWord (slot_word g direct field) value s2)
   pub only : StoresOnly (λ a. a ≡ slot_word g direct field) s2 s3
 
 -- a stage: words of which the table says nothing are filled, and the pointer follows
@@ -72,7 +72,7 @@ module _ (d : Disk) (who slot from page : ℕ) (values : List ℕ) (s0 s1 s2 : S
     images2 =
         let filled = untold_images d first (length values) untold s0 s1 is.fill.only stands in
         let still = word_settled d middle 0 [] at (slot + 1) one s1 stands1 in
-        leaves_only-then s0 s1 s2 _ (leaves_only-weaken s0 s1 _ _ (λ c here. inl here) filled) (word_any_order d middle 0 at (slot + 1) one s1 s2 stands1 (is.leaves still))
+        leaves_only-then s0 s1 s2 _ (leaves_only-weaken s0 s1 _ _ (λ c here. inl here) filled) (word_any_order d middle 0 [] at (slot + 1) one s1 s2 stands1 (nothing_stands 0 s1) (is.leaves still))
 
   module _ (done : IsDone who at (slot + 1) s1 s2) where
     holds2 : HoldsTable s0.now d → HoldsTable s2.now middle
@@ -82,23 +82,23 @@ module _ (d : Disk) (who slot from page : ℕ) (values : List ℕ) (s0 s1 s2 : S
     stands2 : Stands (TableSays d) s0 → Stands (TableSays middle) s2
     stands2 stands = word_stands d middle 0 [] at (slot + 1) one who s1 s2 long1 (stands1 stands) (nothing_ready who 0 s1) done is.only
 
-    pub ready2 : IsReady who (SaysRun first values) s2
-    ready2 = ready_through who who first values at (slot + 1) s1 s2 (stored_run_ready who first values s0 s1 (omega (arith, one.inside, before, is.size)) is.fill) (λ h. omega (arith, h.1, before)) done is.only
+    pub filled2 : Stands (SaysRun first values) s2
+    filled2 = stands_through who first values at (slot + 1) s1 s2 (stored_run_ready who first values s0 s1 (omega (arith, one.inside, before, is.size)) is.fill) (λ h. omega (arith, h.1, before)) done is.only
 
     -- and one word decides
-    module _ (e : Disk) (fresh : List ℕ) (gate value : ℕ) (deciding : IsOneTableWord middle e first fresh gate value) (ready : IsReady who (SaysRun first fresh) s2) (s3 : State) (only3 : StoresOnly (λ a. a ≡ gate) s2 s3) where
-      pub images3 : Stands (TableSays d) s0 → (IsSettled s2 gate → LeavesOnly s2 s3 (IsCommitted who gate value s2)) → LeavesOnly s0 s3 (λ c. HoldsOneOf c d middle e)
+    module _ (e : Disk) (fresh : List ℕ) (gate value : ℕ) (deciding : IsOneTableWord middle e first fresh gate value) (filled : Stands (SaysRun first fresh) s2) (s3 : State) (only3 : StoresOnly (λ a. a ≡ gate) s2 s3) where
+      pub images3 : Stands (TableSays d) s0 → (IsSettled s2 gate → LeavesOnly s2 s3 (LeavesOneWord gate value s2)) → LeavesOnly s0 s3 (λ c. HoldsOneOf c d middle e)
       images3 stands leaves =
           let still = word_settled middle e first fresh gate value deciding s2 (stands2 stands) in
-          let last = word_images middle e first fresh gate value deciding who s2 s3 (stands2 stands) ready (leaves still) in
+          let last = word_any_order middle e first fresh gate value deciding s2 s3 (stands2 stands) filled (leaves still) in
           leaves_only-then s0 s2 s3 _ (leaves_only-weaken s0 s2 _ _ (λ c. ⊎_elim (λ old. inl old) (λ mid. inr (inl mid))) (images2 stands)) (leaves_only-weaken s2 s3 _ _ (λ c both. inr both) last)
 
       module _ (last : IsDone who gate value s2 s3) where
         pub holds3 : HoldsTable s0.now d → HoldsTable s3.now e
-        holds3 holds = word_reads middle e first fresh gate value deciding s2 s3 (holds2 holds) ready.reads (done_value who gate value s2 s3 (omega (arith, deciding.inside, long2)) last) only3
+        holds3 holds = word_reads middle e first fresh gate value deciding s2 s3 (holds2 holds) filled.reads (done_value who gate value s2 s3 (omega (arith, deciding.inside, long2)) last) only3
 
         pub stands3 : Stands (TableSays d) s0 → Stands (TableSays e) s3
-        stands3 stands = word_stands middle e first fresh gate value deciding who s2 s3 long2 (stands2 stands) ready last only3
+        stands3 stands = word_stands middle e first fresh gate value deciding who s2 s3 long2 (stands2 stands) (stands_is_ready who s2 (SaysRun first fresh) filled) last only3
 
 -- where a row may be put
 module _ (g : Geometry) (prefix slot page : ℕ) (print words : List ℕ) (d : Disk) (may : MayPutAt d words g prefix slot print page) where
@@ -150,12 +150,12 @@ module _ (g : Geometry) (accepted : IsAccepted g) (who direct page : ℕ) (print
     decided_here : Decided d.geometry who direct 0 page s2 s3
     decided_here = subst (λ (k : Geometry). Decided k who direct 0 page s2 s3) (sym may.geometry) decided
 
-    ready : IsReady who (SaysRun (slot_word d.geometry direct 1) (opened_words row)) s2
-    ready = ready2 d who direct 1 page (opened_words row) s0 s1 s2 leads direct_small (omega arith) untold here led_here
+    filled_row : Stands (SaysRun (slot_word d.geometry direct 1) (opened_words row)) s2
+    filled_row = filled2 d who direct 1 page (opened_words row) s0 s1 s2 leads direct_small (omega arith) untold here led_here
 
     pub open_images : Stands (TableSays d) s0 → LeavesOnly s0 s3 (λ c. HoldsOneOf c d (pointed d row) opened_disk)
     open_images stands = images3 d who direct 1 page (opened_words row) s0 s1 s2 leads direct_small (omega arith) untold here led_here opened_disk (opened_words row)
-        (slot_word d.geometry direct 0) page deciding ready s3 decided_here.only stands decided_here.leaves
+        (slot_word d.geometry direct 0) page deciding filled_row s3 decided_here.only stands decided_here.leaves
 
     module _ (done : IsDone who (slot_word g direct 0) page s2 s3) where
       done_here : IsDone who (slot_word d.geometry direct 0) page s2 s3
@@ -163,11 +163,11 @@ module _ (g : Geometry) (accepted : IsAccepted g) (who direct page : ℕ) (print
 
       pub open_holds : HoldsTable s3.now opened_disk
       open_holds = holds3 d who direct 1 page (opened_words row) s0 s1 s2 leads direct_small (omega arith) untold here led_here opened_disk (opened_words row)
-          (slot_word d.geometry direct 0) page deciding ready s3 decided_here.only done_here may.holds
+          (slot_word d.geometry direct 0) page deciding filled_row s3 decided_here.only done_here may.holds
 
       pub open_stands : Stands (TableSays d) s0 → Stands (TableSays opened_disk) s3
       open_stands = stands3 d who direct 1 page (opened_words row) s0 s1 s2 leads direct_small (omega arith) untold here led_here opened_disk (opened_words row)
-          (slot_word d.geometry direct 0) page deciding ready s3 decided_here.only done_here
+          (slot_word d.geometry direct 0) page deciding filled_row s3 decided_here.only done_here
 
 -- behind a direct slot, whose next word was this
 module _ (g : Geometry) (accepted : IsAccepted g) (who direct slot page : ℕ) (print : List ℕ) (next : ℕ) (s0 s1 s2 : State) (indirect : directs g ≤ slot) (in_slots : slot < slots g)
@@ -222,13 +222,13 @@ module _ (g : Geometry) (accepted : IsAccepted g) (who direct slot page : ℕ) (
     link_decided : Decided d.geometry who direct 5 slot s2 s3
     link_decided = subst (λ (k : Geometry). Decided k who direct 5 slot s2 s3) (sym may.geometry) decided
 
-    row_ready : IsReady who (SaysRun (slot_word d.geometry slot 0) (linked_words chained_row next)) s2
-    row_ready = front_ready who (slot_word d.geometry slot 0) (linked_words chained_row next) (0 ∷ 0 ∷ []) s2
-        (ready2 d who slot 0 page values s0 s1 s2 row_leads slot_lt (omega arith) slot_untold filled_here row_led)
+    filled_slot : Stands (SaysRun (slot_word d.geometry slot 0) (linked_words chained_row next)) s2
+    filled_slot = front_stands (slot_word d.geometry slot 0) (linked_words chained_row next) (0 ∷ 0 ∷ []) s2
+        (filled2 d who slot 0 page values s0 s1 s2 row_leads slot_lt (omega arith) slot_untold filled_here row_led)
 
     pub link_images : Stands (TableSays d) s0 → LeavesOnly s0 s3 (λ c. HoldsOneOf c d (pointed d chained_row) linked_disk)
     link_images stands = images3 d who slot 0 page values s0 s1 s2 row_leads slot_lt (omega arith) slot_untold filled_here row_led linked_disk (linked_words chained_row next)
-        (slot_word d.geometry direct 5) slot linking row_ready s3 link_decided.only stands link_decided.leaves
+        (slot_word d.geometry direct 5) slot linking filled_slot s3 link_decided.only stands link_decided.leaves
 
     module _ (done : IsDone who (slot_word g direct 5) slot s2 s3) where
       link_done : IsDone who (slot_word d.geometry direct 5) slot s2 s3
@@ -236,11 +236,11 @@ module _ (g : Geometry) (accepted : IsAccepted g) (who direct slot page : ℕ) (
 
       pub link_holds : HoldsTable s3.now linked_disk
       link_holds = holds3 d who slot 0 page values s0 s1 s2 row_leads slot_lt (omega arith) slot_untold filled_here row_led linked_disk (linked_words chained_row next)
-          (slot_word d.geometry direct 5) slot linking row_ready s3 link_decided.only link_done may.holds
+          (slot_word d.geometry direct 5) slot linking filled_slot s3 link_decided.only link_done may.holds
 
       pub link_stands : Stands (TableSays d) s0 → Stands (TableSays linked_disk) s3
       link_stands = stands3 d who slot 0 page values s0 s1 s2 row_leads slot_lt (omega arith) slot_untold filled_here row_led linked_disk (linked_words chained_row next)
-          (slot_word d.geometry direct 5) slot linking row_ready s3 link_decided.only link_done
+          (slot_word d.geometry direct 5) slot linking filled_slot s3 link_decided.only link_done
 
 -- which words are stored to, and what others had flushed
 module _ (g : Geometry) (who slot from page gate : ℕ) (values : List ℕ) (count : from + length values ≤ 8) (s0 s1 s2 : State) (fill : StoresRun who (slot_word g slot from) values s0 s1)

@@ -1,3 +1,2 @@
-pub mod Pointed
 pub mod Inserted
 pub mod TakenOut

@@ -5,7 +5,7 @@ use Rattle.std.proofs.lemmas.Bool.{cases_eq}
 use Rattle.pm_device.specs.State.{State}
 use Rattle.pm_device.specs.Settled.{IsSettled, LeavesOnly, StoresOnly, KeepsFlushed, Others}
 use Rattle.pm_device.specs.Reading.{Stands}
-use Rattle.pm_device.specs.Commit.{IsCommitted, IsDone}
+use Rattle.pm_device.specs.Commit.{IsDone, LeavesOneWord}
 use Rattle.pm_device.proofs.Layers.{leaves_only-then}
 use Rattle.pm_device.proofs.Moments.{leaves_only-weaken}
 use Rattle.pm_device.proofs.Only.{stores_only-then, stores_only-weaken}
@@ -15,8 +15,8 @@ use Rattle.pm_layout.specs.Geometry.{slot_word, pointer_word, directs, slots}
 use Rattle.dn_model.specs.Table.{Row, RowsSay, at_next, at_later, at_row}
 use Rattle.dn_model.specs.Disk.{Disk, TableSays}
 use Rattle.dn_row_changes.specs.Changes.{removed, slot_before, slot_after}
-use Rattle.dn_row_changes.specs.Words.{HoldsTable, IsOneTableWord, LeavesOneWord}
-use Rattle.dn_row_changes.proofs.Words.{word_settled, word_images, word_any_order, word_stands, word_reads, nothing_ready}
+use Rattle.dn_row_changes.specs.Words.{HoldsTable, IsOneTableWord}
+use Rattle.dn_row_changes.proofs.Words.{word_settled, word_any_order, word_stands, word_reads, nothing_ready, nothing_stands}
 use Rattle.dn_row_changes.proofs.Pointed.{pointer_decides}
 use Rattle.dn_row_changes.proofs.Gone.{taken_may_clear, closing_decides, unlink_decides}
 use Rattle.dn_row_changes.proofs.Rows.{listed_cases}
@@ -25,12 +25,12 @@ use Rattle.dn_row_changes.proofs.TableRows.{in_table, is_row, row_slot_small}
 use Rattle.dn_row_changes.proofs.Taken.{before_owned, after_here, after_other}
 use Rattle.fact_rows.specs.Put.{HoldsOneOf}
 use Rattle.fact_rows.specs.Gone.{MayTakeOut, MayUnlink, cleared, IsGoneWord}
-use Rattle.fact_rows.proofs.Pointed.{done_value}
+use Rattle.pm_device.proofs.SetWord.{done_value}
 
--- One word is committed.
+-- One word is set.
 pub record Went (g : Geometry) (who gate value : ℕ) (s0 s1 : State) : Type 0 where
   pub size : length s0.now ≡ 512 * g.pages
-  pub leaves : IsSettled s0 gate → LeavesOnly s0 s1 (IsCommitted who gate value s0)
+  pub leaves : IsSettled s0 gate → LeavesOnly s0 s1 (LeavesOneWord gate value s0)
   pub only : StoresOnly (λ a. a ≡ gate) s0 s1
 
 -- Then a pointer is cleared.
@@ -67,7 +67,7 @@ module _ (g : Geometry) (prefix slot page : ℕ) (s0 : State) (d : Disk) (row : 
   pub gone_failed : Stands (TableSays d) s0 → LeavesOnly s0 s1 (λ c. HoldsOneOf c d middle (cleared d row))
   gone_failed stands =
       let still = word_settled d middle 0 [] gate value one s0 stands in
-      leaves_only-weaken s0 s1 _ _ (λ c. ⊎_elim (λ old. inl old) (λ mid. inr (inl mid))) (word_images d middle 0 [] gate value one who s0 s1 stands (nothing_ready who 0 s0) (went.leaves still))
+      leaves_only-weaken s0 s1 _ _ (λ c. ⊎_elim (λ old. inl old) (λ mid. inr (inl mid))) (word_any_order d middle 0 [] gate value one s0 s1 stands (nothing_stands 0 s0) (went.leaves still))
 
   module _ (done : IsDone who gate value s0 s1) (s2 : State) (clear : Cleared g page s1 s2) where
     holds1 : HoldsTable s1.now middle
@@ -80,7 +80,7 @@ module _ (g : Geometry) (prefix slot page : ℕ) (s0 : State) (d : Disk) (row : 
     gone_images stands =
         let still = word_settled middle (cleared d row) 0 [] (pointer_word g page) 0 two s1 (stands1 stands) in
         leaves_only-then s0 s1 s2 _ (gone_failed stands)
-        (leaves_only-weaken s1 s2 _ _ (λ c both. inr both) (word_any_order middle (cleared d row) 0 (pointer_word g page) 0 two s1 s2 (stands1 stands) (clear.leaves still)))
+        (leaves_only-weaken s1 s2 _ _ (λ c both. inr both) (word_any_order middle (cleared d row) 0 [] (pointer_word g page) 0 two s1 s2 (stands1 stands) (nothing_stands 0 s1) (clear.leaves still)))
 
     module _ (last : IsDone who (pointer_word g page) 0 s1 s2) where
       pub gone_holds : HoldsTable s2.now (cleared d row)

@@ -2,10 +2,10 @@
 ghost use Rattle.std.specs.Prelude.{◌≡◌, ◌+◌, ◌*◌, ◌<◌, ◌≤◌, length, OnOk, IsErr};
 ghost use Rattle.pm_device.specs.State.{Rose};
 ghost use Rattle.pm_device.specs.Settled.{IsSettled, LeavesOnly, StoresOnly, KeepsFlushed, Others};
-ghost use Rattle.pm_device.specs.Commit.{IsDone};
+ghost use Rattle.pm_device.specs.Commit.{IsDone, LeavesOneWord};
 ghost use Rattle.pm_layout.specs.Geometry.{IsAccepted, pointer_word};
-ghost use Rattle.dn_row_changes.specs.Words.{LeavesOneWord};
 
+use pm_device::set::set_word;
 use pm_device::{Failed, Pm};
 use pm_layout::Geometry;
 
@@ -38,8 +38,5 @@ pub fn store_pointer<D: Pm>(
     ensures faults { (D.state device.old).faults ≤ (D.state device.new).faults }
     ensures failed { IsErr result → Rose (D.state device.old).faults (D.state device.new).faults }
 {
-    let at = g.pointer_word(page);
-    device.store(at, word);
-    device.flush(who, at / 8, 1);
-    device.fence(who)
+    set_word(device, who, g.pointer_word(page), word)
 }

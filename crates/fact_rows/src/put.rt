@@ -17,7 +17,7 @@ use pm_device::{Failed, Pm};
 use pm_layout::Geometry;
 
 /// The units of the device that `insert_direct` and `insert_chained` use, each.
-pub const INSERT_UNITS: u64 = 16;
+pub const INSERT_UNITS: u64 = 15;
 
 /// The units of the device that the fill of a slot uses.
 const FILL_UNITS: u64 = 9;

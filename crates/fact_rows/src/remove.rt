@@ -12,7 +12,7 @@ use pm_device::{Failed, Pm};
 use pm_layout::Geometry;
 
 /// The units of the device that `remove_direct` and `remove_chained` use, each.
-pub const REMOVE_UNITS: u64 = 7;
+pub const REMOVE_UNITS: u64 = 6;
 
 /// Takes a row out of its direct slot: closes the slot by a page word of 0, flushes and fences; then clears the page's
 /// pointer, flushes and fences. The rows that are chained behind the slot stay.

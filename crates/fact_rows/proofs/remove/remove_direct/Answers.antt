@@ -1,6 +1,6 @@
 use Rattle.std.proofs.Common.{◌∙◌}
 use Rattle.pm_layout.specs.Geometry.{slot_word}
-use Rattle.fact_rows.proofs.Pointed.{on_ok_map}
+use Rattle.pm_device.proofs.SetWord.{on_ok_map}
 use Rattle.fact_rows.proofs.TakenOut.{Went, Cleared, closes, gone_direct_lt, gone_page_lt, gone_failed, gone_images, gone_holds, gone_stands, gone_only_front, gone_keeps_front, gone_only, gone_keeps}
 use Rattle.fact_rows.proofs.remove.remove_direct.Goals as goal
 
