@@ -17,7 +17,7 @@ use Rattle.inode_log.specs.Prepare.{IsToPrepare, CanPrepare, Prepares}
 abbrev pub first_log : Log
 first_log = record { pages = 6 ∷ []; items = Size 7 ∷ [] }
 
-data_6 : (g : Geometry) → g.pages ≡ 64 → g.inodes ≡ 8 → InData g 6
+pub data_6 : (g : Geometry) → g.pages ≡ 64 → g.inodes ≡ 8 → InData g 6
 unfolding first_data bits_of
 data_6 g pages inodes = record {
   low = subst (λ (p : ℕ). first_data (record { pages = p; inodes = g.inodes }) ≤ 6) (sym pages) (subst (λ (n : ℕ). first_data (record { pages = 64; inodes = n }) ≤ 6) (sym inodes) (lit≤ tt));

@@ -5,12 +5,12 @@ use Rattle.std.proofs.lemmas.Bool.{cases_lt, cases_eq}
 use Rattle.std.proofs.lemmas.List.{get_or_append_left, get_or-append-add, get_or_at}
 use Rattle.std.proofs.lemmas.List.Concat.{flat_map-append}
 use Rattle.pm_device.specs.State.{State}
-use Rattle.pm_device.specs.Reading.{Reads, DiffersAt, IsReady}
-use Rattle.pm_device.specs.Commit.{IsCommitted, IsDone}
+use Rattle.pm_device.specs.Reading.{Reads, Stands, DiffersAt, IsReady}
+use Rattle.pm_device.specs.Commit.{IsDone, LeavesOneWord}
 use Rattle.pm_device.specs.Settled.{LeavesOnly, StoresOnly}
 use Rattle.pm_device.proofs.Moments.{leaves_only-weaken}
 use Rattle.pm_device.proofs.Layers.{leaves_only-stores}
-use Rattle.pm_device.proofs.OneWord.{reads_old_or_new, stands_new, stands-stores}
+use Rattle.pm_device.proofs.OneWord.{stands_new, stands-stores}
 use Rattle.pm_layout.specs.declared.Geometry.{Geometry}
 use Rattle.pm_layout.specs.Geometry.{InData}
 use Rattle.log_entry.specs.Spelling.{spelling, spelled, flag_number, IsSpelled}
@@ -179,7 +179,30 @@ module _ (change : LogItem → LogItem) (j value slot : ℕ) (old new : Log) (re
               )
         ]
 
--- so it is after a commit of that word
+-- Where nothing else is said anew, an image with the word old or new has what was said before or what is said after.
+module _ (says says' : ℕ → ℕ → Type 0) (at value : ℕ) (s : State) (c : List ℕ) (differs : DiffersAt says says' (λ a v. ⊥) at value) (stands : Stands says s) (leaves : LeavesOneWord at value s c) where
+  reads_at : (a v n : ℕ) → a ≡ at → slice_index c at ≡ n → v ≡ n → slice_index c a ≡ v
+  reads_at a v n here is told = subst (λ (b : ℕ). slice_index c b ≡ n) (sym here) is ∙ sym told
+
+  reads_apart : (a v : ℕ) → says a v → a ≢ at → slice_index c a ≡ v
+  reads_apart a v told ne = leaves.others a (stands.within a v told) (stands.settled a v told) ne ∙ stands.reads a v told
+
+  reads_before : slice_index c at ≡ slice_index s.now at → Reads says c
+  reads_before same a v told = elim (cases_eq a at) [
+    | inl e ↦ reads_at a v (slice_index s.now at) e same (sym (stands.reads a v told) ∙ ap (slice_index s.now) e)
+    | inr ne ↦ reads_apart a v told ne
+  ]
+
+  reads_after : slice_index c at ≡ value → Reads says' c
+  reads_after moved a v told = ⊎_elim
+      (λ (here : (a ≡ at) × (v ≡ value)). reads_at a v value here.0 moved here.1)
+      (λ (there : (a ≢ at) × (says a v ⊎ ⊥)). ⊎_elim (λ (before : says a v). reads_apart a v before there.0) (λ (none : ⊥). absurd none) there.1)
+      (differs a v told)
+
+  reads_either : Reads says c ⊎ Reads says' c
+  reads_either = ⊎_elim (λ same. inl (reads_before same)) (λ moved. inr (reads_after moved)) leaves.word
+
+-- so it is once that word is set
 module _ (g : Geometry) (change : LogItem → LogItem) (who slot j value at : ℕ) (s t : State) (place : at ≡ 8 * slot + j) (small : j < 8)
     (changes : (item : LogItem) → IsWrite item → IsWordChange change j value item) where
   differs_there : (ino : ℕ) (old new : Log) → CanReflag g change ino slot old new s → DiffersAt (LogSays ino old) (LogSays ino new) (λ a v. ⊥) at value
@@ -189,9 +212,9 @@ module _ (g : Geometry) (change : LogItem → LogItem) (who slot j value at : �
   nothing_ready : IsReady who (λ a v. ⊥) s
   nothing_ready = record { within = λ a v told. absurd told; reads = λ a v told. absurd told; flushed = λ a v told. absurd told }
 
-  pub old_or_new_item : LeavesOnly s t (IsCommitted who at value s) → OldOrNewItem g change slot s t
-  old_or_new_item leaves ino old new can = leaves_only-weaken s t (IsCommitted who at value s) (λ c. Reads (LogSays ino old) c ⊎ Reads (LogSays ino new) c)
-      (λ c committed. reads_old_or_new (LogSays ino old) (LogSays ino new) (λ a v. ⊥) who at value s c (differs_there ino old new can) can.stands nothing_ready committed) leaves
+  pub old_or_new_item : LeavesOnly s t (LeavesOneWord at value s) → OldOrNewItem g change slot s t
+  old_or_new_item leaves ino old new can = leaves_only-weaken s t (LeavesOneWord at value s) (λ c. Reads (LogSays ino old) c ⊎ Reads (LogSays ino new) c)
+      (λ c one. reads_either (LogSays ino old) (LogSays ino new) at value s c (differs_there ino old new can) can.stands one) leaves
 
   pub new_item_stands : at < length s.now → IsDone who at value s t → StoresOnly (λ a. a ≡ at) s t → NewItemStands g change slot s t
   new_item_stands inside done only ino old new can =
