@@ -3,39 +3,9 @@
 #
 #     sh benches/indexes.sh [ROUNDS]
 #
-# Of ROUNDS trials (3 where none is given) the one that took least counts. The program that is timed stands below. It is
-# written into a copy of the crates and run without a proof, so it is no part of the repository's crates.
-set -eu
-rounds=${1:-3}
-case $rounds in
-'' | *[!0-9]* | 0*)
-    echo 'usage: sh benches/indexes.sh [ROUNDS]' >&2
-    exit 2
-    ;;
-esac
-# the seconds after which the run is given up
-limit=1200
-top=$(cd "$(dirname "$0")/.." && pwd)
-copy=$(mktemp -d)
-trap 'rm -rf "$copy"' EXIT
-trap 'exit 1' HUP INT PIPE TERM
-
-mkdir "$copy/crates"
-for crate in "$top"/crates/*; do
-    name=$(basename "$crate")
-    mkdir "$copy/crates/$name"
-    for part in src specs proofs; do
-        if [ -d "$crate/$part" ]; then
-            cp -R "$crate/$part" "$copy/crates/$name/"
-        fi
-    done
-done
-cp "$top/HANDLES" "$copy/"
-cp "$top/crates.txt" "$copy/"
-echo 'bench: pm_device pm_layout log_entry page_alloc dedupe_queue dn_model file_index inode_log log_walk anyhow' \
-    >>"$copy/crates.txt"
-mkdir -p "$copy/crates/bench/src"
-cd "$copy/crates/bench"
+# Of ROUNDS trials (3 where none is given) the one that took least counts.
+. "$(dirname "$0")/common.sh"
+begin_bench pm_device pm_layout log_entry page_alloc dedupe_queue dn_model file_index inode_log log_walk anyhow
 
 cat >src/main.rt <<'END'
 //! Times the structures in ordinary memory, and the walk of a log.
@@ -505,8 +475,4 @@ pub(crate) fn walk_items<R: CpuClock + AllocGlobal>(rt: &R, count: u64) -> Resul
 }
 END
 
-echo "processor time in a build with checks, $(date -u +%Y-%m-%dT%H:%MZ), least of $rounds"
-echo 'growth: the time for each over that at the first size; 1.00 is linear'
-echo "before: $(uptime)"
-nice -n 10 rt try --seconds "$limit" -- "$rounds"
-echo "after: $(uptime)"
+run_bench 'growth: the time for each over that at the first size; 1.00 is linear'
