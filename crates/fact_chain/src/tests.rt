@@ -21,7 +21,7 @@ struct Put {
     page: u64,
     // the slot that was the first of the chain before, or 0
     old: u64,
-    // the device's moment as the link begins
+    // the device's moment once the slot is filled, before the fill is fenced and the slot linked
     first: u8,
 }
 
@@ -49,7 +49,7 @@ fn make_row(page: u64, next: u64) -> FactSlot {
     }
 }
 
-// Fills the direct slot and opens it.
+// Fills the direct slot, fences that and opens it.
 fn open_first<D: Pm>(device: &mut D, g: &Geometry, page: u64) -> Result<(), Failed>
     requires accepted { IsAccepted g.now }
     requires size { length (D.state device.old).now ≡ 512 * g.now.pages }
@@ -60,10 +60,11 @@ fn open_first<D: Pm>(device: &mut D, g: &Geometry, page: u64) -> Result<(), Fail
     ensures spare { (D.state device.old).spare ≤ (D.state device.new).spare + 13 }
 {
     fill_direct(device, g, 1, DIRECT, &make_row(page, 0));
+    device.fence(1)?;
     open_direct(device, g, 1, DIRECT, page)
 }
 
-// Fills an indirect slot and links it.
+// Fills an indirect slot, fences that and links it.
 fn put_in<D: Pm>(device: &mut D, g: &Geometry, put: &Put) -> Result<(), Failed>
     requires accepted { IsAccepted g.now }
     requires size { length (D.state device.old).now ≡ 512 * g.now.pages }
@@ -75,6 +76,7 @@ fn put_in<D: Pm>(device: &mut D, g: &Geometry, put: &Put) -> Result<(), Failed>
     ensures spare { (D.state device.old).spare ≤ (D.state device.new).spare + 13 }
 {
     fill_chain(device, g, 1, put.slot, &make_row(put.page, put.old));
+    device.fence(1)?;
     link(device, g, 1, DIRECT, put.slot)
 }
 
