@@ -260,17 +260,17 @@ module _ (t : Table) (slot : ℕ) (s u : State) where
   down_makes makes settles d may = count_makes down MaySettleDown down_fits (SettleDown slot) slot (λ g rs has. has) (λ g olds news is. is) t s u d may makes settles
 
   module _ (rfc : ℕ) where
-    rfc_is : (g : Geometry) (rs : List Row) → MayMake g rs (Recount slot rfc) → HasRowAt rs slot (λ row. rfc < 2 ^ 32)
-    rfc_is g rs may = record { row = may.1.row; there = may.1.there; slot_is = may.1.slot_is; has = may.0 }
+    rfc_is : rfc < 2 ^ 32 → (g : Geometry) (rs : List Row) → MayMake g rs (Recount slot rfc) → HasRowAt rs slot (λ row. rfc < 2 ^ 32)
+    rfc_is fits g rs may = record { row = may.row; there = may.there; slot_is = may.slot_is; has = fits }
 
     counted_fits : (d : Disk) → HasGoodRows d → (row : Row) → Contains (rows d) row → rfc < 2 ^ 32 → Fits (counted rfc) row
     counted_fits d good row there fits = (fits, omega arith)
 
-    pub counted_leaves : LeavesTables (counted rfc) t slot s u → LeavesCall t (Recount slot rfc) s u
-    counted_leaves leaves d may = count_leaves (counted rfc) (λ row. rfc < 2 ^ 32) counted_fits (Recount slot rfc) slot rfc_is (λ g olds news is. is) t s u d may leaves
+    pub counted_leaves : rfc < 2 ^ 32 → LeavesTables (counted rfc) t slot s u → LeavesCall t (Recount slot rfc) s u
+    counted_leaves fits leaves d may = count_leaves (counted rfc) (λ row. rfc < 2 ^ 32) counted_fits (Recount slot rfc) slot (rfc_is fits) (λ g olds news is. is) t s u d may leaves
 
-    pub counted_makes : MakesTable (counted rfc) t slot s u → SettlesTable (counted rfc) t slot s u → MakesCall t t (Recount slot rfc) s u
-    counted_makes makes settles d may = count_makes (counted rfc) (λ row. rfc < 2 ^ 32) counted_fits (Recount slot rfc) slot rfc_is (λ g olds news is. is) t s u d may makes settles
+    pub counted_makes : rfc < 2 ^ 32 → MakesTable (counted rfc) t slot s u → SettlesTable (counted rfc) t slot s u → MakesCall t t (Recount slot rfc) s u
+    counted_makes fits makes settles d may = count_makes (counted rfc) (λ row. rfc < 2 ^ 32) counted_fits (Recount slot rfc) slot (rfc_is fits) (λ g olds news is. is) t s u d may makes settles
 
 -- a call that is known
 pub of_call-leaves : (t : Table) (call known : TableCall) (s u : State) → call ≡ known → LeavesCall t known s u → LeavesCall t call s u

@@ -1,5 +1,5 @@
 -- What calls of a table make of its rows. Only lists of rows are spoken of.
-use Rattle.std.specs.Prelude.{◌≡◌, ◌≢◌, ℕ, suc, ◌^◌, ◌<◌, ◌≤◌, List, slice_get, Some, Contains}
+use Rattle.std.specs.Prelude.{◌≡◌, ◌≢◌, ℕ, suc, ◌<◌, ◌≤◌, List, slice_get, Some, Contains}
 use Rattle.pm_layout.specs.declared.Geometry.{Geometry}
 use Rattle.pm_layout.specs.Geometry.{InData, directs, slots}
 use Rattle.fingerprint.specs.Print.{IsPrint}
@@ -36,7 +36,7 @@ MayMake g rs (Insert print page) = MayComeIn g rs print page
 MayMake g rs (Raise slot) = HasRowAt rs slot MayRaise
 MayMake g rs (SettleUp slot) = HasRowAt rs slot MaySettleUp
 MayMake g rs (SettleDown slot) = HasRowAt rs slot MaySettleDown
-MayMake g rs (Recount slot rfc) = (rfc < 2 ^ 32) × HasRowAt rs slot AnyRow
+MayMake g rs (Recount slot rfc) = HasRowAt rs slot AnyRow
 MayMake g rs (RemoveZero slot) = HasRowAt rs slot (λ row. (row.rfc ≡ 0) × (row.uc ≡ 0))
 MayMake g rs ClearStale = Unit {0}
 

@@ -1,5 +1,5 @@
 -- Which call may be made of a row.
-use Rattle.std.specs.Prelude.{◌≡◌, ◌^◌, ◌<◌}
+use Rattle.std.specs.Prelude.{◌≡◌}
 use Rattle.dn_model.specs.Table.{Row}
 use Rattle.fact_counts.specs.Counted.{MayRaise, MaySettleUp, MaySettleDown}
 use Rattle.fact_calls.specs.declared.call.TableCall.{TableCall}
@@ -11,6 +11,6 @@ MayBy row (Insert print page) = ⊥
 MayBy row (Raise slot) = (row.slot ≡ slot) × MayRaise row
 MayBy row (SettleUp slot) = (row.slot ≡ slot) × MaySettleUp row
 MayBy row (SettleDown slot) = (row.slot ≡ slot) × MaySettleDown row
-MayBy row (Recount slot rfc) = (row.slot ≡ slot) × (rfc < 2 ^ 32)
+MayBy row (Recount slot rfc) = row.slot ≡ slot
 MayBy row (RemoveZero slot) = (row.slot ≡ slot) × (row.rfc ≡ 0) × (row.uc ≡ 0)
 MayBy row ClearStale = ⊥

@@ -167,11 +167,7 @@ fn may_by(row: &Row, call: &TableCall) -> bool
         TableCall::Raise { slot } => row.slot == *slot && uc < u32::MAX,
         TableCall::SettleUp { slot } => row.slot == *slot && uc >= 1 && rfc < u32::MAX,
         TableCall::SettleDown { slot } => row.slot == *slot && uc >= 1 && rfc >= 1,
-        TableCall::Recount { slot, rfc } => {
-            // each count fits
-            let _count = *rfc;
-            row.slot == *slot
-        }
+        TableCall::Recount { slot, .. } => row.slot == *slot,
         TableCall::RemoveZero { slot } => row.slot == *slot && rfc == 0 && uc == 0,
         _ => false,
     }

@@ -1,3 +1,4 @@
+use Rattle.std.proofs.Common.{arith}
 use Rattle.fact_counts.specs.Counted.{MayRaise, MaySettleUp, MaySettleDown, AnyRow}
 use Rattle.fact_counts.proofs.Counting.{on_ok_map}
 use Rattle.fact_calls.specs.declared.call.TableCall.TheVariants.{Insert, Raise, SettleUp, SettleDown, Recount, RemoveZero, ClearStale}
@@ -83,17 +84,17 @@ recount-requires-clause-row g c =
     let S = g.D.Pm.state in
     let can = c.requires.can in
     let may = of_call-may can.disk (S c.args.device.now).now c.args.fact.now c.args.call.now (Recount c.in-Recount.slot c.in-Recount.rfc) c.in-Recount.is can.may in
-    row_with can.disk (S c.args.device.now).now c.args.fact.now c.in-Recount.slot AnyRow may.table may.may.1
+    row_with can.disk (S c.args.device.now).now c.args.fact.now c.in-Recount.slot AnyRow may.table may.may
 
 pub returns-in-Recount-clause-images : goal.returns-in-Recount-clause-images
 returns-in-Recount-clause-images g c =
     let S = g.D.Pm.state in
-    of_call-leaves c.args.fact.now c.args.call.now (Recount c.in-Recount.slot c.in-Recount.rfc) (S c.args.device.now) (S c.recount.new.device) c.in-Recount.is (counted_leaves c.args.fact.now c.in-Recount.slot (S c.args.device.now) (S c.recount.new.device) c.in-Recount.rfc c.recount.ensures.images)
+    of_call-leaves c.args.fact.now c.args.call.now (Recount c.in-Recount.slot c.in-Recount.rfc) (S c.args.device.now) (S c.recount.new.device) c.in-Recount.is (counted_leaves c.args.fact.now c.in-Recount.slot (S c.args.device.now) (S c.recount.new.device) c.in-Recount.rfc (omega arith) c.recount.ensures.images)
 
 pub returns-in-Recount-clause-done : goal.returns-in-Recount-clause-done
 returns-in-Recount-clause-done g c =
     let S = g.D.Pm.state in
-    both_done c.recount.result _ _ _ (λ makes settles. of_call-makes c.args.fact.now c.args.fact.now c.args.call.now (Recount c.in-Recount.slot c.in-Recount.rfc) (S c.args.device.now) (S c.recount.new.device) c.in-Recount.is (counted_makes c.args.fact.now c.in-Recount.slot (S c.args.device.now) (S c.recount.new.device) c.in-Recount.rfc makes settles)) c.recount.ensures.table c.recount.ensures.settled
+    both_done c.recount.result _ _ _ (λ makes settles. of_call-makes c.args.fact.now c.args.fact.now c.args.call.now (Recount c.in-Recount.slot c.in-Recount.rfc) (S c.args.device.now) (S c.recount.new.device) c.in-Recount.is (counted_makes c.args.fact.now c.in-Recount.slot (S c.args.device.now) (S c.recount.new.device) c.in-Recount.rfc (omega arith) makes settles)) c.recount.ensures.table c.recount.ensures.settled
 
 pub remove_zero-requires-clause-row : goal.remove_zero-requires-clause-row
 remove_zero-requires-clause-row g c =
@@ -165,7 +166,7 @@ returns-in-Recount-clause-only g c =
     let S = g.D.Pm.state in
     let can = c.requires.can in
     let may = of_call-may can.disk (S c.args.device.now).now c.args.fact.now c.args.call.now (Recount c.in-Recount.slot c.in-Recount.rfc) c.in-Recount.is can.may in
-    counts_in can.disk (S c.args.device.now).now c.args.fact.now may.table c.in-Recount.slot may.may.1.row (record { there = may.may.1.there; slot_is = may.may.1.slot_is }) (S c.args.device.now) (S c.recount.new.device) c.recount.ensures.only
+    counts_in can.disk (S c.args.device.now).now c.args.fact.now may.table c.in-Recount.slot may.may.row (record { there = may.may.there; slot_is = may.may.slot_is }) (S c.args.device.now) (S c.recount.new.device) c.recount.ensures.only
 
 pub returns-in-RemoveZero-clause-only : goal.returns-in-RemoveZero-clause-only
 returns-in-RemoveZero-clause-only g c =
