@@ -34,6 +34,25 @@ begin_bench() {
     echo "bench: $*" >>"$copy/crates.txt"
     mkdir -p "$copy/crates/bench/src"
     cd "$copy/crates/bench"
+    write_trials
+}
+
+# Writes the module of the program that reads its words.
+write_trials() {
+    cat >src/trials.rt <<'END'
+// The words that a bench is run with.
+use anyhow::Result;
+use std::env;
+use std::rt::Env;
+
+// How often each trial is made.
+pub(crate) fn rounds(rt: &(impl Env + AllocGlobal)) -> Result<u64> {
+    match env::args(rt)?.nth(1) {
+        Some(word) => Ok(word.parse::<u64>()?),
+        None => Ok(1),
+    }
+}
+END
 }
 
 # Runs the program, which is given the number of trials. Each argument is a line that explains its columns.

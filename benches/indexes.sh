@@ -15,11 +15,11 @@ mod indexes;
 mod logs;
 mod pages;
 mod queue;
+mod trials;
 
 use anyhow::Result;
-use std::env;
-use std::rt::Env;
 use std::time::{CpuClock, Duration};
+use trials::rounds;
 
 // What is timed.
 #[derive(Clone, Copy)]
@@ -107,14 +107,6 @@ fn least<R: CpuClock + AllocGlobal>(
         least = least.min(trial(rt, operation, n)?);
     }
     Ok(least)
-}
-
-// How often each trial is made.
-fn rounds(rt: &(impl Env + AllocGlobal)) -> Result<u64> {
-    match env::args(rt)?.nth(1) {
-        Some(word) => Ok(word.parse::<u64>()?),
-        None => Ok(1),
-    }
 }
 
 // Times the operation at each of its sizes, and prints a line of the table for each.

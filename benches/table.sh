@@ -20,12 +20,12 @@ mod changes;
 mod empty;
 mod image;
 mod looks;
+mod trials;
 
 use anyhow::Result;
 use image::{Image, Prints};
-use std::env;
-use std::rt::Env;
 use std::time::{CpuClock, Duration};
+use trials::rounds;
 
 // What images hold.
 #[derive(Clone, Copy)]
@@ -130,14 +130,6 @@ fn least<R: CpuClock + AllocGlobal>(
         }
     }
     Ok(least)
-}
-
-// How often each trial is made.
-fn rounds(rt: &(impl Env + AllocGlobal)) -> Result<u64> {
-    match env::args(rt)?.nth(1) {
-        Some(word) => Ok(word.parse::<u64>()?),
-        None => Ok(1),
-    }
 }
 
 // Times the calls at each size, and prints a line for each.
