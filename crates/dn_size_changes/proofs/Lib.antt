@@ -1,3 +1,4 @@
 pub mod Cutting
 pub mod CutBytes
 pub mod CutCounts
+pub mod Dropped

@@ -4,6 +4,7 @@
 #![tactic(auto)]
 
 ghost use Rattle.dn_size_changes.specs.CutLaws.{CutsMakeWrites, CutsMakeWritesWithoutRows, CutsStayValid, CutsDropPlaces, CutsResize, CutsAreCuts, CutsStayOwn, CutsTakeAndDrop, CutsDropMappings, CutsStayNear};
+ghost use Rattle.dn_size_changes.specs.DropLaws.{WritesDrop, WritesDropMappings};
 
 /// A cut is an event of a write of no place, or of the last kept page: a valid disk stays valid, the tail decides, and
 /// what has to stand before are the words past the tail and those of the page that is filled anew.
@@ -42,4 +43,10 @@ pub fn cuts_take_and_drop()
 pub fn cuts_stay_near()
     ensures mappings { CutsDropMappings }
     ensures near { CutsStayNear }
+{}
+
+/// The mappings of a page that isn't the event's fall by the places that an event of a write maps anew or takes away.
+pub fn writes_drop_mappings()
+    ensures places { WritesDrop }
+    ensures mappings { WritesDropMappings }
 {}

@@ -4,7 +4,7 @@ ghost use Rattle.pm_device.specs.State.{Rose};
 ghost use Rattle.pm_device.specs.Settled.{StoresOnly, KeepsFlushed, Others};
 ghost use Rattle.pm_layout.specs.Geometry.{slot_word};
 ghost use Rattle.fact_counts.specs.Standing.{HasRowWith};
-ghost use Rattle.fact_counts.specs.Counted.{raised, up, down, counted, MayRaise, MaySettleUp, MaySettleDown, AnyRow, CountsAre, MakesTable, SettlesTable, LeavesTables};
+ghost use Rattle.fact_counts.specs.Counted.{raised, up, down, counted, MayRaise, MaySettleUp, MaySettleDown, AnyRow, CountsAre, MakesTable, SettlesTable, SettlesOwn, LeavesTables};
 
 use fact_slot::{load_field, set_field};
 use fact_table::Fact;
@@ -40,6 +40,7 @@ fn set_counts<D: Pm>(
     ensures images { LeavesTables (λ row. counts) fact.now slot (D.state device.old) (D.state device.new) }
     ensures table { OnOk result (MakesTable (λ row. counts) fact.now slot (D.state device.old) (D.state device.new)) }
     ensures settled { OnOk result (SettlesTable (λ row. counts) fact.now slot (D.state device.old) (D.state device.new)) }
+    ensures own { OnOk result (SettlesOwn fact.now slot who (D.state device.old) (D.state device.new)) }
     ensures only { StoresOnly (λ a. a ≡ slot_word fact.now.geometry slot 4) (D.state device.old) (D.state device.new) }
     ensures others { KeepsFlushed (Others who) (λ a. a ≡ slot_word fact.now.geometry slot 4) (D.state device.old) (D.state device.new) }
     ensures spare { (D.state device.old).spare ≤ (D.state device.new).spare + COUNT_UNITS }
@@ -62,6 +63,7 @@ pub fn raise<D: Pm>(fact: &Fact, device: &mut D, who: u32, slot: u64) -> Result<
     ensures images { LeavesTables raised fact.now slot (D.state device.old) (D.state device.new) }
     ensures table { OnOk result (MakesTable raised fact.now slot (D.state device.old) (D.state device.new)) }
     ensures settled { OnOk result (SettlesTable raised fact.now slot (D.state device.old) (D.state device.new)) }
+    ensures own { OnOk result (SettlesOwn fact.now slot who (D.state device.old) (D.state device.new)) }
     ensures only { StoresOnly (λ a. a ≡ slot_word fact.now.geometry slot 4) (D.state device.old) (D.state device.new) }
     ensures others { KeepsFlushed (Others who) (λ a. a ≡ slot_word fact.now.geometry slot 4) (D.state device.old) (D.state device.new) }
     ensures spare { (D.state device.old).spare ≤ (D.state device.new).spare + COUNT_UNITS }
@@ -85,6 +87,7 @@ pub fn settle_up<D: Pm>(fact: &Fact, device: &mut D, who: u32, slot: u64) -> Res
     ensures images { LeavesTables up fact.now slot (D.state device.old) (D.state device.new) }
     ensures table { OnOk result (MakesTable up fact.now slot (D.state device.old) (D.state device.new)) }
     ensures settled { OnOk result (SettlesTable up fact.now slot (D.state device.old) (D.state device.new)) }
+    ensures own { OnOk result (SettlesOwn fact.now slot who (D.state device.old) (D.state device.new)) }
     ensures only { StoresOnly (λ a. a ≡ slot_word fact.now.geometry slot 4) (D.state device.old) (D.state device.new) }
     ensures others { KeepsFlushed (Others who) (λ a. a ≡ slot_word fact.now.geometry slot 4) (D.state device.old) (D.state device.new) }
     ensures spare { (D.state device.old).spare ≤ (D.state device.new).spare + COUNT_UNITS }
@@ -108,6 +111,7 @@ pub fn settle_down<D: Pm>(fact: &Fact, device: &mut D, who: u32, slot: u64) -> R
     ensures images { LeavesTables down fact.now slot (D.state device.old) (D.state device.new) }
     ensures table { OnOk result (MakesTable down fact.now slot (D.state device.old) (D.state device.new)) }
     ensures settled { OnOk result (SettlesTable down fact.now slot (D.state device.old) (D.state device.new)) }
+    ensures own { OnOk result (SettlesOwn fact.now slot who (D.state device.old) (D.state device.new)) }
     ensures only { StoresOnly (λ a. a ≡ slot_word fact.now.geometry slot 4) (D.state device.old) (D.state device.new) }
     ensures others { KeepsFlushed (Others who) (λ a. a ≡ slot_word fact.now.geometry slot 4) (D.state device.old) (D.state device.new) }
     ensures spare { (D.state device.old).spare ≤ (D.state device.new).spare + COUNT_UNITS }
@@ -137,6 +141,7 @@ pub fn recount<D: Pm>(
     ensures images { LeavesTables (counted rfc) fact.now slot (D.state device.old) (D.state device.new) }
     ensures table { OnOk result (MakesTable (counted rfc) fact.now slot (D.state device.old) (D.state device.new)) }
     ensures settled { OnOk result (SettlesTable (counted rfc) fact.now slot (D.state device.old) (D.state device.new)) }
+    ensures own { OnOk result (SettlesOwn fact.now slot who (D.state device.old) (D.state device.new)) }
     ensures only { StoresOnly (λ a. a ≡ slot_word fact.now.geometry slot 4) (D.state device.old) (D.state device.new) }
     ensures others { KeepsFlushed (Others who) (λ a. a ≡ slot_word fact.now.geometry slot 4) (D.state device.old) (D.state device.new) }
     ensures spare { (D.state device.old).spare ≤ (D.state device.new).spare + COUNT_UNITS }

@@ -1,5 +1,5 @@
 -- The items are prepared, and the tail moves.
-use Rattle.std.proofs.Common.{◌≡◌, ◌≢◌, ◌⊎◌, inl, inr, ⊎_elim, ℕ, ◌+◌, ◌*◌, ◌<◌, ◌≤◌, List, length, refl, sym, ◌∙◌, ap, subst, arith}
+use Rattle.std.proofs.Common.{◌≡◌, ◌⊎◌, inl, inr, ⊎_elim, ℕ, ◌+◌, ◌*◌, ◌<◌, List, length, refl, sym, ◌∙◌, ap, subst, arith}
 use Rattle.std.specs.Prelude.{slice_index, Contains}
 use Rattle.std.proofs.lemmas.List.Elements.{Contains-append_cases}
 use Rattle.pm_device.specs.State.{State, Agree}
@@ -12,12 +12,11 @@ use Rattle.pm_device.proofs.Only.{stores_only-then, stores_only-weaken}
 use Rattle.pm_device.proofs.Layers.{settled-stores, leaves_only-then, leaves_only-stores}
 use Rattle.pm_layout.specs.declared.Geometry.{Geometry}
 use Rattle.pm_layout.specs.Geometry.{inode_word}
-use Rattle.dn_model.specs.Log.{Log, count, tail_at, at_tail}
+use Rattle.dn_model.specs.Log.{count, tail_at, at_tail}
 use Rattle.dn_model.specs.Growth.{Prepared}
 use Rattle.dn_model.specs.Disk.{Disk, DiskSays, IsUsed, of_logs}
 use Rattle.dn_model.specs.Image.{StandsFor}
 use Rattle.inode_log.specs.Prepare.{IsToPrepare, CanPrepare, IsPreparedBy}
-use Rattle.dn_changes.specs.Events.{IsUnused}
 use Rattle.dn_changes.specs.Writing.{Writes, WritesWell, IsStored, IsBlockWord}
 use Rattle.dn_changes.specs.Runs.{Run, places_in, block_at}
 use Rattle.dn_changes.specs.MayWrite.{written_disk}

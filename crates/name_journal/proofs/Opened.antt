@@ -1,5 +1,5 @@
 -- The pairs of a journal that is let through.
-use Rattle.std.proofs.Common.{◌≡◌, ◌⊎◌, inl, inr, ⊎_elim, ℕ, ◌+◌, ◌*◌, ◌/◌, ◌<◌, ◌≤◌, List, length, take, sym, ◌∙◌, ap, subst, arith, length-take, get_or-take}
+use Rattle.std.proofs.Common.{◌≡◌, ◌⊎◌, inl, inr, ⊎_elim, ℕ, ◌+◌, ◌*◌, ◌/◌, ◌<◌, ◌≤◌, List, length, take, refl, sym, ◌∙◌, ap, subst, arith, length-take, get_or-take}
 use Rattle.std.specs.Prelude.{slice_index}
 use Rattle.std.proofs.lemmas.Bool.{cases_eq}
 use Rattle.std.proofs.lemmas.Grind.{same_number_lists}
@@ -13,7 +13,7 @@ use Rattle.dn_model.specs.Rolled.{rolled, IsGate, IsJournaled}
 use Rattle.dn_model.proofs.Regions.{inode_word_low}
 use Rattle.name_journal.specs.declared.change.Change.{Change}
 use Rattle.name_journal.specs.Changes.{address, AreChanges, AreInside, IsNamed}
-use Rattle.name_journal.specs.Pairs.{ArePairs, AreOpen, IsRolledAt}
+use Rattle.name_journal.specs.Pairs.{ArePairs, AreOpen, IsRolledAt, HasGateOf}
 use Rattle.name_journal.proofs.Told.{leaves_only-image, stores_leave, settled_value_is}
 use Rattle.name_journal.proofs.Rolling.{length-rolled, rolled_gate, rolled_other, can_roll}
 
@@ -65,7 +65,16 @@ shut_is_rolled w long shut = same_number_lists w (rolled w) (sym (length-rolled 
   | inr ne ↦ sym (rolled_other w a ne (λ i few. absurd (omega (arith, few, shut))))
 ])
 
--- a still device leaves one image
+-- a still device leaves one image, that of its words
+pub still_has : (s : State) → Agree s.now s.past → Still s → (P : List ℕ → Type 0) → P s.now → LeavesOnly s s P
+still_has s agree still P here =
+    leaves_only-image s s (IsOldBut Nowhere s) P agree
+    (λ c image old. subst P (sym (same_number_lists c s.now image.size (λ a lt. settled_value_is s a (slice_index c a) image.told (old a (λ h. h) (omega (arith, lt, image.size))) (still a (omega (arith, lt, image.size)))))) here)
+    (stores_leave Nowhere s s (stores_only-none Nowhere s agree))
+
+pub still_gates : (s : State) → Agree s.now s.past → Still s → LeavesOnly s s (HasGateOf s.now)
+still_gates s agree still = still_has s agree still (HasGateOf s.now) (record { gate = inl refl; pairs = λ a low high. refl })
+
 pub still_leaves : (s : State) → Agree s.now s.past → Still s → LeavesOnly s s (λ c. rolled c ≡ rolled s.now)
 still_leaves s agree still =
     leaves_only-image s s (IsOldBut Nowhere s) (λ c. rolled c ≡ rolled s.now) agree

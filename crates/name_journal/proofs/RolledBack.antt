@@ -14,7 +14,7 @@ use Rattle.pm_layout.specs.Geometry.{gate_word}
 use Rattle.dn_model.specs.Rolled.{rolled, pair_address, pair_value}
 use Rattle.name_journal.specs.declared.change.Change.{Change}
 use Rattle.name_journal.specs.Changes.{IsNamed, NewValues}
-use Rattle.name_journal.specs.Pairs.{AreOpen, IsRolledAt}
+use Rattle.name_journal.specs.Pairs.{AreOpen, IsRolledAt, HasGateOf}
 use Rattle.name_journal.proofs.Told.{IsImage, leaves_only-image, stores_leave, settled_value_is}
 use Rattle.name_journal.proofs.Rolling.{rolled_same, is_rolled, cases_named}
 
@@ -63,6 +63,30 @@ module _ (who : ℕ) (pairs : List Change) (s t u : State) (agree_s : Agree s.no
     gate = ⊎_elim (λ same. inl (same ∙ gate_t)) (λ moved. inr (moved.0, λ i lt. moved.1 (pair_address s.now i) (omega (arith, are.can.within i lt, values.words)) (ready.flushed (pair_address s.now i) (pair_value s.now i) (told i lt)) (λ e. gate_apart i lt (sym e)) ∙ put_t i lt)) committed.word;
     others = λ a lt ne none. committed.others a (omega (arith, lt, values.words)) (settled_t still a lt none) ne ∙ values.read a (not_named a none);
   })
+
+  pairs_apart : (a : ℕ) → 520 ≤ a → a < 528 → Apart a
+  pairs_apart a low high i lt e = omega (arith, are.can.high i lt, e, high)
+
+  gate_values : Still s → (c : List ℕ) → IsImage s c → IsOldBut (IsNamed pairs) s c → HasGateOf s.now c
+  gate_values still c image old = record {
+    gate = inl (stays gate_word (omega (arith, long)) gate_apart);
+    pairs = λ a low high. stays a (omega (arith, long, high)) (pairs_apart a low high);
+  }
+    where
+      stays : (a : ℕ) → a < length s.now → Apart a → slice_index c a ≡ slice_index s.now a
+      stays a lt none = settled_value_is s a (slice_index c a) image.told (old a (not_named a none) lt) (still a lt)
+
+  gate_closed : Still s → (c : List ℕ) → IsImage t c → IsCommitted who gate_word 0 t c → HasGateOf s.now c
+  gate_closed still c image committed = record {
+    gate = ⊎_elim (λ same. inl (same ∙ gate_t)) (λ moved. inr moved.0) committed.word;
+    pairs = λ a low high. committed.others a (omega (arith, high, long, values.words)) (settled_t still a (omega (arith, high, long)) (pairs_apart a low high)) (λ e. omega (arith, e, low)) ∙ values.read a (not_named a (pairs_apart a low high));
+  }
+
+  pub gates_at_any_moment : (IsSettled t gate_word → LeavesOnly t u (IsCommitted who gate_word 0 t)) → Still s → LeavesOnly s u (HasGateOf s.now)
+  gates_at_any_moment closing still =
+      leaves_only-then s t u (HasGateOf s.now)
+      (leaves_only-image s t (IsOldBut (IsNamed pairs) s) (HasGateOf s.now) agree_s (gate_values still) (stores_leave (IsNamed pairs) s t values))
+      (leaves_only-image t u (IsCommitted who gate_word 0 t) (HasGateOf s.now) agree_t (gate_closed still) (closing (settled_t still gate_word (omega (arith, long)) gate_apart)))
 
   pub rolls_at_any_moment : (IsSettled t gate_word → LeavesOnly t u (IsCommitted who gate_word 0 t)) → Still s → LeavesOnly s u (λ c. rolled c ≡ rolled s.now)
   rolls_at_any_moment closing still =

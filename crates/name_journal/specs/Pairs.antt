@@ -44,3 +44,8 @@ pub record AreOpen (c : List ℕ) (pairs : List Change) : Type 0 where
 -- a word that a pair names, or the gate
 abbrev pub IsRolledAt : List Change → ℕ → Type 0
 IsRolledAt pairs a = IsNamed pairs a ⊎ (a ≡ gate_word)
+
+-- the image has the words of the pairs, and its gate is theirs or closed
+pub record HasGateOf (w c : List ℕ) : Type 0 where
+  pub gate : (slice_index c gate_word ≡ slice_index w gate_word) ⊎ (slice_index c gate_word ≡ 0)
+  pub pairs : (a : ℕ) → 520 ≤ a → a < 528 → slice_index c a ≡ slice_index w a

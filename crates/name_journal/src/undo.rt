@@ -6,7 +6,7 @@ ghost use Rattle.pm_device.specs.Commit.{IsCommitted, IsDone};
 ghost use Rattle.pm_layout.specs.Geometry.{IsAccepted, gate_word};
 ghost use Rattle.dn_model.specs.Rolled.{rolled, IsGate, IsJournaled};
 ghost use Rattle.name_journal.specs.Changes.{AreInside};
-ghost use Rattle.name_journal.specs.Pairs.{AreOpen, IsRolledAt};
+ghost use Rattle.name_journal.specs.Pairs.{AreOpen, IsRolledAt, HasGateOf};
 
 use crate::change::Change;
 use crate::pairs::{GATE, is_gate, read_pairs};
@@ -38,6 +38,7 @@ fn put_back<D: Pm>(device: &mut D, who: u32, pairs: &[Change]) -> Result<(), Fai
     requires room { ROLL_BACK_UNITS ≤ (D.state device.old).spare }
     ensures rolled { OnOk result ((D.state device.new).now ≡ rolled (D.state device.old).now) }
     ensures any_moment { Still (D.state device.old) → LeavesOnly (D.state device.old) (D.state device.new) (λ c. rolled c ≡ rolled (D.state device.old).now) }
+    ensures gates { Still (D.state device.old) → LeavesOnly (D.state device.old) (D.state device.new) (HasGateOf (D.state device.old).now) }
     ensures still { OnOk result (Still (D.state device.old) → Still (D.state device.new)) }
     ensures only { StoresOnly (IsRolledAt pairs.now) (D.state device.old) (D.state device.new) }
     ensures others { KeepsFlushed (Others who) (IsRolledAt pairs.now) (D.state device.old) (D.state device.new) }
@@ -63,6 +64,7 @@ pub fn roll_back<D: Pm>(device: &mut D, g: &Geometry, who: u32) -> Result<(), Ro
     requires room { ROLL_BACK_UNITS ≤ (D.state device.old).spare }
     ensures rolled { OnOk result ((D.state device.new).now ≡ rolled (D.state device.old).now) }
     ensures any_moment { Still (D.state device.old) → LeavesOnly (D.state device.old) (D.state device.new) (λ c. rolled c ≡ rolled (D.state device.old).now) }
+    ensures gates { Still (D.state device.old) → LeavesOnly (D.state device.old) (D.state device.new) (HasGateOf (D.state device.old).now) }
     ensures still { OnOk result (Still (D.state device.old) → Still (D.state device.new)) }
     ensures closed { slice_index (D.state device.old).now gate_word ≡ 0 → IsSame (D.state device.old) (D.state device.new) }
     ensures bad { (result ≡ Err RollFault.BadJournal) ↔ (IsGate g.now.inodes (D.state device.old).now → ⊥) }

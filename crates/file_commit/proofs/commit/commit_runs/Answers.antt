@@ -1,5 +1,4 @@
-use Rattle.std.proofs.Common.{◌≡◌, ◌*◌, length, refl, sym, ◌∙◌, ap, subst}
-use Rattle.std.specs.Prelude.{Result, Ok, Err, OnOk}
+use Rattle.std.proofs.Common.{◌∙◌}
 use Rattle.inode_log.proofs.Committed.{on_ok_map}
 use Rattle.file_commit.proofs.Items.{to_prepare, can_prepare, tail_settled, images, stands_new, stores}
 use Rattle.file_commit.proofs.commit.commit_runs.Goals as goal

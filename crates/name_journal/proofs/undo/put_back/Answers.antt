@@ -1,5 +1,5 @@
 use Rattle.name_journal.proofs.Told.{on_ok_map}
-use Rattle.name_journal.proofs.RolledBack.{rolls_at_any_moment, rolls_now, rolls_still, rolls_only, rolls_others}
+use Rattle.name_journal.proofs.RolledBack.{rolls_at_any_moment, gates_at_any_moment, rolls_now, rolls_still, rolls_only, rolls_others}
 use Rattle.name_journal.proofs.undo.put_back.Goals as goal
 
 pub returns-clause-rolled : goal.returns-clause-rolled
@@ -33,3 +33,9 @@ returns-clause-others g c =
     let S = g.D.Pm.state in let agree = g.met.D.Pm.agree in
     rolls_others c.args.who c.args.pairs.now (S c.args.device.now) (S c.store_values.new.device) (S c.commit.new.device) (agree c.args.device.now) (agree c.store_values.new.device) c.requires.page c.requires.pairs
     c.store_values.ensures.only c.store_values.ensures.ready c.store_values.ensures.keeps c.commit.ensures.others
+
+pub returns-clause-gates : goal.returns-clause-gates
+returns-clause-gates g c =
+    let S = g.D.Pm.state in let agree = g.met.D.Pm.agree in
+    gates_at_any_moment c.args.who c.args.pairs.now (S c.args.device.now) (S c.store_values.new.device) (S c.commit.new.device) (agree c.args.device.now) (agree c.store_values.new.device) c.requires.page c.requires.pairs
+    c.store_values.ensures.only c.store_values.ensures.ready c.commit.ensures.any_moment

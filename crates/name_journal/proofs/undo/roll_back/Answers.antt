@@ -1,6 +1,6 @@
 use Rattle.std.proofs.Common.{take, arith}
 use Rattle.pm_device.specs.Settled.{Others}
-use Rattle.name_journal.proofs.Opened.{open_pairs, open_inside, open_only, open_others, shut_is_rolled, still_leaves}
+use Rattle.name_journal.proofs.Opened.{open_pairs, open_inside, open_only, open_others, shut_is_rolled, still_leaves, still_gates}
 use Rattle.name_journal.proofs.undo.roll_back.Goals as goal
 
 pub returns-then-gate-eq0-clause-rolled : goal.returns-then-gate-eq0-clause-rolled
@@ -47,3 +47,9 @@ returns-in-Err-clause-others g c =
     let S = g.D.Pm.state in
     open_others c.args.g.now (S c.args.device.now).now c.requires.accepted c.requires.size (c.is_gate.ensures.0 c.if-not-is_gate.false) c.load-gate.result c.read_pairs-pairs.result c.load-gate.ensures c.read_pairs-pairs.ensures
     (S c.args.device.now) (S c.put_back.new.device) (Others c.args.who) c.put_back.ensures.others
+
+pub returns-then-gate-eq0-clause-gates : goal.returns-then-gate-eq0-clause-gates
+returns-then-gate-eq0-clause-gates g c = λ still. still_gates (g.D.Pm.state c.args.device.now) (g.met.D.Pm.agree c.args.device.now) still
+
+pub returns-then-not-is_gate-clause-gates : goal.returns-then-not-is_gate-clause-gates
+returns-then-not-is_gate-clause-gates g c = λ still. still_gates (g.D.Pm.state c.args.device.now) (g.met.D.Pm.agree c.args.device.now) still

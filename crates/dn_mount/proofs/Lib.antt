@@ -1,0 +1,3 @@
+pub mod Undone
+pub mod Fresh
+pub mod Events

@@ -1,0 +1,52 @@
+-- What was read of an image stands for a disk, of whose counts all are exact.
+use Rattle.std.specs.Prelude.{◌≡◌, ◌↔◌, ℕ, List, length, slice_get, Some, None, Option, Contains}
+use Rattle.pm_device.specs.State.{State}
+use Rattle.pm_device.specs.Settled.{Still}
+use Rattle.log_entry.specs.declared.item.Flag.TheVariants.{Complete}
+use Rattle.page_alloc.specs.Free.{FreePages, IsInOrder}
+use Rattle.dedupe_queue.specs.declared.Work.{Work}
+use Rattle.dn_model.specs.Maps.{Mapping}
+use Rattle.dn_model.specs.Disk.{Disk}
+use Rattle.dn_model.specs.Counts.{total, IsFree, Exact}
+use Rattle.dn_model.specs.Own.{LivePlace}
+use Rattle.dn_volume.specs.declared.flight.Flight.{Flight}
+use Rattle.dn_volume.specs.declared.volume.InodeState.{InodeState}
+use Rattle.dn_volume.specs.Agrees.{StandsFast}
+use Rattle.dn_volume.specs.Inodes.{AreInodesOf, AreNamesOf}
+use Rattle.dn_volume.specs.Space.{AreSlotsOf}
+use Rattle.dn_volume.specs.Parties.{flight_at}
+use Rattle.dn_volume.specs.Reclaims.{dying_units}
+use Rattle.dn_mount.specs.declared.parts.Scan.{Scan}
+
+-- no client has an operation in flight
+pub record AreNoFlights (flights : List (Option Flight)) : Type 0 where
+  pub clients : length flights ≡ 14
+  pub none : (k : ℕ) → flight_at flights k ≡ None
+
+-- the set has the free pages
+pub record AreFreePages (d : Disk) (set : FreePages) : Type 0 where
+  pub pages : set.pages ≡ d.geometry.pages
+  pub in_order : IsInOrder set
+  pub free : (page : ℕ) → Contains set.free page ↔ IsFree d page
+
+-- the item at this slot of an inode's log waits
+pub record Waits (work : List Work) (inodes : List InodeState) (ino slot : ℕ) : Type 0 where
+  pub item : Work
+  pub listed : Contains work item
+  pub ino_is : item.ino ≡ ino
+  pub slot_is : item.slot ≡ slot
+  pub node : InodeState
+  pub at : slice_get inodes ino ≡ Some node
+  pub round_is : item.round ≡ node.round
+
+pub record IsScanOf (d : Disk) (scan : Scan) (s : State) : Type 0 where
+  pub fast : StandsFast d scan.geometry s
+  pub still : Still s
+  pub exact : Exact d
+  pub free : AreFreePages d scan.free
+  pub names : AreNamesOf d scan.names.map
+  pub inodes : AreInodesOf d scan.inodes.items
+  pub unheld : (ino : ℕ) (n : InodeState) → slice_get scan.inodes.items ino ≡ Some n → n.holder ≡ None
+  pub table : AreSlotsOf d scan.fact
+  pub waits : (ino idx : ℕ) (m : Mapping) → LivePlace d ino idx m → (m.flag ≡ Complete → ⊥) → Waits scan.work.items scan.inodes.items ino m.slot
+  pub waiting : scan.waiting ≡ total d.geometry.inodes (dying_units d)

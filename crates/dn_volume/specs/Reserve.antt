@@ -1,0 +1,79 @@
+-- The room that is owed to what is begun, so that it takes no memory.
+use Rattle.std.specs.Prelude.{◌≡◌, ℕ, ◌+◌, ◌-◌, ◌*◌, ◌≤◌, Bool, true, false, length, slice_get, Option, Some, None, vec_len, vec_capacity}
+use Rattle.std.specs.VecDeque.{deque_len, deque_capacity}
+use Rattle.pm_device.specs.State.{State}
+use Rattle.dn_model.specs.Counts.{total}
+use Rattle.dn_volume.specs.declared.background.Sharing.{Sharing}
+use Rattle.dn_volume.specs.declared.background.SharingStep.{SharingStep}
+use Rattle.dn_volume.specs.declared.background.SharingStep.TheVariants.{Look, Remap, Settle}
+use Rattle.dn_volume.specs.declared.flight.Flight.{Flight}
+use Rattle.dn_volume.specs.declared.flight.Change.{Change}
+use Rattle.dn_volume.specs.declared.flight.Change.TheVariants.{Data, Names}
+use Rattle.dn_volume.specs.declared.flight.DataChange.{DataChange}
+use Rattle.dn_volume.specs.declared.volume.InodeState.{InodeState}
+use Rattle.dn_volume.specs.declared.volume.Parts.{Parts}
+use Rattle.dn_volume.specs.declared.volume.Room.{Room}
+use Rattle.dn_volume.specs.Parties.{Flies, flight_at}
+use Rattle.dn_volume.specs.Reclaims.{one_if}
+
+-- What has to stand before a commit of names is stored once: the slots with their links, and an inode's words.
+abbrev pub prepared_units : Bool → ℕ → ℕ
+prepared_units true slots = 0
+prepared_units false slots = 9 * slots + 4
+
+-- what an operation is owed. A fill stores and flushes a page and fences; a raise stores, flushes and fences a word; a
+-- commit stores its slots and links, or what the journal takes.
+abbrev pub units_by : Flight → Change → ℕ
+units_by f (Data c) = 600 * (length c.blocks.items - c.filled) + 3 * (length f.rows.items - f.raised) + 9 * (length f.slots.items + length f.fresh.items) + 10
+units_by f (Names c) = prepared_units c.prepared (length f.slots.items + length f.fresh.items) + 25
+
+abbrev pub runs_by : Change → ℕ
+runs_by (Data c) = length c.runs.items
+runs_by (Names c) = 0
+
+abbrev pub owed_to : Option Flight → Room
+owed_to None = record { units = 0; trace = 0; history = 0; queue = 0; releases = 0 }
+owed_to (Some f) = record { units = units_by f f.change; trace = length f.rows.items - f.raised; history = 1; queue = runs_by f.change; releases = length f.rows.items }
+
+-- the sum of a kind of room over all operations
+abbrev pub owed_sum : Parts → (Room → ℕ) → ℕ
+owed_sum b kind = total 14 (λ k. kind (owed_to (flight_at b.flights.items k)))
+
+-- What the daemon's item is owed: for each place at most an insertion, a raise, a mask, a commit and a settling, and a
+-- flag in the end. Of the place at which it is, it is owed what its step has left.
+abbrev pub units_spent : SharingStep → ℕ
+units_spent Look = 0
+units_spent (Remap slot) = 10
+units_spent (Settle slot) = 60
+
+abbrev pub changes_spent : SharingStep → ℕ
+changes_spent Look = 0
+changes_spent (Remap slot) = 1
+changes_spent (Settle slot) = 1
+
+abbrev pub units_to_share : Option Sharing → ℕ
+units_to_share None = 0
+units_to_share (Some sharing) = 20 + 100 * (sharing.count - sharing.done) - units_spent sharing.step
+
+abbrev pub changes_to_share : Option Sharing → ℕ
+changes_to_share None = 0
+changes_to_share (Some sharing) = 2 * (sharing.count - sharing.done) - changes_spent sharing.step
+
+-- the room that is owed covers them; a raised dying place is owed its release, and a zero check its units
+pub record Owes (b : Parts) : Type 0 where
+  pub units : owed_sum b (λ room. room.units) + units_to_share b.sharing + 20 * one_if b.reclaiming.raised + 20 * one_if b.reclaiming.zero_check ≤ b.owed.units
+  pub trace : owed_sum b (λ room. room.trace) + changes_to_share b.sharing ≤ b.owed.trace
+  pub history : owed_sum b (λ room. room.history) ≤ b.owed.history
+  pub queue : owed_sum b (λ room. room.queue) ≤ b.owed.queue
+  pub releases : owed_sum b (λ room. room.releases) + one_if b.reclaiming.raised ≤ b.owed.releases
+
+-- and it is there
+pub record HasRoom (b : Parts) (s : State) : Type 0 where
+  pub owes : Owes b
+  pub units : b.owed.units ≤ s.spare
+  pub trace : vec_len b.trace + b.owed.trace ≤ vec_capacity b.trace
+  pub history : vec_len b.history + b.owed.history ≤ vec_capacity b.history
+  pub queue : b.owed.queue ≤ b.queue.room
+  pub releases : deque_len b.reclaiming.releases + b.owed.releases ≤ deque_capacity b.reclaiming.releases
+  pub names : b.owed.history ≤ b.names.room
+  pub places : (who : ℕ) (f : Flight) (c : DataChange) (n : InodeState) → Flies b who f → f.change ≡ Data c → slice_get b.inodes.items f.ino ≡ Some n → length c.blocks.items ≤ n.map.room

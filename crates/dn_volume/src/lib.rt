@@ -1,0 +1,29 @@
+//! A mounted volume: a device, what is kept in memory of its image, and the work that is under way.
+//!
+//! Clients are the actors 1 to 14, the daemon that shares pages is actor 15, and reclaim is actor 16. The fields are
+//! for the machines, each of whose calls is one event: it leads from one state of the image to the next.
+#![tactic(auto)]
+
+pub mod background;
+pub mod flight;
+pub mod laws;
+pub mod outcome;
+pub mod rest;
+pub mod volume;
+
+pub use background::{DyingPlace, Reclaiming, Sharing, SharingStep};
+pub use flight::{Change, DataChange, Flight, NameChange, Turn};
+pub use outcome::{CountChange, Outcome};
+pub use volume::{InodeState, InodeUse, Parts, Room, Volume};
+
+/// The number of clients: actors 1 to 14.
+pub const CLIENTS: u32 = 14;
+
+/// The actor of the daemon that shares pages.
+pub const DAEMON: u32 = 15;
+
+/// The actor of reclaim.
+pub const RECLAIM: u32 = 16;
+
+/// The most waiting releases.
+pub const MOST_RELEASES: u64 = 1048576;

@@ -1,0 +1,146 @@
+-- The last event of a write.
+use Rattle.std.proofs.Common.{◌≡◌, ◌≢◌, ⊎_elim, ℕ, ◌+◌, ◌-◌, ◌*◌, ◌<◌, ◌≤◌, true, List, [], ◌∷◌, ◌++◌, length, refl, sym, ◌∙◌, ap, subst, arith}
+use Rattle.std.proofs.lemmas.Bool.{cases_eq}
+use Rattle.std.proofs.lemmas.List.{append-nil}
+use Rattle.std.specs.Prelude.{slice_get, Some, All}
+use Rattle.pm_device.specs.State.{State, Rose}
+use Rattle.pm_device.specs.Settled.{LeavesOnly}
+use Rattle.pm_layout.specs.declared.Geometry.{Geometry}
+use Rattle.pm_layout.specs.Geometry.{IsAccepted, slots}
+use Rattle.dn_model.specs.Log.{count, tail_at}
+use Rattle.dn_model.specs.Table.{Row}
+use Rattle.dn_model.specs.Disk.{Disk, rows}
+use Rattle.dn_model.specs.Files.{files, IsSameFiles}
+use Rattle.dn_model.specs.Own.{Print}
+use Rattle.dn_model.specs.Apply.{IsGranted, Grants, after_op}
+use Rattle.dn_model.specs.declared.op.Op.{Op}
+use Rattle.dn_model.specs.declared.op.Op.TheVariants.{Write}
+use Rattle.dn_model.specs.declared.op.Reply.TheVariants.{Done}
+use Rattle.dn_changes.specs.Writing.{Writes}
+use Rattle.dn_changes.proofs.WriteValid.{rows_kept}
+use Rattle.dn_volume.specs.declared.flight.Flight.{Flight}
+use Rattle.dn_volume.specs.declared.flight.Change.TheVariants.{Data}
+use Rattle.dn_volume.specs.declared.flight.DataChange.{DataChange}
+use Rattle.dn_volume.specs.declared.outcome.CountChange.{CountChange}
+use Rattle.dn_volume.specs.declared.volume.InodeState.{InodeState}
+use Rattle.dn_volume.specs.declared.volume.Parts.{Parts}
+use Rattle.dn_volume.specs.declared.volume.Volume.{Volume}
+use Rattle.dn_volume.specs.Parties.{Flies, flight_at}
+use Rattle.dn_volume.specs.Flights.{IsDataFlight, left_by, left_of}
+use Rattle.dn_volume.specs.Events.{IsBetween, word_in, Counts, Answers, Breaks}
+use Rattle.dn_volume.specs.Agrees.{IsVolume}
+use Rattle.file_commit.specs.Append.{AppendsBetween, AppendsNew, AppendsThere, SettlesItems, IsReadyToAppend}
+use Rattle.file_ops.specs.Ends.{EndsFlight, Ends}
+use Rattle.file_ops.specs.Giving.{Gives, IsUnsharedAmong}
+use Rattle.file_ops.specs.Ending.{FinishesParts}
+use Rattle.dn_volume.proofs.Kept.{ops_at}
+use Rattle.dn_volume.proofs.Between.{old_or_new}
+use Rattle.file_ops.proofs.Basics.{same_others}
+use Rattle.file_ops.proofs.Accounted.{write_accounts}
+use Rattle.file_ops.proofs.After.{volume_after}
+use Rattle.file_ops.proofs.DiskAfter.{after, event, changes, ready, own_after, files_after, granted}
+use Rattle.file_ops.proofs.Ended.{IsOut, all_ends}
+
+module _ {D F : Type 0} (state : D → State) (print : Print) (v v' : Volume D F) (d : Disk) (who : ℕ) (f : Flight) (c : DataChange) (is_v : IsVolume d v.parts (state v.device)) (flies : Flies v.parts who f) (kind : f.change ≡ Data c)
+    (is : IsDataFlight d who f c (state v.device)) (name : List ℕ) (at : ℕ) (text : List ℕ) (op_is : f.op ≡ Write name at text) (all_filled : c.filled ≡ length c.blocks.items) (all_raised : f.raised ≡ length f.rows.items)
+    (between_them : AppendsBetween v.parts.geometry who f.ino f.fresh.items f.slots.items (state v.device) (state v'.device))
+    (there : AppendsThere v.parts.geometry who f.ino f.fresh.items f.slots.items (state v.device) (state v'.device)) (faults : (state v.device).faults ≤ (state v'.device).faults) where
+  abbrev e : Disk
+  e = after d v.parts (state v.device) who f c is_v flies kind is name at text op_is all_filled all_raised
+
+  abbrev w : Writes f.ino d e
+  w = event d v.parts (state v.device) who f c is_v flies kind is name at text op_is all_filled all_raised
+
+  ready_here : IsReadyToAppend v.parts.geometry who f.ino f.fresh.items f.slots.items d e w (state v.device)
+  ready_here = subst (λ (g : Geometry). IsReadyToAppend g who f.ino f.fresh.items f.slots.items d e w (state v.device)) is_v.fast.geometry (ready d v.parts (state v.device) who f c is_v flies kind is name at text op_is all_filled all_raised)
+
+  images : LeavesOnly (state v.device) (state v'.device) (IsBetween print d e)
+  images = old_or_new print d e (state v.device) (state v'.device) (own_after d v.parts (state v.device) who f c is_v flies kind is name at text op_is all_filled all_raised print) (between_them d e w ready_here)
+
+  -- one event is left of it
+  last_left : 1 ≡ left_of f
+  last_left = one (length c.blocks.items) c.filled (length f.rows.items) f.raised all_filled all_raised ∙ ap (left_by f) (sym kind)
+    where
+      one : (blocks filled rows raised : ℕ) → filled ≡ blocks → raised ≡ rows → 1 ≡ (blocks - filled) + (rows - raised) + 1
+      one blocks filled rows raised full all = omega (arith, full, all)
+
+  -- it failed
+  pub breaks : (op : Op) → f.op ≡ op → v'.parts.stopped ≡ true → v'.parts.geometry ≡ v.parts.geometry → v'.parts.trace ≡ v.parts.trace → v'.parts.history ≡ v.parts.history → Counts v.parts v'.parts
+      → Rose (state v.device).faults (state v'.device).faults
+      → flight_at v'.parts.flights.items (who - 1) ≡ Some f → ((k : ℕ) → k ≢ who - 1 → flight_at v'.parts.flights.items k ≡ flight_at v.parts.flights.items k) → Breaks state print who (Some op) v v' d
+  breaks op same stopped geometry trace history counts rose back others = record {
+    stopped = record {
+      stopped = stopped;
+      accepted = subst IsAccepted (is_v.fast.geometry ∙ sym geometry) is_v.fast.valid.accepted;
+      long = (there d e w ready_here).only.words ∙ is_v.fast.long ∙ ap (λ (g : Geometry). 512 * g.pages) (is_v.fast.geometry ∙ sym geometry);
+      trace = subst (λ (g : Geometry). All (λ (change : CountChange). change.slot < slots g) v'.parts.trace.items) (sym geometry)
+          (subst (λ tr. All (λ (change : CountChange). change.slot < slots v.parts.geometry) tr.items) (sym trace) is_v.trace);
+    };
+    after = e;
+    images = images;
+    rose = rose;
+    quiet = λ none. cc;
+    ops = ops_at v.parts v'.parts all_same;
+    answering = λ o is_o own.
+        let whole : f.op ≡ o = same ∙ some_op op o is_o in (
+          subst (IsGranted (files d)) whole (granted d v.parts (state v.device) who f c is_v flies kind is name at text op_is all_filled all_raised),
+          subst (λ (x : Op). IsSameFiles (files e) (after_op (files d) x)) whole (files_after d v.parts (state v.device) who f c is_v flies kind is name at text op_is all_filled all_raised print own),
+        );
+    answered = λ o is_o. record { flight = f; flies = record { client = flies.client; is = back }; op_is = same ∙ some_op op o is_o; left_is = last_left };
+    history = ap (λ h. h.items) history;
+    counts = counts;
+    faults = faults;
+  }
+    where
+      some_op : (a b : Op) → Some a ≡ Some b → a ≡ b
+      some_op a b e = cc
+
+      all_same : (k : ℕ) → flight_at v'.parts.flights.items k ≡ flight_at v.parts.flights.items k
+      all_same k = ⊎_elim (λ here. subst (λ (j : ℕ). flight_at v'.parts.flights.items j ≡ flight_at v.parts.flights.items j) (sym here) (back ∙ sym flies.is)) (λ away. others k away) (cases_eq k (who - 1))
+
+  -- it is done
+  module _ (stands : AppendsNew v.parts.geometry who f.ino f.fresh.items f.slots.items (state v.device) (state v'.device))
+      (settles : SettlesItems who (state v.device) (state v'.device)) (spare : (state v.device).spare ≤ (state v'.device).spare + 9 * (length f.slots.items + length f.fresh.items) + 4)
+      (node : InodeState) (node_is : slice_get v.parts.inodes.items f.ino ≡ Some node)
+      (mid : Parts) (tail : ℕ) (tail_is : tail ≡ tail_at (d.inode f.ino).log.pages (count (d.inode f.ino).log)) (out : IsOut v.parts mid) (ended : EndsFlight who v.parts mid)
+      (gives : Gives (IsUnsharedAmong d node.map.map c.first (length c.blocks.items)) v.parts.free mid.free) (finish : FinishesParts who tail f c mid v'.parts) where
+    ends : Ends d e who f c c.first (length c.blocks.items) v.parts v'.parts
+    ends = all_ends d v.parts (state v.device) who f c is_v flies kind is name at text op_is all_filled all_raised node node_is mid v'.parts tail tail_is out ended gives finish
+
+    pub volume_now : IsVolume e v'.parts (state v'.device)
+    volume_now = volume_after d e v.parts v'.parts (state v.device) (state v'.device) who f c c.first (length c.blocks.items) is_v flies kind is all_raised
+        (changes d v.parts (state v.device) who f c is_v flies kind is name at text op_is all_filled all_raised) ends (stands d e w ready_here) (there d e w ready_here) settles (omega (arith, spare))
+
+    rows_same : rows e ≡ rows d
+    rows_same = rows_kept f.ino d e w
+
+    pub answers : (op : Op) → f.op ≡ op → Counts v.parts v'.parts → Answers state print who op Done v v' d
+    answers op same counts = record {
+      after = e;
+      moves = record {
+        volume = volume_now;
+        images = images;
+        own = own_after d v.parts (state v.device) who f c is_v flies kind is name at text op_is all_filled all_raised print;
+        accounts = λ own. write_accounts f.ino d e w (changes d v.parts (state v.device) who f c is_v flies kind is name at text op_is all_filled all_raised).well print;
+        traces = record {
+          more = [];
+          trace = ap (λ tr. tr.items) ends.keeps.trace ∙ sym (append-nil v.parts.trace.items);
+          words = λ slot. ap (λ (rs : List Row). word_in rs slot) rows_same;
+        };
+        others = same_others v.parts v'.parts who f flies ends.keeps ends.flight;
+        counts = counts;
+        geometry = ends.keeps.geometry;
+        faults = faults;
+      };
+      entry = record { who = who; op = f.op; reply = Done };
+      history = finish.history ∙ ap (λ h. h.items ++ record { who = who; op = f.op; reply = Done } ∷ []) out.history;
+      who_is = refl;
+      op_is = same;
+      reply_is = refl;
+      done = refl;
+      granted = subst (IsGranted (files d)) same (granted d v.parts (state v.device) who f c is_v flies kind is name at text op_is all_filled all_raised);
+      grants = subst (λ (o : Op). Grants (files d) o Done) (sym op_is ∙ same) refl;
+      files_after = λ own. subst (λ (x : Op). IsSameFiles (files e) (after_op (files d) x)) same (files_after d v.parts (state v.device) who f c is_v flies kind is name at text op_is all_filled all_raised print own);
+      flew = record { flight = f; flies = flies; op_is = same; left_is = last_left };
+      landed = ends.flight.landed;
+    }

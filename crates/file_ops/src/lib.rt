@@ -1,0 +1,8 @@
+//! Changes of a file's data: writes and cuts, each a row of events of which the last makes it part of the image.
+#![tactic(auto)]
+
+pub mod commit;
+pub mod ending;
+pub mod giving;
+
+pub use commit::commit_write;

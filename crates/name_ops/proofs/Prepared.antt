@@ -1,0 +1,342 @@
+-- The first advance of a creation stores and flushes what has to stand before its commit, and goes on.
+use Rattle.std.proofs.Common.{◌≡◌, ◌≢◌, ◌⊎◌, inl, ⊎_elim, ℕ, ◌+◌, ◌-◌, ◌*◌, ◌<◌, ◌≤◌, Bool, List, [], ◌∷◌, ◌++◌, length, refl, sym, ◌∙◌, ap, subst, arith, Some}
+use Rattle.std.specs.Prelude.{◌/◌, Contains, All, slice_get, slice_index, vec_len, vec_capacity}
+use Rattle.std.specs.VecDeque.{deque_len, deque_capacity}
+use Rattle.std.proofs.lemmas.List.{append-nil}
+use Rattle.std.proofs.lemmas.List.Elements.{Contains-append_cases}
+use Rattle.std.proofs.lemmas.Grind.{get_or_default_zero}
+use Rattle.pm_device.specs.State.{State, Agree}
+use Rattle.pm_device.specs.Settled.{LeavesOnly}
+use Rattle.pm_device.specs.Reading.{Said, IsReady}
+use Rattle.pm_device.specs.Words.{IsIn}
+use Rattle.pm_device.specs.Pages.{IsInPage}
+use Rattle.pm_device.proofs.Only.{stores_only-weaken, stores_only-then}
+use Rattle.pm_device.proofs.Layers.{leaves_only-then}
+use Rattle.pm_device.proofs.Moments.{leaves_only-weaken}
+use Rattle.pm_layout.specs.declared.Geometry.{Geometry}
+use Rattle.pm_layout.specs.Geometry.{inode_word, slots}
+use Rattle.dn_model.specs.Log.{Log, count, tail_at}
+use Rattle.dn_model.specs.Growth.{Prepared, new_head, new_footer, new_slot}
+use Rattle.dn_model.specs.Disk.{Disk, IsUsed}
+use Rattle.dn_model.specs.Image.{StandsFor}
+use Rattle.dn_model.specs.Own.{Print}
+use Rattle.dn_name_changes.specs.NameChange.{NameChange as DiskChange, MayChange, FreshNames, root_after}
+use Rattle.dn_name_changes.specs.Operations.{creation}
+use Rattle.dn_name_changes.specs.NameLaws.{StandsStill}
+use Rattle.dn_name_changes.proofs.ChangedValid.{root_paged}
+use Rattle.dn_name_changes.proofs.Places.{prepared_place, high_not_inode}
+use Rattle.dn_name_changes.proofs.Commits.{root_stores, turn_stores, turn_ready, fresh_ready}
+use Rattle.dn_volume.specs.declared.flight.Flight.{Flight}
+use Rattle.dn_volume.specs.declared.flight.Change.TheVariants.{Data, Names}
+use Rattle.dn_volume.specs.declared.flight.DataChange.{DataChange}
+use Rattle.dn_volume.specs.declared.flight.NameChange.{NameChange}
+use Rattle.dn_volume.specs.declared.outcome.CountChange.{CountChange}
+use Rattle.dn_volume.specs.declared.volume.InodeState.{InodeState}
+use Rattle.dn_volume.specs.declared.volume.Parts.{Parts}
+use Rattle.dn_volume.specs.declared.volume.Room.{Room}
+use Rattle.dn_volume.specs.Parties.{Flies, by_client, SameOthers, KeepsOps, flight_at, blocks_of}
+use Rattle.dn_volume.specs.Inodes.{AreNamesOf, AreInodesOf}
+use Rattle.dn_volume.specs.Space.{AreSlotsOf}
+use Rattle.dn_model.specs.Counts.{total}
+use Rattle.dn_model.specs.History.{needed}
+use Rattle.file_content.specs.Pages.{AreApart}
+use Rattle.dn_volume.specs.PlannedNames.{PlansCreate, PlansNames}
+use Rattle.dn_volume.specs.Flights.{IsFlight, IsNameFlight, GrowsBy}
+use Rattle.dn_volume.specs.Reserve.{HasRoom, owed_sum, owed_to, units_by, prepared_units, runs_by, units_to_share, changes_to_share}
+use Rattle.dn_volume.specs.Reclaims.{one_if, dying_units}
+use Rattle.dn_volume.specs.Agrees.{StandsFast, IsVolume}
+use Rattle.dn_volume.specs.Rely.{IsWordOf, of_inode, of_log, of_page, LeavesRest, KeepsRest, StayInHand}
+use Rattle.dn_volume.specs.Events.{IsBetween}
+use Rattle.dn_volume.specs.Steps.{StepsOn}
+use Rattle.dn_changes.proofs.Counting.{total-change}
+use Rattle.dn_volume.proofs.Kept.{quiet_accounts}
+use Rattle.dn_volume.proofs.OthersStay.{others_stay}
+use Rattle.dn_volume.proofs.Stills.{still_flushes}
+use Rattle.dn_volume.proofs.Stepped.{others_same, Whose, whose, its_own, another, ops_kept, same_holders, same_space, same_counts, same_queue, who_few}
+use Rattle.name_ops.specs.Preparing.{StoresCreation, with_change, prepared_change, Prepares, IsToPrepareCreate, CreationsPrepare}
+use Rattle.name_ops.proofs.Planned.{flight, plan, same_change, fresh_taken_by, changes, held_is}
+
+module _ (d : Disk) (b b' : Parts) (s u t : State) (who : ℕ) (f : Flight) (name : List ℕ) (c : NameChange) (tail : ℕ) (volume : IsVolume d b s) (agree_u : Agree u.now u.past) (agree_t : Agree t.now t.past)
+    (to : IsToPrepareCreate b who f name c)
+    (stores : StoresCreation d who (creation name c.node f.fresh.items) (9 * (length f.slots.items + length f.fresh.items) + 4) s u t)
+    (tail_is : tail ≡ tail_at (root_after d (creation name c.node f.fresh.items)).pages (count (root_after d (creation name c.node f.fresh.items))))
+    (prepares : Prepares who f c tail b b') where
+  abbrev change : DiskChange
+  change = creation name c.node f.fresh.items
+
+  abbrev f' : Flight
+  f' = with_change f (Names (prepared_change c tail))
+
+  abbrev st : StepsOn who f f' b b'
+  st = prepares.steps
+
+  abbrev all14 : length b.flights.items ≡ 14
+  all14 = volume.flights.clients
+
+  can : MayChange d change
+  can = changes d b s who f name c volume to.flies to.op_is to.change_is
+
+  abbrev fl : IsNameFlight d who f c s
+  fl = flight d b s who f name c volume to.flies to.op_is to.change_is
+
+  pl : PlansCreate d f name fl.change
+  pl = plan d b s who f name c volume to.flies to.op_is to.change_is
+
+  change_same : fl.change ≡ change
+  change_same = same_change d b s who f name c volume to.flies to.op_is to.change_is
+
+  abbrev new : Log
+  new = root_after d change
+
+  abbrev Root : ℕ → Type 0
+  Root = Said (Prepared 0 (d.inode 0).log new)
+
+  abbrev Turn' : ℕ → Type 0
+  Turn' = IsIn (inode_word c.node 1) 3
+
+  long_u : length u.now ≡ 512 * d.geometry.pages
+  long_u = stores.prepared.only.words ∙ volume.fast.long
+
+  long_t : length t.now ≡ 512 * d.geometry.pages
+  long_t = stores.cleared.only.words ∙ long_u
+
+  root_still : StandsStill d s u
+  root_still = root_stores d change can s u stores.prepared.only volume.fast.stands agree_u long_u
+
+  turn_still : StandsStill d u t
+  turn_still = turn_stores d change can u t stores.cleared.only root_still.stands agree_t long_t
+
+  pub images : LeavesOnly s t (λ c. StandsFor c d)
+  images = leaves_only-then s u t (λ c. StandsFor c d) root_still.images turn_still.images
+
+  fast : StandsFast d b'.geometry t
+  fast = record { geometry = volume.fast.geometry ∙ sym st.geometry; long = long_t; valid = volume.fast.valid; stands = turn_still.stands }
+
+  -- what was prepared still stands once the inode is cleared
+  not_turned : (a v : ℕ) → Prepared 0 (d.inode 0).log new a v → Turn' a → ⊥
+  not_turned a v told here = ⊎_elim
+      (λ head. let file = fl.file in omega (arith, head, file, here.0))
+      (λ high. high_not_inode d.geometry a c.node (a - inode_word c.node 0) high fl.node_in_table (omega (arith, here.0, here.1)) (omega (arith, here.0)))
+      (prepared_place d.geometry 0 (d.inode 0).log new a v (root_paged d change can) told)
+
+  root_ready : IsReady who (Prepared 0 (d.inode 0).log new) t
+  root_ready =
+      let was = stores.prepared.ready in
+      record {
+        within = λ a v told. let lt = was.within a v told in let same = stores.cleared.only.words in omega (arith, lt, same);
+        reads = λ a v told. stores.cleared.only.read a (not_turned a v told) ∙ was.reads a v told;
+        flushed = λ a v told. stores.cleared.keeps who a (not_turned a v told) (was.within a v told) (was.flushed a v told);
+      }
+
+  ready : IsReady who (FreshNames d change) t
+  ready = fresh_ready d change who t root_ready (turn_ready d change can who u t long_u stores.cleared)
+
+  taken_same : blocks_of f.change ≡ []
+  taken_same = ap blocks_of to.change_is
+
+  grows : GrowsBy d f'
+  grows = record {
+    in_table = fl.grows.in_table;
+    live = fl.grows.live;
+    holds = fl.grows.holds;
+    room = fl.grows.room;
+    apart = subst (λ (xs : List ℕ). AreApart (f.fresh.items ++ f.spare.items ++ xs)) taken_same fl.grows.apart;
+    takes = subst (λ (xs : List ℕ). length (f.fresh.items ++ f.spare.items ++ xs) ≡ needed d f.op) taken_same fl.grows.takes;
+    undying = fl.grows.undying;
+  }
+
+  own_flight : IsFlight d who f' t
+  own_flight = record {
+    root = fl.root;
+    grows = grows;
+    change = fl.change;
+    plans = subst (PlansNames d f' fl.change) (sym to.op_is) (record { legal = pl.legal; unnamed = pl.unnamed; free = pl.free; held = pl.held; is = pl.is });
+    node_is = fl.node_is;
+    turn_is = fl.turn_is;
+    file = fl.file;
+    node_in_table = fl.node_in_table;
+    holds_node = fl.holds_node;
+    slots = fl.slots;
+    no_rows = fl.no_rows;
+    ready = λ set. subst (λ (x : DiskChange). IsReady who (FreshNames d x) t) (sym change_same) ready;
+    tail = λ set. subst (λ (x : DiskChange). tail ≡ tail_at (root_after d x).pages (count (root_after d x))) (sym change_same) tail_is;
+  }
+
+  -- what is left to others
+  abbrev inodes : List ℕ
+  inodes = 0 ∷ c.node ∷ []
+
+  in_pages : (k : ℕ) → k < length new.pages → Contains ((d.inode 0).log.pages) (slice_index new.pages k) ⊎ Contains f.fresh.items (slice_index new.pages k)
+  in_pages k lt = Contains-append_cases (d.inode 0).log.pages f.fresh.items (slice_index new.pages k) (k, lt, get_or_default_zero new.pages k (slice_index new.pages k) lt)
+
+  of_new_page : (k a : ℕ) → k < length new.pages → IsInPage (slice_index new.pages k) a → IsWordOf inodes f.fresh.items d a
+  of_new_page k a lt here = ⊎_elim
+      (λ old. of_log 0 (slice_index new.pages k) (0, omega arith, refl) (let few = fl.node_in_table in omega (arith, few)) (subst IsUsed (sym volume.fast.valid.root) tt) old here)
+      (λ fresh. of_page (slice_index new.pages k) fresh here) (in_pages k lt)
+
+  of_root : (a : ℕ) → Root a → IsWordOf inodes f.fresh.items d a
+  of_root a said = by_case said.value said.told
+    where
+      by_case : (v : ℕ) → Prepared 0 (d.inode 0).log new a v → IsWordOf inodes f.fresh.items d a
+      by_case v (new_head none some place value) = of_inode 0 (0, omega arith, refl) (let few = fl.node_in_table in omega (arith, few)) (omega (arith, place), omega (arith, place))
+      by_case v (new_footer k late lt place value) = of_new_page k a (omega (arith, lt)) (omega (arith, place), omega (arith, place))
+      by_case v (new_slot k j late lt word place value) =
+          let fits = (root_paged d change can).fits in
+          of_new_page (k / 63) a (omega (arith, lt, fits)) (omega (arith, place, word), omega (arith, place, word))
+
+  of_turn : (a : ℕ) → Turn' a → IsWordOf inodes f.fresh.items d a
+  of_turn a here = of_inode c.node (1, omega arith, refl) fl.node_in_table (omega (arith, here.0), omega (arith, here.1))
+
+  rest : KeepsRest inodes f.fresh.items d d
+  rest = record {
+    geometry = refl;
+    inode = λ i out. refl;
+    named_so = λ i other some out. ((λ is. is), (λ is. is));
+    word = λ page k read. refl;
+    unused = λ page out unused. unused;
+    slots = λ i idx m out is. refl;
+    counting = λ row has some. record { still = row; there = has; slot = refl; page = refl; print = refl };
+  }
+
+  leaves : LeavesRest who inodes f.fresh.items d d s t
+  leaves = record {
+    rest = rest;
+    only = stores_only-then (IsWordOf inodes f.fresh.items d) s u t (stores_only-weaken Root (IsWordOf inodes f.fresh.items d) s u of_root stores.prepared.only)
+        (stores_only-weaken Turn' (IsWordOf inodes f.fresh.items d) u t of_turn stores.cleared.only);
+    others = λ q a other out lt flushed.
+        stores.cleared.keeps q a (λ here. out (of_turn a here)) (let same = stores.prepared.only.words in omega (arith, lt, same)) (stores.prepared.keeps q a (λ said. out (of_root a said)) lt flushed);
+  }
+
+  same : SameOthers who b b'
+  same = others_same who f f' b b' all14 st
+
+  stay : ((q : ℕ) (g : Flight) → q ≢ who → Flies b' q g → IsFlight d q g t) × StayInHand who d b'
+  stay = others_stay who inodes f.fresh.items d d b b' s t volume (subst (λ (g : Geometry). StandsFast d g t) st.geometry fast)
+      (record {
+        inode = λ i has. inl (by_client f to.flies (subst (λ (xs : List ℕ). Contains xs i) (sym (held_is d b s who f name c volume to.flies to.op_is to.change_is)) has));
+        page = λ page has. inl (fresh_taken_by d b s who f name c volume to.flies to.op_is to.change_is page has);
+      })
+      leaves same (λ other. ap (λ r. r.raised) st.reclaiming)
+
+  each : (q : ℕ) (g : Flight) → Flies b' q g → IsFlight d q g t
+  each q g flies = by (whose who f f' b b' all14 st q g flies)
+    where
+      by : Whose who f f' b b' all14 st q g → IsFlight d q g t
+      by (its_own same' is) = subst (λ (n : ℕ). IsFlight d n g t) (sym same') (subst (λ (h : Flight). IsFlight d who h t) (sym is) own_flight)
+      by (another other was) = stay.0 q g other flies
+
+  -- room
+  owed_moved : (kind : Room → ℕ) → owed_sum b' kind + kind (owed_to (Some f)) ≡ owed_sum b kind + kind (owed_to (Some f'))
+  owed_moved kind =
+      let client = to.flies.client in
+      let few = who_few who f f' b b' all14 st in
+      let moved = total-change (λ k. kind (owed_to (flight_at b.flights.items k))) (λ k. kind (owed_to (flight_at b'.flights.items k))) 14 (who - 1) (omega (arith, client, few))
+      (λ k other. ap (λ r. kind (owed_to r)) (st.others k other)) in
+      let before : kind (owed_to (flight_at b.flights.items (who - 1))) ≡ kind (owed_to (Some f)) = ap (λ r. kind (owed_to r)) to.flies.is in
+      let after : kind (owed_to (flight_at b'.flights.items (who - 1))) ≡ kind (owed_to (Some f')) = ap (λ r. kind (owed_to r)) st.now.is in
+      omega (arith, moved, before, after)
+
+  units_was : (owed_to (Some f)).units ≡ (9 * (length f.slots.items + length f.fresh.items) + 4) + 25
+  units_was = ap (units_by f) to.change_is ∙ ap (λ (x : Bool). prepared_units x (length f.slots.items + length f.fresh.items) + 25) to.unprepared
+
+  queue_was : (owed_to (Some f)).queue ≡ 0
+  queue_was = ap runs_by to.change_is
+
+  room : HasRoom b' t
+  room =
+      let was = volume.room in
+      let m_units = owed_moved (λ r. r.units) in
+      let m_trace = owed_moved (λ r. r.trace) in
+      let m_history = owed_moved (λ r. r.history) in
+      let m_queue = owed_moved (λ r. r.queue) in
+      let m_releases = owed_moved (λ r. r.releases) in
+      let o_units = prepares.owed_units in
+      let o_trace = prepares.owed_trace in
+      let o_history = prepares.owed_history in
+      let o_queue = prepares.owed_queue in
+      let o_releases = prepares.owed_releases in
+      let w_units = was.owes.units in
+      let w_trace = was.owes.trace in
+      let w_history = was.owes.history in
+      let w_queue = was.owes.queue in
+      let w_releases = was.owes.releases in
+      let spare = stores.spare in
+      record {
+        owes = record {
+          units = subst (λ x. owed_sum b' (λ r. r.units) + units_to_share x + 20 * one_if b'.reclaiming.raised + 20 * one_if b'.reclaiming.zero_check ≤ b'.owed.units) (sym st.sharing)
+              (subst (λ x. owed_sum b' (λ r. r.units) + units_to_share b.sharing + 20 * one_if x.raised + 20 * one_if x.zero_check ≤ b'.owed.units) (sym st.reclaiming) (omega (arith, m_units, o_units, w_units, units_was)));
+          trace = subst (λ x. owed_sum b' (λ r. r.trace) + changes_to_share x ≤ b'.owed.trace) (sym st.sharing) (omega (arith, m_trace, o_trace, w_trace));
+          history = omega (arith, m_history, o_history, w_history);
+          queue = omega (arith, m_queue, o_queue, w_queue, queue_was);
+          releases = subst (λ x. owed_sum b' (λ r. r.releases) + one_if x.raised ≤ b'.owed.releases) (sym st.reclaiming) (omega (arith, m_releases, o_releases, w_releases));
+        };
+        units = let there = was.units in omega (arith, there, o_units, spare);
+        trace = subst (λ x. vec_len x + b'.owed.trace ≤ vec_capacity x) (sym prepares.trace) (let there = was.trace in omega (arith, there, o_trace));
+        history = subst (λ x. vec_len x + b'.owed.history ≤ vec_capacity x) (sym prepares.history) (let there = was.history in omega (arith, there, o_history));
+        queue = subst (λ x. b'.owed.queue ≤ x.room) (sym st.queue) (let there = was.queue in omega (arith, there, o_queue));
+        releases = subst (λ x. deque_len x.releases + b'.owed.releases ≤ deque_capacity x.releases) (sym st.reclaiming) (let there = was.releases in omega (arith, there, o_releases));
+        names = subst (λ x. b'.owed.history ≤ x.room) (sym st.names) (let there = was.names in omega (arith, there, o_history));
+        places = λ q g x n flies is at. places_on q g x n (whose who f f' b b' all14 st q g flies) is (subst (λ xs. slice_get xs.items g.ino ≡ Some n) st.inodes at);
+      }
+    where
+      no_data : (x : DataChange) → Names (prepared_change c tail) ≡ Data x → ⊥
+      no_data x is = cc is
+
+      places_on : (q : ℕ) (g : Flight) (x : DataChange) (n : InodeState) → Whose who f f' b b' all14 st q g → g.change ≡ Data x → slice_get b.inodes.items g.ino ≡ Some n → length x.blocks.items ≤ n.map.room
+      places_on q g x n (its_own same' is) data_is at = absurd (no_data x (sym (ap (λ (h : Flight). h.change) is) ∙ data_is))
+      places_on q g x n (another other was) data_is at = volume.room.places q g x n was data_is at
+
+  pub prepared_volume : IsVolume d b' t
+  prepared_volume = record {
+    fast = fast;
+    running = st.running;
+    names = subst (λ x. AreNamesOf d x.map) (sym st.names) volume.names;
+    inodes = subst (λ x. AreInodesOf d x.items) (sym st.inodes) volume.inodes;
+    holders = same_holders who f f' b b' all14 st d volume.holders;
+    space = same_space who f f' b b' all14 st d volume.space;
+    table = subst (AreSlotsOf d) (sym st.fact) volume.table;
+    counts = same_counts who f f' b b' all14 st (record { raised = refl }) (let same' = owed_moved (λ r. r.releases) in omega (arith, same')) d volume.counts;
+    flights = record { clients = st.clients ∙ all14; each = each };
+    queue = same_queue who f f' b b' all14 st d volume.queue;
+    sharing = stay.1.sharing (λ same'. let few = who_few who f f' b b' all14 st in omega (arith, few, same'));
+    reclaiming = record {
+      waiting = subst (λ r. r.waiting + one_if r.raised ≡ one_if r.zero_check + 2 * length r.releases.items + total d.geometry.inodes (dying_units d)) (sym st.reclaiming) volume.reclaiming.waiting;
+      zero_check = λ slot is. volume.reclaiming.zero_check slot (ap (λ r. r.zero_check) (sym st.reclaiming) ∙ is);
+      raised = stay.1.raised (λ same'. let few = who_few who f f' b b' all14 st in omega (arith, few, same'));
+    };
+    room = room;
+    trace = subst (λ (g : Geometry). All (λ (x : CountChange). x.slot < slots g) b'.trace.items) (sym st.geometry)
+        (subst (λ xs. All (λ (x : CountChange). x.slot < slots b.geometry) xs.items) (sym prepares.trace) volume.trace);
+    still = still_flushes who f' b b' s t stores.flushes st.now same volume.still;
+  }
+
+  pub moved : (print : Print) → IsVolume d b' t × LeavesOnly s t (IsBetween print d d)
+  moved print = (prepared_volume, leaves_only-weaken s t _ _ (λ x stands. between x stands) images)
+    where
+      between : (x : List ℕ) → StandsFor x d → IsBetween print d d x
+      between x stands = record { disk = d; stands_for = stands; own = λ is. is; same = inl (λ other. refl) }
+
+  pub ops : KeepsOps b b'
+  ops = ops_kept who f f' b b' all14 st
+
+  pub others : SameOthers who b b'
+  others = same
+
+pub creations_prepare : {D F : Type 0} (state : D → State) → CreationsPrepare D F state
+creations_prepare state print v v' u d who f name c tail volume agree_u agree_t to stores tail_is prepares counts = record {
+  after = d;
+  moves = record {
+    volume = (moved d v.parts v'.parts (state v.device) u (state v'.device) who f name c tail volume agree_u agree_t to stores tail_is prepares print).0;
+    images = (moved d v.parts v'.parts (state v.device) u (state v'.device) who f name c tail volume agree_u agree_t to stores tail_is prepares print).1;
+    own = λ own. own;
+    accounts = λ own. quiet_accounts print d;
+    traces = record { more = []; trace = ap (λ xs. xs.items) prepares.trace ∙ sym (append-nil v.parts.trace.items); words = λ slot. refl };
+    others = others d v.parts v'.parts (state v.device) u (state v'.device) who f name c tail volume agree_u agree_t to stores tail_is prepares;
+    counts = counts;
+    geometry = prepares.steps.geometry;
+    faults = stores.faults;
+  };
+  quiet = λ other. refl;
+  ops = ops d v.parts v'.parts (state v.device) u (state v'.device) who f name c tail volume agree_u agree_t to stores tail_is prepares;
+  history = ap (λ xs. xs.items) prepares.history;
+}

@@ -1,0 +1,62 @@
+-- What the first advance of an operation on names stores, and what it does to what is kept in memory.
+use Rattle.std.specs.Prelude.{◌≡◌, ℕ, ◌+◌, ◌*◌, ◌≤◌, true, false, List, [], ◌∷◌, length}
+use Rattle.pm_device.specs.State.{State, Agree}
+use Rattle.pm_device.specs.Lines.{StoresRun}
+use Rattle.pm_layout.specs.Geometry.{inode_word}
+use Rattle.inode_log.specs.Prepare.{IsPreparedBy}
+use Rattle.dn_model.specs.Log.{count, tail_at}
+use Rattle.dn_model.specs.Disk.{Disk}
+use Rattle.dn_model.specs.Own.{Print}
+use Rattle.dn_model.specs.declared.op.Op.TheVariants.{Create}
+use Rattle.dn_name_changes.specs.NameChange.{NameChange as DiskChange, root_after}
+use Rattle.dn_name_changes.specs.Operations.{creation}
+use Rattle.dn_volume.specs.declared.flight.Flight.{Flight}
+use Rattle.dn_volume.specs.declared.flight.Change.{Change}
+use Rattle.dn_volume.specs.declared.flight.Change.TheVariants.{Names}
+use Rattle.dn_volume.specs.declared.flight.NameChange.{NameChange}
+use Rattle.dn_volume.specs.declared.volume.Parts.{Parts}
+use Rattle.dn_volume.specs.declared.volume.Volume.{Volume}
+use Rattle.dn_volume.specs.Parties.{Flies}
+use Rattle.dn_volume.specs.StillLaws.{FlushesAll}
+use Rattle.dn_volume.specs.Steps.{StepsOn}
+use Rattle.dn_volume.specs.Agrees.{IsVolume}
+use Rattle.dn_volume.specs.Events.{Counts, MovesOn}
+
+-- the slots of the new name and their links were stored and flushed, and then the new inode was cleared
+pub record StoresCreation (d : Disk) (who : ℕ) (change : DiskChange) (units : ℕ) (s u t : State) : Type 0 where
+  pub prepared : IsPreparedBy who 0 (d.inode 0).log (root_after d change) s u
+  pub cleared : StoresRun who (inode_word change.ino 1) (0 ∷ 0 ∷ 0 ∷ []) u t
+  pub flushes : FlushesAll who s t
+  pub spare : s.spare ≤ t.spare + units
+  pub faults : s.faults ≤ t.faults
+
+abbrev pub with_change : Flight → Change → Flight
+with_change f change = record { op = f.op; held = f.held; ino = f.ino; slots = f.slots; fresh = f.fresh; spare = f.spare; rows = f.rows; raised = f.raised; change = change }
+
+abbrev pub prepared_change : NameChange → ℕ → NameChange
+prepared_change c tail = record { node = c.node; turn = c.turn; prepared = true; tail = tail }
+
+-- The operation is prepared, and the room for that is owed no more.
+pub record Prepares (who : ℕ) (f : Flight) (c : NameChange) (tail : ℕ) (b b' : Parts) : Type 0 where
+  pub steps : StepsOn who f (with_change f (Names (prepared_change c tail))) b b'
+  pub trace : b'.trace ≡ b.trace
+  pub history : b'.history ≡ b.history
+  pub owed_units : b.owed.units ≡ b'.owed.units + (9 * (length f.slots.items + length f.fresh.items) + 4)
+  pub owed_trace : b'.owed.trace ≡ b.owed.trace
+  pub owed_history : b'.owed.history ≡ b.owed.history
+  pub owed_queue : b'.owed.queue ≡ b.owed.queue
+  pub owed_releases : b'.owed.releases ≡ b.owed.releases
+
+pub record IsToPrepareCreate (b : Parts) (who : ℕ) (f : Flight) (name : List ℕ) (c : NameChange) : Type 0 where
+  pub flies : Flies b who f
+  pub op_is : f.op ≡ Create name
+  pub change_is : f.change ≡ Names c
+  pub unprepared : c.prepared ≡ false
+
+-- so the first advance of a creation goes on
+abbrev pub CreationsPrepare : (D F : Type 0) → (D → State) → Type 0
+CreationsPrepare D F state = (print : Print) (v v' : Volume D F) (u : State) (d : Disk) (who : ℕ) (f : Flight) (name : List ℕ) (c : NameChange) (tail : ℕ)
+    → IsVolume d v.parts (state v.device) → Agree u.now u.past → Agree (state v'.device).now (state v'.device).past → IsToPrepareCreate v.parts who f name c
+    → StoresCreation d who (creation name c.node f.fresh.items) (9 * (length f.slots.items + length f.fresh.items) + 4) (state v.device) u (state v'.device)
+    → tail ≡ tail_at (root_after d (creation name c.node f.fresh.items)).pages (count (root_after d (creation name c.node f.fresh.items)))
+    → Prepares who f c tail v.parts v'.parts → Counts v.parts v'.parts → MovesOn state print who v v' d

@@ -1,0 +1,4 @@
+//! Operations on names: files are created, removed and renamed. Each call is one event of a volume.
+#![tactic(auto)]
+
+pub mod laws;

@@ -1,0 +1,4 @@
+pub mod Released
+pub mod Raised
+pub mod Shared
+pub mod RoomMade

@@ -1,0 +1,145 @@
+// A waiting release is settled.
+ghost use Rattle.std.specs.Prelude.{◌≡◌, ◌⊎◌, ℕ, ◌+◌, ◌^◌, ◌<◌, ◌≤◌, true, false, None, OnOk, IfOk, IsErr, vec_len, vec_capacity, slice_index_or};
+ghost use Rattle.std.specs.VecDeque.{deque_len};
+ghost use Rattle.pm_device.specs.State.{Rose, IsSame};
+ghost use Rattle.pm_device.specs.Settled.{StoresOnly, KeepsFlushed, Others};
+ghost use Rattle.pm_layout.specs.Geometry.{slot_word};
+ghost use Rattle.dn_model.specs.Disk.{Disk};
+ghost use Rattle.fact_counts.specs.Standing.{HasRowWith};
+ghost use Rattle.fact_counts.specs.Counted.{down, MaySettleDown, SettlesTable, SettlesOwn, LeavesTables};
+ghost use Rattle.dn_volume.specs.Agrees.{Agrees, IsVolume};
+ghost use Rattle.dn_volume.specs.Works.{Works, ReclaimLeft};
+ghost use Rattle.reclaim.specs.Released.{SettlesRelease, Stops, IsWordAfter};
+
+use dn_volume::{CountChange, Outcome, Parts, RECLAIM, Volume};
+use fact_counts::settle_down;
+use fact_table::Fact;
+use fingerprint::Fingerprint;
+use pm_device::{Failed, Pm};
+
+/// The units of the device that a zero check is owed.
+pub const ZERO_CHECK_UNITS: u64 = 20;
+
+/// The units of the device that a release takes, with those that a zero check is owed then.
+pub const RELEASE_UNITS: u64 = 23;
+
+// The row at a slot is settled down: the word that its counts have then.
+fn settle_row<D: Pm>(fact: &Fact, device: &mut D, slot: u64) -> Result<u64, Failed>
+    requires row { HasRowWith (D.state device.old).now fact.now slot MaySettleDown }
+    requires room { 3 ≤ (D.state device.old).spare }
+    ensures images { LeavesTables down fact.now slot (D.state device.old) (D.state device.new) }
+    ensures settled { OnOk result (SettlesTable down fact.now slot (D.state device.old) (D.state device.new)) }
+    ensures own { OnOk result (SettlesOwn fact.now slot 16 (D.state device.old) (D.state device.new)) }
+    ensures word { IfOk result (λ word. IsWordAfter down (D.state device.old).now fact.now slot word) }
+    ensures only { StoresOnly (λ a. a ≡ slot_word fact.now.geometry slot 4) (D.state device.old) (D.state device.new) }
+    ensures others { KeepsFlushed (Others 16) (λ a. a ≡ slot_word fact.now.geometry slot 4) (D.state device.old) (D.state device.new) }
+    ensures spare { (D.state device.old).spare ≤ (D.state device.new).spare + 3 }
+    ensures faults { (D.state device.old).faults ≤ (D.state device.new).faults }
+    ensures failed { IsErr result → Rose (D.state device.old).faults (D.state device.new).faults }
+{
+    let Some(row) = fact.row_at(device, slot) else {
+        unreachable!();
+    };
+    let word = row.count.down().word();
+    match settle_down(fact, device, RECLAIM, slot) {
+        Ok(()) => Ok(word),
+        Err(failed) => Err(failed),
+    }
+}
+
+// The first release is settled, and its row has this word.
+fn note_release(parts: &mut Parts, slot: u64, word: u64)
+    requires some { 0 < deque_len parts.old.reclaiming.releases }
+    requires front { slot ≡ slice_index_or parts.old.reclaiming.releases.items 0 slot }
+    requires waiting { 2 ≤ parts.old.reclaiming.waiting }
+    requires trace { vec_len parts.old.trace < vec_capacity parts.old.trace }
+    requires owed { parts.old.owed.units + ZERO_CHECK_UNITS < 2 ^ 64 }
+    ensures { SettlesRelease slot word parts.old parts.new }
+{
+    parts.reclaiming.releases.pop_front();
+    parts.trace.push_reserved(CountChange { slot, word });
+    parts.made = parts.made.saturating_add(1);
+    if word == 0 {
+        parts.reclaiming.zero_check = Some(slot);
+        parts.reclaiming.waiting -= 1;
+        parts.owed.units += ZERO_CHECK_UNITS;
+    } else {
+        parts.reclaiming.waiting -= 2;
+    }
+}
+
+// A fence failed.
+pub(crate) fn stop(parts: &mut Parts)
+    ensures { Stops parts.old parts.new }
+{
+    parts.made = parts.made.saturating_add(1);
+    parts.stopped = true;
+}
+
+/// The first of the waiting releases is settled: its row has one update less under way, and one reference less. Where
+/// the row's counts are 0 then, it is to be looked at.
+pub fn settle_release<D: Pm, F: Fingerprint>(v: &mut Volume<D, F>) -> Outcome
+    requires agrees { Agrees D.state v.old }
+    requires running { v.old.parts.stopped ≡ false }
+    requires unchecked { v.old.parts.reclaiming.zero_check ≡ None }
+    requires unraised { v.old.parts.reclaiming.raised ≡ None }
+    requires some { 0 < deque_len v.old.parts.reclaiming.releases }
+    requires owed { v.old.parts.owed.units + RELEASE_UNITS < 2 ^ 64 }
+    requires units { v.old.parts.owed.units + RELEASE_UNITS ≤ (D.state v.old.device).spare }
+    requires trace { vec_len v.old.parts.trace + v.old.parts.owed.trace + 1 ≤ vec_capacity v.old.parts.trace }
+    ensures agrees { Agrees D.state v.new }
+    ensures event { (d : Disk) → IsVolume d v.old.parts (D.state v.old.device) → Works D.state F.print 16 ReclaimLeft ⊥ (λ q. ⊥) v.old v.new d result }
+{
+    let slot = v.parts.reclaiming.releases[0];
+    match settle_row(&v.parts.fact, &mut v.device, slot) {
+        Ok(word) => {
+            note_release(&mut v.parts, slot, word);
+            Outcome::Running {
+                left: v.parts.reclaiming.waiting,
+            }
+        }
+        Err(_) => {
+            stop(&mut v.parts);
+            Outcome::Stopped
+        }
+    }
+}
+
+// Makes room for the release that comes next.
+fn ready_release<D: Pm, F: Fingerprint>(v: &mut Volume<D, F>) -> bool
+    ensures same { IsSame (D.state v.old.device) (D.state v.new.device) }
+    ensures parts { v.new.parts ≡ record v.old.parts { trace = v.new.parts.trace } }
+    ensures trace { v.new.parts.trace.items ≡ v.old.parts.trace.items }
+    ensures len { vec_len v.new.parts.trace ≡ vec_len v.old.parts.trace }
+    ensures capacity { vec_capacity v.old.parts.trace ≤ vec_capacity v.new.parts.trace }
+    ensures spare { ((D.state v.new.device).spare ≡ (D.state v.old.device).spare) ⊎ (v.old.parts.owed.units ≤ (D.state v.new.device).spare) }
+    ensures room { result ≡ true → (v.old.parts.owed.units + RELEASE_UNITS < 2 ^ 64) × (v.old.parts.owed.units + RELEASE_UNITS ≤ (D.state v.new.device).spare) × (vec_len v.old.parts.trace + v.old.parts.owed.trace + 1 ≤ vec_capacity v.new.parts.trace) }
+{
+    let Some(units) = v.parts.owed.units.checked_add(RELEASE_UNITS) else {
+        return false;
+    };
+    let Some(changes) = v.parts.owed.trace.checked_add(1) else {
+        return false;
+    };
+    if v.device.ready(units).is_err() {
+        return false;
+    }
+    v.parts.trace.reserve(changes as usize).is_ok()
+}
+
+/// A release that waits is settled, where memory is there for it.
+pub fn release<D: Pm, F: Fingerprint>(v: &mut Volume<D, F>) -> Outcome
+    requires agrees { Agrees D.state v.old }
+    requires running { v.old.parts.stopped ≡ false }
+    requires unchecked { v.old.parts.reclaiming.zero_check ≡ None }
+    requires unraised { v.old.parts.reclaiming.raised ≡ None }
+    requires some { 0 < deque_len v.old.parts.reclaiming.releases }
+    ensures agrees { Agrees D.state v.new }
+    ensures event { (d : Disk) → IsVolume d v.old.parts (D.state v.old.device) → Works D.state F.print 16 ReclaimLeft ⊥ (λ q. ⊥) v.old v.new d result }
+{
+    if ready_release(v) {
+        settle_release(v)
+    } else {
+        Outcome::NoMemory
+    }
+}

@@ -1,0 +1,5 @@
+pub mod Later
+pub mod Changes
+pub mod OneRow
+pub mod AllRows
+pub mod Tidied
