@@ -6,7 +6,7 @@ use Rattle.pm_layout.specs.Geometry.{IsAccepted}
 use Rattle.dn_model.specs.Image.{HasNoFault}
 use Rattle.dn_model.specs.Faults.{FaultOf}
 use Rattle.dn_model.specs.declared.fault.ImageFault.{ImageFault}
-use Rattle.dn_laws.proofs.OneFault.{fault_none}
+use Rattle.law_unique.proofs.OneFault.{fault_none}
 use Rattle.dn_script.specs.Text.{lines}
 use Rattle.denova_cli.specs.Job.{Ops, BadAt, job_of}
 use Rattle.denova_cli.specs.Apply.{HasText, apply_status}

@@ -8,8 +8,8 @@ use Rattle.std.proofs.lemmas.List.Elements.{Contains-get_or}
 use Rattle.std.proofs.lemmas.Map.Made.{length-le_from_is_member, IsDistinct-from_AllPairs, is_member-Decides}
 use Rattle.dn_model.specs.Disk.{Disk, IsMapped}
 use Rattle.dn_model.specs.Counts.{total, mappings}
-use Rattle.dn_laws.proofs.Counted.{counts_mappings}
-use Rattle.dn_laws.proofs.Listings.{here, later, none_listed, cons_cases}
+use Rattle.law_unique.proofs.Counted.{counts_mappings}
+use Rattle.law_unique.proofs.Listings.{here, later, none_listed, cons_cases}
 use Rattle.dn_row_changes.proofs.Rows.{same_test, other_test}
 use Rattle.image_uses.specs.Uses.{HasSo}
 use Rattle.dn_model.specs.Numbers.{mapped_in}

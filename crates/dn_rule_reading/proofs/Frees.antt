@@ -6,7 +6,7 @@ use Rattle.std.proofs.lemmas.List.Elements.{Contains-get_or}
 use Rattle.dn_model.specs.Disk.{Disk}
 use Rattle.dn_model.specs.Counts.{IsFree}
 use Rattle.dn_model.specs.Faults.{HasFree}
-use Rattle.dn_laws.proofs.Listings.{here, later, none_listed, cons_cases}
+use Rattle.law_unique.proofs.Listings.{here, later, none_listed, cons_cases}
 use Rattle.dn_table_reading.proofs.Decisions.{Decided}
 use Rattle.dn_rule_reading.specs.Rules.{FreePages, are_few, are_two, FreePagesAreCounted}
 use Rattle.dn_rule_reading.proofs.Pages.{decide_free}

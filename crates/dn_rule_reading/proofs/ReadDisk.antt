@@ -13,9 +13,9 @@ use Rattle.dn_model.specs.Files.{named}
 use Rattle.dn_model.specs.Valid.{IsSingle, IsValid}
 use Rattle.dn_model.specs.Image.{StandsFor}
 use Rattle.dn_model.specs.Faults.{HasGeometry, HasInodes, HasLogs, HasLinks, HasTable, HasPointers}
-use Rattle.dn_laws.proofs.SameMeaning.{linked-same}
-use Rattle.dn_laws.proofs.Stages.{rolled_low}
-use Rattle.dn_laws.proofs.RolledSame.{rolled_gate}
+use Rattle.law_unique.proofs.SameMeaning.{linked-same}
+use Rattle.law_unique.proofs.Stages.{rolled_low}
+use Rattle.law_unique.proofs.RolledSame.{rolled_gate}
 use Rattle.dn_table_reading.specs.Tables.{HasChains}
 
 abbrev pub read_disk : List ℕ → Disk → (ℕ → List Row) → Disk

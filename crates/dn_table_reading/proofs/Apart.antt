@@ -10,7 +10,7 @@ use Rattle.std.proofs.lemmas.Option.{slice_get-get_or, get_or_from_slice_get}
 use Rattle.std.proofs.lemmas.List.{length-map, get_or-map}
 use Rattle.dn_model.specs.Table.{Row}
 use Rattle.dn_model.specs.Valid.{AreApart}
-use Rattle.dn_laws.proofs.TableWalks.{slice_get-append_left, slice_get-behind}
+use Rattle.law_unique.proofs.TableWalks.{slice_get-append_left, slice_get-behind}
 use Rattle.dn_table_reading.proofs.Decisions.{Decided, decide_both, decide_as, decide_not, decide_same, decide_all}
 
 -- an element of a list with one more: an old one, or the new one

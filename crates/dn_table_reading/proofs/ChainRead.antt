@@ -7,8 +7,8 @@ use Rattle.pm_layout.specs.declared.Geometry.{Geometry}
 use Rattle.pm_layout.specs.Geometry.{directs, slot_word}
 use Rattle.dn_model.specs.Table.{Row, RowsSay, at_field, at_next, at_later, ChainSays, at_direct_page, at_direct_next, at_row, first_slot, chained, direct_page_word}
 use Rattle.dn_model.specs.Faults.{RowStands, StartsAt, starts_direct, starts_chained}
-use Rattle.dn_laws.proofs.SameChain.{page_direct, page_indirect, chained_direct, chained_indirect}
-use Rattle.dn_laws.proofs.TableWalks.{Walk, IsFull}
+use Rattle.law_unique.proofs.SameChain.{page_direct, page_indirect, chained_direct, chained_indirect}
+use Rattle.law_unique.proofs.TableWalks.{Walk, IsFull}
 
 module _ (g : Geometry) (c : List ℕ) where
   abbrev next_word : Row → ℕ

@@ -8,8 +8,8 @@ use Rattle.pm_layout.specs.Geometry.{directs}
 use Rattle.dn_model.specs.Table.{Row, ChainSays, rows_from}
 use Rattle.dn_model.specs.Valid.{IsRow, AreApart}
 use Rattle.dn_model.specs.Faults.{IsReached, TableFault}
-use Rattle.dn_laws.proofs.SameParts.{rows_from-same}
-use Rattle.dn_laws.proofs.TableWalks.{rows_from-split}
+use Rattle.law_unique.proofs.SameParts.{rows_from-same}
+use Rattle.law_unique.proofs.TableWalks.{rows_from-split}
 use Rattle.dn_table_reading.specs.Tables.{TablesAreReadOrFaulty}
 use Rattle.dn_table_reading.proofs.ChainRead.{walk_reads}
 use Rattle.dn_table_reading.proofs.Walked.{Whole, walked, whole_walk}

@@ -9,8 +9,8 @@ use Rattle.pm_layout.specs.Geometry.{directs, slots, slot_word}
 use Rattle.dn_model.specs.Table.{Row, rows_from}
 use Rattle.dn_model.specs.Valid.{IsRow, AreApart}
 use Rattle.dn_model.specs.Faults.{RowStands, ComesNext, direct_row, first_chained, after_row, IsDirectNext, IsIndirect, StartsAt, starts_direct, starts_chained, IsReached, TableFault, no_row, no_next}
-use Rattle.dn_laws.proofs.SameChain.{row_one}
-use Rattle.dn_laws.proofs.TableWalks.{slice_get-behind, Walk, IsFull}
+use Rattle.law_unique.proofs.SameChain.{row_one}
+use Rattle.law_unique.proofs.TableWalks.{slice_get-behind, Walk, IsFull}
 use Rattle.dn_table_reading.specs.Tables.{HoldsRow}
 use Rattle.dn_table_reading.proofs.Decisions.{Decided, decide_both, decide_le, decide_lt}
 use Rattle.dn_table_reading.proofs.RowRead.{rows_decided}

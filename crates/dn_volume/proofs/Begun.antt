@@ -23,10 +23,10 @@ use Rattle.dn_model.specs.declared.op.Reply.{Reply}
 use Rattle.dn_model.specs.declared.op.Reply.TheVariants.{Done, Refused}
 use Rattle.dn_model.specs.declared.op.Refusal.{Refusal}
 use Rattle.dn_model.specs.declared.op.Refusal.TheVariants.{BadName, NotFound, Exists, TooLong, TooBig, NoInode, NoSpace}
-use Rattle.dn_laws.specs.Operations.{MeetsGrant, MeetsRefusal}
-use Rattle.dn_laws.proofs.Answered.{granted_or_refused}
+use Rattle.law_unique.specs.Operations.{MeetsGrant, MeetsRefusal}
+use Rattle.law_unique.proofs.Answered.{granted_or_refused}
 use Rattle.dn_course.proofs.Course.{legal-told}
-use Rattle.dn_laws.proofs.Listings.{none_listed, cons_cases}
+use Rattle.law_unique.proofs.Listings.{none_listed, cons_cases}
 use Rattle.dn_volume.specs.declared.flight.Flight.{Flight}
 use Rattle.dn_volume.specs.declared.outcome.Outcome.{Outcome}
 use Rattle.dn_volume.specs.declared.outcome.Outcome.TheVariants as out

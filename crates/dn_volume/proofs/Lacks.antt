@@ -20,8 +20,8 @@ use Rattle.dn_model.specs.Counts.{total, mappings, IsFree}
 use Rattle.dn_changes.specs.Events.{IsUnused}
 use Rattle.dn_changes.proofs.Counting.{total-some}
 use Rattle.dn_changes.proofs.MappedPlaces.{maps-in_file}
-use Rattle.dn_laws.proofs.Counted.{counts_mappings}
-use Rattle.dn_laws.proofs.Listings.{here, later, none_listed, cons_cases}
+use Rattle.law_unique.proofs.Counted.{counts_mappings}
+use Rattle.law_unique.proofs.Listings.{here, later, none_listed, cons_cases}
 use Rattle.dn_row_changes.proofs.Rows.{row_listed, some_or_none}
 use Rattle.dn_table_changes.specs.BalanceLaws.{IsBalanced}
 use Rattle.dn_volume.specs.declared.background.Sharing.{Sharing}

@@ -7,7 +7,7 @@ use Rattle.dn_model.specs.Files.{files}
 use Rattle.dn_model.specs.Apply.{IsGranted}
 use Rattle.dn_model.specs.History.{needed, IsNeed, AreNeeds, IsShortOfSpace}
 use Rattle.dn_model.specs.declared.op.Op.{Op}
-use Rattle.dn_laws.proofs.Listings.{here, later, none_listed, cons_cases}
+use Rattle.law_unique.proofs.Listings.{here, later, none_listed, cons_cases}
 use Rattle.dn_volume.proofs.Granted.{Decides, granted_or_not}
 
 -- the greatest need of a script's operations, 0 where none is granted

@@ -15,7 +15,7 @@ use Rattle.dn_model.specs.declared.op.Entry.{Entry}
 use Rattle.dn_model.specs.declared.op.Reply.TheVariants.{Refused}
 use Rattle.dn_model.specs.declared.op.Refusal.{Refusal}
 use Rattle.dn_model.specs.declared.op.Refusal.TheVariants.{NoInode, NoSpace}
-use Rattle.dn_laws.proofs.Listings.{here, later, none_listed, cons_cases}
+use Rattle.law_unique.proofs.Listings.{here, later, none_listed, cons_cases}
 use Rattle.dn_volume.specs.declared.flight.Flight.{Flight}
 use Rattle.dn_volume.specs.declared.volume.Parts.{Parts}
 use Rattle.dn_volume.specs.Parties.{Flies, KeepsOps, SameOthers, flight_at}

@@ -35,7 +35,7 @@ pub enum ScanFault {
 /// met before. Where a next word is neither 0 nor that of an indirect slot, the slot that holds it is told. `NoMemory`
 /// where there is no memory for the rows.
 ///
-/// A table has one first fault at most, and none where its chains may be read (`dn_laws::faults::one_table_fault`).
+/// A table has one first fault at most, and none where its chains may be read (`law_unique::faults::one_table_fault`).
 /// So but for want of memory the answer is `Ok` exactly where the table has no fault.
 pub fn scan_rows<D: Pm>(alloc: Global, device: &D, g: &Geometry) -> Result<Vec<Row>, ScanFault>
     requires accepted { IsAccepted g.now }

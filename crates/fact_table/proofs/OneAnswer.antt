@@ -10,10 +10,10 @@ use Rattle.dn_model.specs.Table.{Row, ChainSays, rows_from}
 use Rattle.dn_model.specs.Disk.{Disk, rows}
 use Rattle.dn_model.specs.Valid.{AreApart}
 use Rattle.dn_model.specs.Faults.{TableFault}
-use Rattle.dn_laws.specs.Images.{AreRows}
-use Rattle.dn_laws.proofs.SameChain.{chain_one}
-use Rattle.dn_laws.proofs.SameParts.{rows-same}
-use Rattle.dn_laws.proofs.TableStops.{table_fault_one, table_fault_none}
+use Rattle.law_unique.specs.Images.{AreRows}
+use Rattle.law_unique.proofs.SameChain.{chain_one}
+use Rattle.law_unique.proofs.SameParts.{rows-same}
+use Rattle.law_unique.proofs.TableStops.{table_fault_one, table_fault_none}
 use Rattle.fact_table.specs.Table.{Table, IsTable}
 use Rattle.fact_table.specs.Loaded.{ReadsAs, IsBadPointer, PointerFault}
 use Rattle.fact_table.specs.Laws.{HasOneFault, HasTableOrFault}

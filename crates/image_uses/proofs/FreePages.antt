@@ -7,7 +7,7 @@ use Rattle.pm_layout.specs.Geometry.{first_data}
 use Rattle.dn_model.specs.Disk.{Disk, IsMapped}
 use Rattle.dn_model.specs.Counts.{IsFree}
 use Rattle.dn_model.specs.Faults.{HasFree}
-use Rattle.dn_laws.proofs.Counted.{counts_mappings}
+use Rattle.law_unique.proofs.Counted.{counts_mappings}
 use Rattle.image_uses.specs.Uses.{IsCounted, HasReadLogs, HasSo}
 use Rattle.image_uses.specs.UsesLoop.{IsUnused, IsBelow, CountsTo}
 use Rattle.image_uses.proofs.Numbers.{counts-all}

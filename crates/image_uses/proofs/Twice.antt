@@ -12,7 +12,7 @@ use Rattle.dn_model.specs.Disk.{Disk, Use, Free, Live, Dying, IsUsed, IsMapped, 
 use Rattle.dn_model.specs.Counts.{total, mappings, IsLogPage}
 use Rattle.dn_model.specs.Faults.{IsLeast, IsDouble}
 use Rattle.dn_changes.proofs.Counting.{total-some, term-le, terms-le}
-use Rattle.dn_laws.proofs.Counted.{counts_mappings}
+use Rattle.law_unique.proofs.Counted.{counts_mappings}
 use Rattle.image_logs.specs.Logs.{log_page, log_hit, logs_with}
 use Rattle.image_logs.proofs.OneLog.{block_in}
 use Rattle.image_uses.specs.Uses.{IsUsedTwice, IsCounted, MarksRows, HasReadLogs}

@@ -20,7 +20,7 @@ use Rattle.dn_model.specs.Counts.{total}
 use Rattle.dn_model.specs.History.{needed, name_slots}
 use Rattle.dn_changes.specs.Events.{IsUnused}
 use Rattle.dn_changes.proofs.Counting.{total-change}
-use Rattle.dn_laws.proofs.Listings.{none_listed}
+use Rattle.law_unique.proofs.Listings.{none_listed}
 use Rattle.dn_name_changes.specs.Operations.{creation}
 use Rattle.dn_volume.specs.declared.flight.Flight.{Flight}
 use Rattle.dn_volume.specs.declared.flight.Change.{Change}

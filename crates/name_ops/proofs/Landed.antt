@@ -37,7 +37,7 @@ use Rattle.dn_volume.specs.Shares.{IsWaiting, in_queue, is_begun, IsQueued}
 use Rattle.dn_volume.specs.Reserve.{HasRoom, owed_sum, owed_to, units_by, units_to_share, changes_to_share}
 use Rattle.dn_volume.specs.Agrees.{IsVolume}
 use Rattle.std.specs.VecDeque.{deque_len, deque_capacity}
-use Rattle.dn_laws.proofs.Listings.{here, later, none_listed, cons_cases}
+use Rattle.law_unique.proofs.Listings.{here, later, none_listed, cons_cases}
 use Rattle.dn_volume.specs.Reclaims.{one_if}
 use Rattle.dn_volume.proofs.Shorts.{one_flight}
 use Rattle.name_ops.specs.Landing.{Lands, LandsNames, LetsGo}

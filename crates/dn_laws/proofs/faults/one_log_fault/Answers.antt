@@ -1,8 +1,0 @@
-use Rattle.dn_laws.proofs.LogFaults.{log_fault_one, log_fault_none}
-use Rattle.dn_laws.proofs.faults.one_log_fault.Goals as goal
-
-pub returns-clause-one : goal.returns-clause-one
-returns-clause-one c = log_fault_one
-
-pub returns-clause-none : goal.returns-clause-none
-returns-clause-none c = log_fault_none

@@ -1,8 +1,0 @@
-use Rattle.dn_laws.proofs.Answered.{end_one, legal_parts}
-use Rattle.dn_laws.proofs.replies.one_end.Goals as goal
-
-pub returns-clause-one : goal.returns-clause-one
-returns-clause-one c = end_one
-
-pub returns-clause-parts : goal.returns-clause-parts
-returns-clause-parts c = legal_parts
