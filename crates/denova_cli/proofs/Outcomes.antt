@@ -10,7 +10,7 @@ use Rattle.dn_model.specs.Own.{Print, IsOwn}
 use Rattle.dn_model.specs.Image.{StandsFor}
 use Rattle.dn_model.specs.declared.op.Op.{Op}
 use Rattle.dn_model.specs.declared.op.Entry.{Entry}
-use Rattle.dn_changes.proofs.WriteEvent.{stands_for_read}
+use Rattle.law_write.proofs.WriteEvent.{stands_for_read}
 use Rattle.one_file_open.specs.Opened.{IsOpened}
 use Rattle.one_file_open.specs.declared.session.Opened.{Opened}
 use Rattle.one_file.specs.Held.{IsDiskOf}

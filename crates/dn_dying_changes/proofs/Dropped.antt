@@ -8,7 +8,7 @@ use Rattle.dn_model.specs.Maps.{Mapping}
 use Rattle.dn_model.specs.Disk.{Disk, Inode, Live, Dying, IsUsed, IsMapped, maps, maps_by_use}
 use Rattle.dn_model.specs.Counts.{total, hit, mappings, IsLogPage, IsFree, Near}
 use Rattle.dn_model.specs.Valid.{IsCut, IsValid}
-use Rattle.dn_changes.proofs.Counting.{total-le}
+use Rattle.law_write.proofs.Counting.{total-le}
 use Rattle.dn_dying_changes.specs.Dying.{Step, use_after, stepped}
 use Rattle.dn_dying_changes.proofs.Stepped.{at_ino, at_other, same_geometry}
 

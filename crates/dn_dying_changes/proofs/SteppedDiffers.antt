@@ -9,8 +9,8 @@ use Rattle.dn_model.specs.Log.{LogSays}
 use Rattle.dn_model.specs.Table.{Row, row_of}
 use Rattle.dn_model.specs.Disk.{Disk, Inode, Free, Dying, IsUsed, IsMapped, rows, state_number, DiskSays, of_head, of_inodes, of_logs, of_chains, of_pointers, of_pages, HeadSays, at_magic, at_version, at_pages, at_inodes, at_gate, InodesSay, at_state, at_cut, LogsSay, ChainsSay, PointersSay}
 use Rattle.dn_model.proofs.Regions.{inode_word_low}
-use Rattle.dn_changes.specs.Events.{IsReadPage}
-use Rattle.dn_changes.proofs.Unread.{read_in_data}
+use Rattle.law_write.specs.Events.{IsReadPage}
+use Rattle.law_write.proofs.Unread.{read_in_data}
 use Rattle.dn_name_changes.proofs.Places.{IsHigh, high_not_inode, data_high, chain_high, pointer_high, LogPlace, is_head, is_tail, is_high, log_place}
 use Rattle.dn_table_changes.specs.OneWord.{IsOneWord}
 use Rattle.dn_dying_changes.specs.Dying.{Step, Falls, Ends, use_after, step_word, step_value, stepped}

@@ -9,7 +9,7 @@ use Rattle.dn_model.specs.Table.{Row, row_of}
 use Rattle.dn_model.specs.Disk.{Disk, Inode, Free, Live, Dying, maps, rows}
 use Rattle.dn_model.specs.Files.{bytes, byte_of, mapped_byte, named, files, IsSameFiles}
 use Rattle.dn_model.specs.Own.{Print, page_bytes, LivePlace, IsAlone, HasRow, IsOwn, Settled}
-use Rattle.dn_changes.proofs.WriteBytes.{length-bytes, byte_at}
+use Rattle.law_write.proofs.WriteBytes.{length-bytes, byte_at}
 use Rattle.dn_dying_changes.specs.Dying.{Step, Falls, Ends, use_after, stepped, KeepsLiving}
 use Rattle.dn_dying_changes.proofs.Stepped.{at_ino, at_other, same_rows, same_word}
 use Rattle.dn_dying_changes.proofs.Dropped.{MayStep, below, above, maps_others, maps_only, mapped_only, log_page_only, free_kept}

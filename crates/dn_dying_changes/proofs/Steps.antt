@@ -14,7 +14,7 @@ use Rattle.dn_model.specs.Table.{Row, row_of}
 use Rattle.dn_model.specs.Disk.{Disk, Inode, Use, Free, Dying, IsUsed, IsMapped, maps, maps_by_use, rows}
 use Rattle.dn_model.specs.Counts.{mappings, IsLogPage, IsFree, IsNear, Near, Exact}
 use Rattle.dn_model.specs.Valid.{IsCut}
-use Rattle.dn_changes.proofs.Unread.{read_in_data}
+use Rattle.law_write.proofs.Unread.{read_in_data}
 use Rattle.dn_table_changes.specs.MappingLaws.{LowersCut, UnmapsPlace, AddsMapping}
 use Rattle.dn_table_changes.proofs.Mappings.{counted_mapped, place_unmapped, blocks_tell, near_stays}
 use Rattle.dn_table_changes.proofs.Remaps.{lowered_cut_unmaps}

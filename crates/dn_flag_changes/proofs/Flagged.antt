@@ -16,7 +16,7 @@ use Rattle.dn_model.specs.Counts.{IsLogPage, IsFree}
 use Rattle.dn_model.specs.Own.{IsAlone, HasRow}
 use Rattle.dn_model.specs.Valid.{IsLog, IsValid}
 use Rattle.dn_model.proofs.Append.{log_word_in_data}
-use Rattle.dn_changes.proofs.Unread.{log_page_said}
+use Rattle.law_write.proofs.Unread.{log_page_said}
 use Rattle.inode_log.proofs.Reflagged.{IsWordChange, place_within, reflagged_differs}
 use Rattle.dn_table_changes.specs.OneWord.{IsOneWord}
 use Rattle.dn_log_changes.specs.Relogged.{relogged, was_free, MayRelog, MovesLog, TellsDone, KeepsDone}

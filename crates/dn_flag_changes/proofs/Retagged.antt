@@ -14,7 +14,7 @@ use Rattle.dn_model.specs.Maps.{Mapping, mapping, mapped_after, remapped, cut_to
 use Rattle.dn_model.specs.Files.{named_after}
 use Rattle.dn_model.proofs.Append.{same_index}
 use Rattle.inode_log.specs.Reflags.{IsWrite, Reflags}
-use Rattle.dn_changes.proofs.Mapped.{mapped_after-append, placed_from-append}
+use Rattle.law_write.proofs.Mapped.{mapped_after-append, placed_from-append}
 use Rattle.dn_log_changes.specs.Relogged.{block_of, KeepsPlaces}
 
 -- slots of one log with one name are one slot

@@ -16,10 +16,10 @@ use Rattle.dn_model.specs.Counts.{mappings, IsLogPage, IsFree, Near, Exact}
 use Rattle.dn_model.specs.Files.{bytes, byte_of, mapped_byte, named, named_after, files, IsSameFiles}
 use Rattle.dn_model.specs.Own.{Print, page_bytes, LivePlace, IsAlone, HasRow, IsOwn, Settled}
 use Rattle.dn_model.specs.Valid.{IsValid}
-use Rattle.dn_changes.specs.WithLog.{with_log}
-use Rattle.dn_changes.specs.Events.{IsReadPage}
-use Rattle.dn_changes.proofs.MappedPlaces.{maps-in_file}
-use Rattle.dn_changes.proofs.WriteBytes.{length-bytes, byte_at}
+use Rattle.law_write.specs.WithLog.{with_log}
+use Rattle.law_write.specs.Events.{IsReadPage}
+use Rattle.law_write.proofs.MappedPlaces.{maps-in_file}
+use Rattle.law_write.proofs.WriteBytes.{length-bytes, byte_at}
 use Rattle.dn_table_changes.proofs.Mappings.{blocks_tell, counted_mapped, near_stays}
 use Rattle.dn_row_changes.proofs.Rows.{all_listed, listed_here, listed_later, listed_cases}
 use Rattle.dn_log_changes.specs.Relogged.{relogged, block_of, IsSpared, was_free, was_log, MayRelog, KeepsData, MovesLog, TellsDone, KeepsDone}

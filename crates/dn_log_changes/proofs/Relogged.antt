@@ -11,10 +11,10 @@ use Rattle.dn_model.specs.Disk.{Disk, Inode, Use, Free, Live, Dying, IsUsed, IsM
 use Rattle.dn_model.specs.Counts.{mappings, IsLogPage, IsFree, Near}
 use Rattle.dn_model.specs.Files.{named}
 use Rattle.dn_model.specs.Valid.{IsCut, IsLog, IsLinked, IsRow, AreApart, IsValid}
-use Rattle.dn_changes.specs.WithLog.{with_log}
-use Rattle.dn_changes.specs.Events.{Relogs, IsReadPage, IsUnused}
-use Rattle.dn_changes.proofs.Unread.{unused_unread}
-use Rattle.dn_changes.proofs.WithLog.{with_log-inode, with_log-log, with_log-other, with_log-relogs}
+use Rattle.law_write.specs.WithLog.{with_log}
+use Rattle.law_write.specs.Events.{Relogs, IsReadPage, IsUnused}
+use Rattle.law_write.proofs.Unread.{unused_unread}
+use Rattle.law_write.proofs.WithLog.{with_log-inode, with_log-log, with_log-other, with_log-relogs}
 use Rattle.dn_row_changes.proofs.Rows.{none_or_some}
 use Rattle.dn_log_changes.specs.Relogged.{relogged}
 

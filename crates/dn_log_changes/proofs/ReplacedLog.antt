@@ -19,8 +19,8 @@ use Rattle.dn_model.specs.Disk.{Disk, IsUsed, DiskSays, of_head, of_inodes, of_l
 use Rattle.dn_model.specs.Own.{Print, IsAlone, HasRow, IsOwn, Settled}
 use Rattle.dn_model.specs.Valid.{IsValid}
 use Rattle.dn_model.specs.Image.{StandsFor}
-use Rattle.dn_changes.proofs.Unread.{read_in_data, unused_unsaid}
-use Rattle.dn_changes.proofs.WriteEvent.{length-left, stands_for_read}
+use Rattle.law_write.proofs.Unread.{read_in_data, unused_unsaid}
+use Rattle.law_write.proofs.WriteEvent.{length-left, stands_for_read}
 use Rattle.name_journal.specs.declared.change.Change.{Change}
 use Rattle.name_journal.specs.Changes.{address, AreChanges, IsNamed, NewValues}
 use Rattle.name_journal.specs.AllOrNone.{AllOrNone, IsAllDone, DiffersBy}

@@ -8,8 +8,8 @@ use Rattle.dn_model.specs.Files.{named, named_after, bytes, files, IsSameFiles}
 use Rattle.dn_model.specs.Valid.{IsLog, IsValid}
 use Rattle.dn_model.specs.Own.{IsAlone, HasRow}
 use Rattle.log_entry.specs.declared.item.Flag.TheVariants.{Complete}
-use Rattle.dn_changes.specs.Events.{IsUnused}
-use Rattle.dn_changes.specs.WithLog.{with_log}
+use Rattle.law_write.specs.Events.{IsUnused}
+use Rattle.law_write.specs.WithLog.{with_log}
 
 -- the disk on which this inode has this log
 abbrev pub relogged : Disk → ℕ → Log → Disk

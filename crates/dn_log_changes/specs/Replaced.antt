@@ -12,7 +12,7 @@ use Rattle.dn_model.specs.Files.{named_after}
 use Rattle.dn_model.specs.Own.{Print, IsAlone, IsOwn, Settled}
 use Rattle.dn_model.specs.Image.{StandsFor}
 use Rattle.dn_model.specs.Valid.{IsLog, IsValid}
-use Rattle.dn_changes.specs.Events.{IsUnused}
+use Rattle.law_write.specs.Events.{IsUnused}
 use Rattle.name_journal.specs.declared.change.Change.{Change}
 use Rattle.name_journal.specs.AllOrNone.{AllOrNone, IsAllDone}
 use Rattle.dn_name_changes.specs.AllOrNoneLaws.{FreshWord, AreAllOrNone}

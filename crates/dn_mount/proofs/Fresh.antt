@@ -10,8 +10,8 @@ use Rattle.page_alloc.specs.Free.{FreePages}
 use Rattle.dn_model.specs.Table.{Row, row_of}
 use Rattle.dn_model.specs.Disk.{Disk, rows}
 use Rattle.dn_model.specs.Counts.{total, mappings, IsFree}
-use Rattle.dn_changes.specs.Events.{IsUnused}
-use Rattle.dn_changes.proofs.Counting.{total-zero}
+use Rattle.law_write.specs.Events.{IsUnused}
+use Rattle.law_write.proofs.Counting.{total-zero}
 use Rattle.dn_row_changes.proofs.Rows.{all_listed, none_found}
 use Rattle.dn_table_changes.specs.BalanceLaws.{IsBalanced}
 use Rattle.dn_table_changes.specs.CountLaws.{IsExact}

@@ -12,8 +12,8 @@ use Rattle.dn_model.specs.Disk.{Disk, DiskSays, of_head, of_inodes, of_logs, of_
 use Rattle.dn_model.specs.Valid.{IsLog, IsValid}
 use Rattle.dn_model.specs.Image.{StandsFor}
 use Rattle.dn_model.proofs.Regions.{inode_word_low}
-use Rattle.dn_changes.proofs.Unread.{read_in_data}
-use Rattle.dn_changes.proofs.WriteEvent.{length-left}
+use Rattle.law_write.proofs.Unread.{read_in_data}
+use Rattle.law_write.proofs.WriteEvent.{length-left}
 use Rattle.dn_row_changes.proofs.TableRows.{good_of}
 use Rattle.dn_table_changes.proofs.NextDisk.{said_within}
 use Rattle.name_journal.specs.Pairs.{HasGateOf}

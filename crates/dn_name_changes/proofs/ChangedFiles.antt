@@ -6,7 +6,7 @@ use Rattle.dn_model.specs.Log.{no_log}
 use Rattle.dn_model.specs.Maps.{Mapping, size_of}
 use Rattle.dn_model.specs.Disk.{Disk, Inode, IsUsed, maps}
 use Rattle.dn_model.specs.Files.{bytes, mapped_byte}
-use Rattle.dn_changes.proofs.WriteBytes.{length-bytes, byte_at}
+use Rattle.law_write.proofs.WriteBytes.{length-bytes, byte_at}
 use Rattle.dn_name_changes.specs.NameChange.{NameChange, Turn, Stays, Comes, Goes, MayTurn, turned, names_changed, MayChange}
 use Rattle.dn_name_changes.proofs.Changed.{at_ino, at_other, same_word, Where, is_root, is_here, elsewhere, where_is}
 use Rattle.dn_name_changes.proofs.Kept.{maps_same}

@@ -12,10 +12,10 @@ use Rattle.dn_model.specs.Disk.{Disk, Inode, IsUsed, IsMapped, rows}
 use Rattle.dn_model.specs.Counts.{IsLogPage, IsFree}
 use Rattle.dn_model.specs.Valid.{MayStand, IsCut, IsLog, IsRow, AreApart, IsValid}
 use Rattle.dn_model.proofs.Append.{count-grown}
-use Rattle.dn_changes.specs.Events.{IsUnused}
-use Rattle.dn_changes.proofs.MappedPlaces.{size-small}
-use Rattle.dn_changes.proofs.WriteValid.{not_mapped}
-use Rattle.dn_changes.proofs.WrittenDisk.{append-apart, append-in_data}
+use Rattle.law_write.specs.Events.{IsUnused}
+use Rattle.law_write.proofs.MappedPlaces.{size-small}
+use Rattle.law_write.proofs.WriteValid.{not_mapped}
+use Rattle.law_write.proofs.WrittenDisk.{append-apart, append-in_data}
 use Rattle.dn_name_changes.specs.NameChange.{NameChange, Turn, Stays, Comes, Goes, MayTurn, turned, root_after, names_changed, IsSpared, MayChange}
 use Rattle.dn_name_changes.proofs.Changed.{at_root, at_ino, at_other, same_geometry, same_chain, same_pointer, same_rows, Where, is_root, is_here, elsewhere, where_is}
 use Rattle.dn_name_changes.proofs.Kept.{root_in_table, root_used, root_standing_after, below, mapped_only, log_page_cases, free_kept, near_kept, unshared_kept, turned_pages}

@@ -14,7 +14,7 @@ use Rattle.pm_layout.specs.Geometry.{inode_word}
 use Rattle.dn_model.specs.Rolled.{IsJournaled}
 use Rattle.dn_model.specs.Disk.{Disk, DiskSays, of_inodes, at_state, state_number}
 use Rattle.dn_model.specs.Growth.{Prepared}
-use Rattle.dn_changes.proofs.WriteEvent.{length-left, stands_for_read}
+use Rattle.law_write.proofs.WriteEvent.{length-left, stands_for_read}
 use Rattle.name_journal.specs.declared.change.Change.{Change}
 use Rattle.name_journal.specs.Changes.{address, AreChanges, IsNamed, NewValues}
 use Rattle.name_journal.specs.AllOrNone.{DiffersBy}

@@ -11,8 +11,8 @@ use Rattle.dn_model.specs.Disk.{Disk, Inode, Free, Live, Dying, IsUsed, IsMapped
 use Rattle.dn_model.specs.Growth.{IsGrown, Prepared, IsTail}
 use Rattle.dn_model.specs.Valid.{IsValid}
 use Rattle.dn_model.proofs.Append.{not_tail, says-grown}
-use Rattle.dn_changes.specs.Events.{IsReadPage}
-use Rattle.dn_changes.proofs.Unread.{read_in_data, prepared_unsaid}
+use Rattle.law_write.specs.Events.{IsReadPage}
+use Rattle.law_write.proofs.Unread.{read_in_data, prepared_unsaid}
 use Rattle.dn_name_changes.specs.NameChange.{NameChange, Turn, Stays, Comes, Goes, MayTurn, turned, root_after, names_changed, MayChange, FreshNames, in_root, in_inode, turn_field, turn_words}
 use Rattle.dn_name_changes.proofs.Changed.{at_root, at_ino, at_other, same_rows, Where, is_root, is_here, elsewhere, where_is}
 use Rattle.dn_name_changes.proofs.Kept.{root_in_table, root_used, use_of_root, below, mapped_only}

@@ -13,9 +13,9 @@ use Rattle.dn_model.specs.Table.{Row, row_of}
 use Rattle.dn_model.specs.Disk.{Disk, Inode, Use, Free, Live, Dying, IsUsed, IsMapped, maps, maps_by_use, rows}
 use Rattle.dn_model.specs.Counts.{total, hit, mappings, IsLogPage, IsFree, IsNear, Near, Exact}
 use Rattle.dn_model.specs.Valid.{MayStand, IsValid}
-use Rattle.dn_changes.proofs.Counting.{total-same}
-use Rattle.dn_changes.proofs.MappedPlaces.{mapping-below}
-use Rattle.dn_changes.proofs.Unread.{IsSetBy, mapping_set_by}
+use Rattle.law_write.proofs.Counting.{total-same}
+use Rattle.law_write.proofs.MappedPlaces.{mapping-below}
+use Rattle.law_write.proofs.Unread.{IsSetBy, mapping_set_by}
 use Rattle.dn_name_changes.specs.NameChange.{NameChange, Turn, Stays, Comes, Goes, MayTurn, turned, root_after, names_changed, MayChange}
 use Rattle.dn_name_changes.proofs.Changed.{at_root, at_ino, at_other, same_geometry, same_rows, Where, is_root, is_here, elsewhere, where_is}
 

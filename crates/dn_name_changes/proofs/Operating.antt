@@ -9,7 +9,7 @@ use Rattle.log_entry.specs.declared.item.LogItem.TheVariants.{Add, Forget}
 use Rattle.dn_model.specs.Disk.{Disk, Inode, Use, Free, Live, Dying}
 use Rattle.dn_model.specs.Files.{named, named_after}
 use Rattle.dn_model.specs.Valid.{MayStand, IsLinked, IsValid}
-use Rattle.dn_changes.proofs.WriteFiles.{named-in_table}
+use Rattle.law_write.proofs.WriteFiles.{named-in_table}
 use Rattle.dn_name_changes.specs.NameChange.{NameChange, turned, names_changed, MayGrowRoot, MayChange}
 use Rattle.dn_name_changes.specs.Operations.{creation, removal, renaming, MayCreate, MayRemove, MayRename, with_name}
 use Rattle.dn_name_changes.proofs.Changed.{at_root, at_ino, at_other}

@@ -9,7 +9,7 @@ use Rattle.dn_model.specs.Table.{Row, RowsSay, at_field, at_next, at_later, Chai
 use Rattle.dn_model.specs.Disk.{Disk, Dying, IsUsed, DiskSays, of_head, of_inodes, of_logs, of_chains, of_pointers, of_pages, at_magic, at_version, at_pages, at_inodes, at_gate, at_state, at_cut}
 use Rattle.dn_model.specs.Growth.{Prepared, new_head, new_footer, new_slot}
 use Rattle.dn_model.specs.Valid.{IsValid}
-use Rattle.dn_changes.proofs.Unread.{read_in_data}
+use Rattle.law_write.proofs.Unread.{read_in_data}
 
 -- the words behind the inode table
 abbrev pub IsHigh : Geometry → ℕ → Type 0

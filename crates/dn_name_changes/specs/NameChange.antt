@@ -10,8 +10,8 @@ use Rattle.dn_model.specs.Disk.{Disk, Inode, Use, Free, Live, Dying}
 use Rattle.dn_model.specs.Counts.{IsFree}
 use Rattle.dn_model.specs.Growth.{Prepared}
 use Rattle.dn_model.specs.Valid.{MayStand, IsLinked, IsValid}
-use Rattle.dn_changes.specs.Events.{IsUnused}
-use Rattle.dn_changes.specs.WithLog.{grown_log}
+use Rattle.law_write.specs.Events.{IsUnused}
+use Rattle.law_write.specs.WithLog.{grown_log}
 use Rattle.name_journal.specs.declared.change.Change.{Change}
 
 -- what becomes of an inode: nothing, a free one comes to life, or a live one is dying

@@ -12,7 +12,7 @@ use Rattle.fingerprint.specs.Count.{count_word}
 use Rattle.dn_model.specs.Table.{Row, RowsSay, at_field, at_next, at_later, ChainSays, at_direct_page, at_direct_next, at_row, row_of, rows_from, first_slot, chained, direct_page_word}
 use Rattle.dn_model.specs.Disk.{Disk, ChainsSay, TableSays, rows}
 use Rattle.dn_model.specs.Valid.{IsRow, HasGoodRows}
-use Rattle.dn_changes.proofs.Unread.{slot_word_low}
+use Rattle.law_write.proofs.Unread.{slot_word_low}
 use Rattle.dn_row_changes.specs.Changes.{recount, recounted}
 use Rattle.dn_row_changes.specs.Words.{IsOneTableWord}
 use Rattle.dn_row_changes.specs.Rows.{MayCount, RecountsRows}

@@ -9,7 +9,7 @@ use Rattle.dn_model.specs.Table.{Row, RowsSay, at_field, at_next, at_later, Chai
 use Rattle.pm_device.specs.Reading.{Said}
 use Rattle.dn_model.specs.Disk.{Disk, TableSays, rows}
 use Rattle.dn_model.specs.Valid.{IsRow, HasGoodRows}
-use Rattle.dn_changes.proofs.Unread.{slot_word_low}
+use Rattle.law_write.proofs.Unread.{slot_word_low}
 use Rattle.dn_row_changes.specs.Changes.{without, removed, slot_before, slot_after}
 use Rattle.pm_device.specs.Pages.{SaysRun}
 use Rattle.dn_row_changes.specs.Words.{IsOneTableWord}

@@ -7,7 +7,7 @@ use Rattle.pm_layout.specs.Geometry.{slot_word, first_data}
 use Rattle.dn_model.specs.Table.{Row, at_field, at_next, at_later, ChainSays, at_direct_page, at_direct_next, at_row, row_word, first_slot, direct_page_word}
 use Rattle.dn_model.specs.Disk.{Disk, rows}
 use Rattle.dn_model.specs.Valid.{IsRow}
-use Rattle.dn_changes.proofs.Unread.{slot_word_low}
+use Rattle.law_write.proofs.Unread.{slot_word_low}
 use Rattle.dn_row_changes.specs.Changes.{opened}
 use Rattle.pm_device.specs.Pages.{SaysRun}
 use Rattle.dn_row_changes.specs.Words.{IsOneTableWord}

@@ -10,7 +10,7 @@ use Rattle.pm_layout.specs.Geometry.{IsAccepted, pointer_word, slots, first_data
 use Rattle.dn_model.specs.Table.{Row, RowsSay, at_field, at_next, at_later, ChainSays, at_direct_page, at_direct_next, at_row}
 use Rattle.dn_model.specs.Disk.{Disk, ChainsSay, PointersSay, TableSays, rows}
 use Rattle.dn_model.specs.Valid.{HasGoodRows}
-use Rattle.dn_changes.proofs.Unread.{pointer_word_low}
+use Rattle.law_write.proofs.Unread.{pointer_word_low}
 use Rattle.dn_row_changes.specs.Changes.{repointed}
 use Rattle.dn_row_changes.specs.Words.{IsOneTableWord}
 use Rattle.dn_row_changes.specs.Rows.{MayPoint, IsFreshRow, MayPutRow}

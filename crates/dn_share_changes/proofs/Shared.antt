@@ -30,16 +30,16 @@ use Rattle.dn_model.specs.Valid.{MayStand, IsLog, IsValid}
 use Rattle.dn_model.specs.Image.{StandsFor}
 use Rattle.dn_model.proofs.Append.{count-grown}
 use Rattle.dn_model.proofs.Regions.{inode_word_low}
-use Rattle.dn_changes.specs.Events.{IsReadPage, IsUnused, Fresh, in_log, in_page}
-use Rattle.dn_changes.specs.WithLog.{with_log}
-use Rattle.dn_changes.proofs.Mapped.{mapping-grown}
-use Rattle.dn_changes.proofs.MappedPlaces.{maps-in_file, mapping-below, size-small, uncut}
-use Rattle.dn_changes.proofs.Relog.{relogged_differs}
-use Rattle.dn_changes.proofs.RunItems.{size-grown}
-use Rattle.dn_changes.proofs.Unread.{read_in_data}
-use Rattle.dn_changes.proofs.WriteBytes.{length-bytes, byte_at}
-use Rattle.dn_changes.proofs.WriteEvent.{length-left, stands_for_read}
-use Rattle.dn_changes.proofs.WrittenDisk.{append-apart, append-in_data}
+use Rattle.law_write.specs.Events.{IsReadPage, IsUnused, Fresh, in_log, in_page}
+use Rattle.law_write.specs.WithLog.{with_log}
+use Rattle.law_write.proofs.Mapped.{mapping-grown}
+use Rattle.law_write.proofs.MappedPlaces.{maps-in_file, mapping-below, size-small, uncut}
+use Rattle.law_write.proofs.Relog.{relogged_differs}
+use Rattle.law_write.proofs.RunItems.{size-grown}
+use Rattle.law_write.proofs.Unread.{read_in_data}
+use Rattle.law_write.proofs.WriteBytes.{length-bytes, byte_at}
+use Rattle.law_write.proofs.WriteEvent.{length-left, stands_for_read}
+use Rattle.law_write.proofs.WrittenDisk.{append-apart, append-in_data}
 use Rattle.dn_table_changes.specs.MappingLaws.{RemapsPlace, MovesMapping}
 use Rattle.dn_table_changes.specs.BalanceLaws.{IsBalanced}
 use Rattle.dn_table_changes.proofs.Mappings.{place_mapped_over, near_stays}

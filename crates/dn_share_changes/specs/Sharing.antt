@@ -17,8 +17,8 @@ use Rattle.dn_model.specs.Growth.{Prepared}
 use Rattle.dn_model.specs.Valid.{IsValid}
 use Rattle.dn_model.specs.Own.{Print, page_bytes, IsOwn}
 use Rattle.dn_model.specs.Image.{StandsFor}
-use Rattle.dn_changes.specs.Events.{IsUnused}
-use Rattle.dn_changes.specs.WithLog.{grown_log}
+use Rattle.law_write.specs.Events.{IsUnused}
+use Rattle.law_write.specs.WithLog.{grown_log}
 use Rattle.dn_log_changes.specs.Relogged.{relogged}
 use Rattle.dn_table_changes.specs.MappingLaws.{RemapsPlace, MovesMapping}
 use Rattle.dn_table_changes.specs.BalanceLaws.{IsBalanced}

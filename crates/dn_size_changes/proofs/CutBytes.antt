@@ -24,17 +24,17 @@ use Rattle.dn_model.specs.Files.{bytes, byte_of, mapped_byte, named, files, IsSa
 use Rattle.dn_model.specs.Apply.{resized, bytes_or_none, after_op}
 use Rattle.dn_model.specs.Own.{Print, page_bytes, LivePlace, IsAlone, HasRow, IsOwn}
 use Rattle.dn_model.specs.declared.op.Op.TheVariants.{Cut as CutOp}
-use Rattle.dn_changes.specs.Events.{IsReadPage, IsUnused}
-use Rattle.dn_changes.specs.Writing.{Writes, WritesWell, IsNewMapping}
-use Rattle.dn_changes.specs.Runs.{places_in, block_at}
-use Rattle.dn_changes.proofs.Counting.{total-lt, total-some}
-use Rattle.dn_changes.proofs.MappedPlaces.{maps-in_file, uncut, cut_some, cut_below}
-use Rattle.dn_changes.proofs.WriteBytes.{length-bytes, byte_at}
-use Rattle.dn_changes.proofs.WriteCounts.{hit_here, hit_other, places, place-le, places-le, own_or_other, maps_others, mappings-written, hit-written}
-use Rattle.dn_changes.proofs.WriteFiles.{named-in_table, one_name, bytes-others}
-use Rattle.dn_changes.proofs.WriteFree.{free-kept, fresh-not_free, block-not_free}
-use Rattle.dn_changes.proofs.WriteValid.{use_kept, rows_kept, below_old, not_mapped, log_page_cases, named_same}
-use Rattle.dn_changes.proofs.Unread.{read_in_data}
+use Rattle.law_write.specs.Events.{IsReadPage, IsUnused}
+use Rattle.law_write.specs.Writing.{Writes, WritesWell, IsNewMapping}
+use Rattle.law_write.specs.Runs.{places_in, block_at}
+use Rattle.law_write.proofs.Counting.{total-lt, total-some}
+use Rattle.law_write.proofs.MappedPlaces.{maps-in_file, uncut, cut_some, cut_below}
+use Rattle.law_write.proofs.WriteBytes.{length-bytes, byte_at}
+use Rattle.law_write.proofs.WriteCounts.{hit_here, hit_other, places, place-le, places-le, own_or_other, maps_others, mappings-written, hit-written}
+use Rattle.law_write.proofs.WriteFiles.{named-in_table, one_name, bytes-others}
+use Rattle.law_write.proofs.WriteFree.{free-kept, fresh-not_free, block-not_free}
+use Rattle.law_write.proofs.WriteValid.{use_kept, rows_kept, below_old, not_mapped, log_page_cases, named_same}
+use Rattle.law_write.proofs.Unread.{read_in_data}
 use Rattle.dn_row_changes.proofs.Rows.{row_found, all_listed}
 use Rattle.dn_size_changes.specs.Cutting.{last_page, refill_runs, cut_disk, MayRefill, MayCut, RefillsPage, Refills, EndsInZeros, GoesAway, past_end, refilled, IsDropped}
 use Rattle.dn_size_changes.specs.CutLaws.{CutsPlaces, Resizes, TakesAndDrops}

@@ -7,9 +7,9 @@ use Rattle.std.proofs.lemmas.List.Elements.{All-contains}
 use Rattle.dn_model.specs.Table.{Row, row_of}
 use Rattle.dn_model.specs.Disk.{Disk, maps, rows}
 use Rattle.dn_model.specs.Counts.{total, hit, mappings, IsNear, Near}
-use Rattle.dn_changes.specs.Writing.{Writes}
-use Rattle.dn_changes.proofs.WriteCounts.{hit_other, mappings-written}
-use Rattle.dn_changes.proofs.WriteValid.{rows_kept}
+use Rattle.law_write.specs.Writing.{Writes}
+use Rattle.law_write.proofs.WriteCounts.{hit_other, mappings-written}
+use Rattle.law_write.proofs.WriteValid.{rows_kept}
 use Rattle.dn_table_changes.proofs.Mappings.{near_stays}
 use Rattle.dn_row_changes.proofs.Rows.{row_found, none_or_some}
 use Rattle.dn_size_changes.specs.Cutting.{last_page, cut_disk, MayRefill, IsNotRefill, MayCut, first_gone, dropped_places}

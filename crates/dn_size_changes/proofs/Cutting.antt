@@ -11,16 +11,16 @@ use Rattle.dn_model.specs.Counts.{IsFree, Near}
 use Rattle.dn_model.specs.Growth.{IsGrown}
 use Rattle.dn_model.specs.Valid.{IsLog, MayStand}
 use Rattle.dn_model.proofs.Append.{count-grown}
-use Rattle.dn_changes.specs.Events.{Relogs, IsUnused}
-use Rattle.dn_changes.specs.Writing.{Writes, WritesWell, IsNewMapping}
-use Rattle.dn_changes.specs.Runs.{Run, run_items, places_in, block_at, IsChained}
-use Rattle.dn_changes.specs.WithLog.{grown_log}
-use Rattle.dn_changes.proofs.Mapped.{mapping-grown, mapped_after-append, placed_from-append}
-use Rattle.dn_changes.proofs.MappedPlaces.{uncut}
-use Rattle.dn_changes.proofs.RunItems.{runs-own, runs-other, runs-spelled, runs-standing, size-grown}
-use Rattle.dn_changes.proofs.WithLog.{with_log-log, with_log-relogs, with_log-grown}
-use Rattle.dn_changes.proofs.WriteFree.{free-kept}
-use Rattle.dn_changes.proofs.WrittenDisk.{append-apart, append-in_data, near_without_rows}
+use Rattle.law_write.specs.Events.{Relogs, IsUnused}
+use Rattle.law_write.specs.Writing.{Writes, WritesWell, IsNewMapping}
+use Rattle.law_write.specs.Runs.{Run, run_items, places_in, block_at, IsChained}
+use Rattle.law_write.specs.WithLog.{grown_log}
+use Rattle.law_write.proofs.Mapped.{mapping-grown, mapped_after-append, placed_from-append}
+use Rattle.law_write.proofs.MappedPlaces.{uncut}
+use Rattle.law_write.proofs.RunItems.{runs-own, runs-other, runs-spelled, runs-standing, size-grown}
+use Rattle.law_write.proofs.WithLog.{with_log-log, with_log-relogs, with_log-grown}
+use Rattle.law_write.proofs.WriteFree.{free-kept}
+use Rattle.law_write.proofs.WrittenDisk.{append-apart, append-in_data, near_without_rows}
 use Rattle.dn_size_changes.specs.Cutting.{last_page, refill_runs, cut_items, cut_disk, MayRefill, IsNotRefill, IsLeft, MayCut}
 
 pub refill_chained : (size : ℕ) (refill : Option ℕ) → IsChained (last_page size) (refill_runs size refill)

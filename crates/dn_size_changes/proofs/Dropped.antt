@@ -5,10 +5,10 @@ use Rattle.log_entry.specs.Spelling.{pages_of}
 use Rattle.dn_model.specs.Maps.{Mapping, cut_to, size_of}
 use Rattle.dn_model.specs.Disk.{Disk, maps}
 use Rattle.dn_model.specs.Counts.{total, hit, mappings}
-use Rattle.dn_changes.specs.Writing.{Writes}
-use Rattle.dn_changes.proofs.Counting.{total-same, total-zero}
-use Rattle.dn_changes.proofs.MappedPlaces.{mapping-below, uncut}
-use Rattle.dn_changes.proofs.WriteCounts.{hit_other, own_or_other, maps_old, mappings-written}
+use Rattle.law_write.specs.Writing.{Writes}
+use Rattle.law_write.proofs.Counting.{total-same, total-zero}
+use Rattle.law_write.proofs.MappedPlaces.{mapping-below, uncut}
+use Rattle.law_write.proofs.WriteCounts.{hit_other, own_or_other, maps_old, mappings-written}
 use Rattle.dn_size_changes.specs.DropLaws.{Drops, dropped_from, WritesDrop, WritesDropMappings}
 
 pub total-add : (f : ℕ → ℕ) (a b : ℕ) → total (a + b) f ≡ total a f + total b (λ i. f (a + i))

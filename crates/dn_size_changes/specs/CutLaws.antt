@@ -10,8 +10,8 @@ use Rattle.dn_model.specs.Apply.{resized, after_op}
 use Rattle.dn_model.specs.Valid.{IsValid}
 use Rattle.dn_model.specs.Own.{Print, IsOwn}
 use Rattle.dn_model.specs.declared.op.Op.TheVariants.{Cut}
-use Rattle.dn_changes.specs.Writing.{Writes, WritesWell, IsNewMapping}
-use Rattle.dn_changes.specs.Runs.{places_in, block_at}
+use Rattle.law_write.specs.Writing.{Writes, WritesWell, IsNewMapping}
+use Rattle.law_write.specs.Runs.{places_in, block_at}
 use Rattle.dn_size_changes.specs.Cutting.{cut_disk, refill_runs, last_page, MayCut, Refills, EndsInZeros, IsDropped, IsNotRefill, dropped_places}
 
 -- The event of a cut is one of a write of no place, or of the last page: the laws of writes say that the disk stays

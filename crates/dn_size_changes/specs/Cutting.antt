@@ -9,9 +9,9 @@ use Rattle.dn_model.specs.Disk.{Disk, Live, maps}
 use Rattle.dn_model.specs.Counts.{total, hit, IsFree}
 use Rattle.dn_model.specs.Files.{bytes, byte_of}
 use Rattle.dn_model.specs.Valid.{IsValid}
-use Rattle.dn_changes.specs.Events.{IsReadPage, IsUnused}
-use Rattle.dn_changes.specs.Runs.{Run, run_items}
-use Rattle.dn_changes.specs.WithLog.{with_log, grown_log}
+use Rattle.law_write.specs.Events.{IsReadPage, IsUnused}
+use Rattle.law_write.specs.Runs.{Run, run_items}
+use Rattle.law_write.specs.WithLog.{with_log, grown_log}
 
 -- the last page of a size that isn't a whole number of pages
 abbrev pub last_page : ℕ → ℕ

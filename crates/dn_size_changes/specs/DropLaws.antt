@@ -3,7 +3,7 @@ use Rattle.std.specs.Prelude.{◌≡◌, ◌≢◌, ◌⊎◌, ℕ, ◌+◌, ◌
 use Rattle.dn_model.specs.Maps.{Mapping, size_of}
 use Rattle.dn_model.specs.Disk.{Disk, maps}
 use Rattle.dn_model.specs.Counts.{total, hit, mappings}
-use Rattle.dn_changes.specs.Writing.{Writes}
+use Rattle.law_write.specs.Writing.{Writes}
 
 -- Places of the file outside of the n from this one on keep their mappings; those inside are mapped to pages of the
 -- event, or go.

@@ -7,7 +7,7 @@ use Rattle.dn_model.specs.Table.{Row, row_of}
 use Rattle.dn_model.specs.Disk.{Disk, IsMapped, rows}
 use Rattle.dn_model.specs.Counts.{mappings, IsNear}
 use Rattle.dn_model.specs.Valid.{IsValid}
-use Rattle.dn_changes.specs.Events.{IsReadPage}
+use Rattle.law_write.specs.Events.{IsReadPage}
 use Rattle.dn_row_changes.specs.Changes.{recount}
 use Rattle.dn_row_changes.specs.Rows.{PutsRow, TakesRow, RecountsRows}
 use Rattle.dn_row_changes.proofs.Rows.{all_listed, none_listed, none_found, row_found}

@@ -8,10 +8,10 @@ use Rattle.dn_model.specs.Table.{Row, row_of}
 use Rattle.dn_model.specs.Disk.{Disk, MapsTo, IsMapped, maps, rows}
 use Rattle.dn_model.specs.Counts.{total, hit, mappings, IsFree, IsNear, Near}
 use Rattle.dn_model.specs.Valid.{IsValid}
-use Rattle.dn_changes.proofs.Counting.{total-same, total-change, total-some, term-le, terms-le}
-use Rattle.dn_changes.proofs.Unread.{read_in_data}
-use Rattle.dn_changes.proofs.WriteCounts.{hit_here, hit_other}
-use Rattle.dn_changes.proofs.WriteValid.{mapped_counts}
+use Rattle.law_write.proofs.Counting.{total-same, total-change, total-some, term-le, terms-le}
+use Rattle.law_write.proofs.Unread.{read_in_data}
+use Rattle.law_write.proofs.WriteCounts.{hit_here, hit_other}
+use Rattle.law_write.proofs.WriteValid.{mapped_counts}
 use Rattle.dn_table_changes.specs.MappingLaws.{places, RemapsInode, RemapsPlace, AddsMapping, MovesMapping, CountsTell}
 use Rattle.dn_row_changes.proofs.Rows.{all_listed, none_or_some, row_found}
 

@@ -16,9 +16,9 @@ use Rattle.dn_model.specs.Disk.{Disk, DiskSays, of_head, of_inodes, of_logs, of_
 use Rattle.dn_model.specs.Valid.{HasGoodRows, IsValid}
 use Rattle.dn_model.specs.Image.{StandsFor}
 use Rattle.dn_model.proofs.Append.{log_word_in_data}
-use Rattle.dn_changes.specs.Events.{IsReadPage}
-use Rattle.dn_changes.proofs.Unread.{read_in_data, slot_word_low, pointer_word_low}
-use Rattle.dn_changes.proofs.WriteEvent.{length-left, stands_for_read}
+use Rattle.law_write.specs.Events.{IsReadPage}
+use Rattle.law_write.proofs.Unread.{read_in_data, slot_word_low, pointer_word_low}
+use Rattle.law_write.proofs.WriteEvent.{length-left, stands_for_read}
 use Rattle.dn_row_changes.specs.Changes.{with_table}
 use Rattle.dn_row_changes.specs.Words.{IsTableWord, HoldsTable, IsOneTableWord}
 use Rattle.dn_row_changes.proofs.TableRows.{in_table, row_slot_small, good_of}

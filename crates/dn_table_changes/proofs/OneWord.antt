@@ -13,7 +13,7 @@ use Rattle.pm_layout.specs.declared.Geometry.{Geometry}
 use Rattle.dn_model.specs.Disk.{Disk, DiskSays}
 use Rattle.dn_model.specs.Valid.{IsValid}
 use Rattle.dn_model.specs.Image.{StandsFor}
-use Rattle.dn_changes.proofs.WriteEvent.{length-left, stands_for_read}
+use Rattle.law_write.proofs.WriteEvent.{length-left, stands_for_read}
 use Rattle.dn_row_changes.proofs.Words.{nothing_stands, reads_either}
 use Rattle.dn_table_changes.specs.OneWord.{IsOneWord, MayCommit}
 

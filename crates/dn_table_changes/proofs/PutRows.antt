@@ -8,7 +8,7 @@ use Rattle.dn_model.specs.Disk.{Disk, rows}
 use Rattle.dn_model.specs.Counts.{mappings, IsNear, Exact}
 use Rattle.dn_model.specs.Valid.{IsValid}
 use Rattle.dn_model.specs.Own.{Print, page_bytes, HasRow, IsOwn}
-use Rattle.dn_changes.proofs.Unread.{read_in_data}
+use Rattle.law_write.proofs.Unread.{read_in_data}
 use Rattle.dn_row_changes.specs.Changes.{with_table, opened, linked}
 use Rattle.dn_row_changes.specs.Words.{IsOneTableWord}
 use Rattle.dn_row_changes.specs.Rows.{IsFreshRow, MayPutRow, PutsRow, opened_words, linked_words}

@@ -8,9 +8,9 @@ use Rattle.log_entry.specs.Spelling.{pages_of}
 use Rattle.dn_model.specs.Log.{Log}
 use Rattle.dn_model.specs.Maps.{Mapping, mapping, cut_to, size_of}
 use Rattle.dn_model.specs.Disk.{Disk, Inode, Use, Dying, maps, maps_by_use}
-use Rattle.dn_changes.specs.Writing.{Writes}
-use Rattle.dn_changes.proofs.MappedPlaces.{mapping-below, uncut}
-use Rattle.dn_changes.proofs.WriteCounts.{maps_old, maps_others}
+use Rattle.law_write.specs.Writing.{Writes}
+use Rattle.law_write.proofs.MappedPlaces.{mapping-below, uncut}
+use Rattle.law_write.proofs.WriteCounts.{maps_old, maps_others}
 use Rattle.dn_table_changes.specs.MappingLaws.{RemapsInode, RemapsPlace, LowersCut, UnmapsPlace}
 
 pub write_remaps : (ino : ℕ) (old new : Disk) → Writes ino old new → RemapsInode ino old new

@@ -6,7 +6,7 @@ use Rattle.dn_model.specs.Table.{Row, row_of}
 use Rattle.dn_model.specs.Disk.{Disk, Use, Free, Live, Dying, rows}
 use Rattle.dn_model.specs.Counts.{IsNear}
 use Rattle.dn_model.specs.Valid.{IsLinked, HasGoodRows, IsValid}
-use Rattle.dn_changes.specs.Events.{IsReadPage}
+use Rattle.law_write.specs.Events.{IsReadPage}
 use Rattle.dn_row_changes.specs.Changes.{with_table}
 use Rattle.dn_row_changes.proofs.Rows.{row_listed, row_found}
 use Rattle.dn_table_changes.specs.TableLaws.{IsNextDisk, FitsDisk}

@@ -6,7 +6,7 @@ use Rattle.pm_layout.specs.Geometry.{slot_word, directs, slots}
 use Rattle.dn_model.specs.Table.{Row}
 use Rattle.dn_model.specs.Disk.{Disk, rows}
 use Rattle.dn_model.specs.Valid.{IsValid}
-use Rattle.dn_changes.proofs.Unread.{slot_word_low}
+use Rattle.law_write.proofs.Unread.{slot_word_low}
 use Rattle.dn_row_changes.specs.Words.{IsTableWord, IsUntold}
 use Rattle.dn_row_changes.proofs.TableRows.{good_of}
 use Rattle.dn_row_changes.proofs.Unused.{indirect_untold, closed_untold}

@@ -5,7 +5,7 @@ use Rattle.dn_model.specs.Table.{Row, row_of}
 use Rattle.dn_model.specs.Disk.{Disk, Dying, MapsTo, IsMapped, maps, rows}
 use Rattle.dn_model.specs.Counts.{total, hit, mappings, IsFree, IsNear, Near}
 use Rattle.dn_model.specs.Valid.{IsValid}
-use Rattle.dn_changes.specs.Writing.{Writes}
+use Rattle.law_write.specs.Writing.{Writes}
 
 -- the places of an inode that are mapped to the page
 abbrev pub places : Disk → ℕ → ℕ → ℕ

@@ -9,7 +9,7 @@ use Rattle.dn_model.specs.Disk.{Disk, DiskSays, TableSays, rows}
 use Rattle.dn_model.specs.Counts.{mappings, IsLogPage, IsNear}
 use Rattle.dn_model.specs.Valid.{HasGoodRows, IsValid}
 use Rattle.dn_model.specs.Image.{StandsFor}
-use Rattle.dn_changes.specs.Events.{IsReadPage}
+use Rattle.law_write.specs.Events.{IsReadPage}
 use Rattle.dn_row_changes.specs.Changes.{with_table}
 use Rattle.dn_row_changes.specs.Words.{IsTableWord, HoldsTable}
 

@@ -8,7 +8,7 @@ use Rattle.dn_model.specs.Log.{Log, count}
 use Rattle.dn_model.specs.Disk.{Disk, Inode}
 use Rattle.dn_model.specs.History.{needed}
 use Rattle.dn_model.specs.Valid.{IsValid}
-use Rattle.dn_changes.specs.Events.{IsUnused}
+use Rattle.law_write.specs.Events.{IsUnused}
 use Rattle.dn_volume.specs.declared.flight.Flight.{Flight}
 use Rattle.dn_volume.specs.declared.flight.DataChange.{DataChange}
 use Rattle.dn_volume.specs.Parties.{taken_by}

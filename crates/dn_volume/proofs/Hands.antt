@@ -7,8 +7,8 @@ use Rattle.std.specs.Ordering.{nat_cmp}
 use Rattle.std.specs.Cmp.Lexicographic.{slice_cmp}
 use Rattle.page_alloc.specs.Free.{FreePages, IsInOrder}
 use Rattle.file_content.specs.Content.{kept}
-use Rattle.dn_changes.specs.Events.{IsUnused}
-use Rattle.dn_changes.proofs.Counting.{total-same}
+use Rattle.law_write.specs.Events.{IsUnused}
+use Rattle.law_write.proofs.Counting.{total-same}
 use Rattle.dn_model.specs.Maps.{Mapping}
 use Rattle.dn_model.specs.Table.{Row}
 use Rattle.dn_model.specs.Disk.{Disk, maps}

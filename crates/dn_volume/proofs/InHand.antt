@@ -14,8 +14,8 @@ use Rattle.dn_model.specs.Valid.{IsValid}
 use Rattle.dn_model.specs.Own.{page_bytes}
 use Rattle.dn_table_changes.specs.BalanceLaws.{IsBalanced}
 use Rattle.dn_row_changes.proofs.Rows.{row_found}
-use Rattle.dn_changes.specs.Events.{IsReadPage}
-use Rattle.dn_changes.proofs.MappedPlaces.{maps-in_file}
+use Rattle.law_write.specs.Events.{IsReadPage}
+use Rattle.law_write.proofs.MappedPlaces.{maps-in_file}
 use Rattle.dn_volume.specs.declared.background.Sharing.{Sharing}
 use Rattle.dn_volume.specs.declared.background.SharingStep.{SharingStep}
 use Rattle.dn_volume.specs.declared.background.SharingStep.TheVariants.{Look, Remap, Settle}

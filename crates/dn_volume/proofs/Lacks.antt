@@ -17,9 +17,9 @@ use Rattle.dn_volume.specs.Begins.{LacksSpace, AreFlying}
 use Rattle.dn_volume.specs.Laws.{WantsAreShort}
 use Rattle.dn_volume.proofs.FlightsGranted.{flights_granted}
 use Rattle.dn_model.specs.Counts.{total, mappings, IsFree}
-use Rattle.dn_changes.specs.Events.{IsUnused}
-use Rattle.dn_changes.proofs.Counting.{total-some}
-use Rattle.dn_changes.proofs.MappedPlaces.{maps-in_file}
+use Rattle.law_write.specs.Events.{IsUnused}
+use Rattle.law_write.proofs.Counting.{total-some}
+use Rattle.law_write.proofs.MappedPlaces.{maps-in_file}
 use Rattle.law_unique.proofs.Counted.{counts_mappings}
 use Rattle.law_unique.proofs.Listings.{here, later, none_listed, cons_cases}
 use Rattle.dn_row_changes.proofs.Rows.{row_listed, some_or_none}

@@ -16,7 +16,7 @@ use Rattle.dn_model.specs.History.{needed, extra, name_slots}
 use Rattle.dn_model.specs.Valid.{IsValid}
 use Rattle.dn_model.specs.declared.op.Op.{Op}
 use Rattle.dn_model.specs.declared.op.Op.TheVariants.{Create, Write, Read, Cut, Remove, Rename, Size, List as ListAll}
-use Rattle.dn_changes.specs.Events.{IsUnused}
+use Rattle.law_write.specs.Events.{IsUnused}
 use Rattle.dn_name_changes.specs.NameChange.{NameChange as DiskChange, Turn, Stays, Comes, Goes, FreshNames, in_root, in_inode, turn_words, turn_field, root_after}
 use Rattle.dn_volume.specs.declared.flight.Flight.{Flight}
 use Rattle.dn_volume.specs.declared.flight.NameChange.{NameChange}

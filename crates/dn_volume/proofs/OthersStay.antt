@@ -4,7 +4,7 @@ use Rattle.std.specs.Prelude.{slice_get, Option, Some, None, Contains}
 use Rattle.std.proofs.lemmas.Option.{slice_get_cases}
 use Rattle.pm_device.specs.State.{State}
 use Rattle.dn_model.specs.Disk.{Disk, Use, Live, Dying}
-use Rattle.dn_changes.specs.Events.{IsUnused}
+use Rattle.law_write.specs.Events.{IsUnused}
 use Rattle.dn_volume.specs.declared.flight.Flight.{Flight}
 use Rattle.dn_volume.specs.declared.volume.InodeState.{InodeState}
 use Rattle.dn_volume.specs.declared.volume.Parts.{Parts}

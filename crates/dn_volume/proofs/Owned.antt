@@ -8,7 +8,7 @@ use Rattle.pm_layout.specs.Geometry.{InData, IsAccepted, inode_word, first_data,
 use Rattle.dn_model.specs.Disk.{Disk, IsUsed}
 use Rattle.dn_model.specs.Valid.{IsValid}
 use Rattle.dn_model.proofs.Regions.{inode_word_low}
-use Rattle.dn_changes.specs.Events.{IsUnused}
+use Rattle.law_write.specs.Events.{IsUnused}
 use Rattle.dn_volume.specs.Rely.{IsWordOf, of_journal, of_table, of_inode, of_log, of_page}
 
 regions : (g : Geometry) → IsAccepted g → (3 ≤ first_data g) × (direct_page g ≤ first_data g)

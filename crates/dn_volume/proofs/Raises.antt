@@ -2,7 +2,7 @@
 use Rattle.std.proofs.Common.{◌≡◌, ◌≢◌, ℕ, suc, ◌+◌, ◌<◌, List, [], ◌∷◌, ◌++◌, length, ◌∙◌, ap, arith}
 use Rattle.std.specs.Prelude.{get_or, take, Option, Some}
 use Rattle.std.proofs.Math.Seq.{take-suc}
-use Rattle.dn_changes.proofs.Counting.{total-change}
+use Rattle.law_write.proofs.Counting.{total-change}
 use Rattle.dn_volume.specs.declared.flight.Flight.{Flight}
 use Rattle.dn_volume.specs.declared.volume.Parts.{Parts}
 use Rattle.dn_volume.specs.Parties.{flight_at}

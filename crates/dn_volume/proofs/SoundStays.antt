@@ -18,7 +18,7 @@ use Rattle.dn_model.specs.Course.{Base, base_files, WasAlone}
 use Rattle.dn_model.specs.LeftBy.{IsOnTheWay}
 use Rattle.dn_model.specs.OnCourse.{IsImageOf}
 use Rattle.dn_model.specs.declared.op.Entry.{Entry}
-use Rattle.dn_changes.proofs.WriteEvent.{stands_for_read, length-left}
+use Rattle.law_write.proofs.WriteEvent.{stands_for_read, length-left}
 use Rattle.pm_device.proofs.Layers.{leaves_now-stands}
 use Rattle.dn_volume.specs.declared.outcome.CountChange.{CountChange}
 use Rattle.dn_volume.specs.declared.volume.Parts.{Parts}

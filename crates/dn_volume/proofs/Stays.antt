@@ -10,7 +10,7 @@ use Rattle.dn_model.specs.History.{needed, touched, extra, refilled, inode_of, l
 use Rattle.dn_model.specs.declared.op.Op.{Op}
 use Rattle.dn_model.specs.declared.op.Op.TheVariants.{Create, Write, Read, Cut, Remove, Rename, Size, List as ListAll}
 use Rattle.dn_model.specs.Valid.{IsValid}
-use Rattle.dn_changes.proofs.MappedPlaces.{maps-in_file}
+use Rattle.law_write.proofs.MappedPlaces.{maps-in_file}
 use Rattle.dn_volume.specs.declared.flight.Flight.{Flight}
 use Rattle.dn_volume.specs.declared.flight.DataChange.{DataChange}
 use Rattle.dn_volume.specs.Planned.{slot_of, row_slots, gone_from, PlansData}

@@ -4,13 +4,13 @@ use Rattle.std.specs.Prelude.{◌↔◌, Contains, get_or, take, slice_get}
 use Rattle.std.proofs.lemmas.Bool.{cases_eq, cases_lt}
 use Rattle.std.proofs.lemmas.Option.{slice_get_cases}
 use Rattle.dn_model.specs.Disk.{Disk, rows}
-use Rattle.dn_changes.proofs.Counting.{total-change}
+use Rattle.law_write.proofs.Counting.{total-change}
 use Rattle.dn_volume.specs.declared.flight.Flight.{Flight}
 use Rattle.dn_volume.specs.declared.volume.Parts.{Parts}
 use Rattle.dn_volume.specs.Parties.{Flies, Holds, by_client, by_daemon, Takes, for_client, SameOthers, KeepsOps, flight_at, opened, taken_by}
 use Rattle.dn_volume.specs.Inodes.{AreHolders}
 use Rattle.page_alloc.specs.Free.{IsInOrder}
-use Rattle.dn_changes.specs.Events.{IsUnused}
+use Rattle.law_write.specs.Events.{IsUnused}
 use Rattle.dn_volume.specs.Space.{HasSpace}
 use Rattle.dn_volume.specs.Balance.{raised, added, dropped, raised_by, times, raised_to_share, added_to_share, raised_to_die, AreCounted}
 use Rattle.dn_volume.specs.Shares.{IsWaiting, in_queue, is_begun, IsQueued}

@@ -9,8 +9,8 @@ use Rattle.dn_model.specs.Counts.{total}
 use Rattle.dn_model.specs.History.{IsShortOfInodes}
 use Rattle.dn_model.specs.declared.op.Op.{Op}
 use Rattle.dn_model.specs.declared.op.Op.TheVariants.{Create, Write, Read, Cut, Remove, Rename, Size, List as ListAll}
-use Rattle.dn_changes.proofs.Counting.{term-le}
-use Rattle.dn_changes.proofs.MappedPlaces.{maps-in_file}
+use Rattle.law_write.proofs.Counting.{term-le}
+use Rattle.law_write.proofs.MappedPlaces.{maps-in_file}
 use Rattle.dn_volume.specs.declared.background.DyingPlace.{DyingPlace}
 use Rattle.dn_volume.specs.declared.volume.Parts.{Parts}
 use Rattle.dn_volume.specs.Reclaims.{mapped_places, dying_units, units_by_use, one_if, IsRaised}

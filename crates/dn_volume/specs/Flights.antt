@@ -10,7 +10,7 @@ use Rattle.dn_model.specs.Log.{count, tail_at}
 use Rattle.dn_model.specs.Disk.{Disk, Live, Dying}
 use Rattle.dn_model.specs.Files.{bytes}
 use Rattle.dn_model.specs.History.{needed}
-use Rattle.dn_changes.specs.Runs.{IsChained, places_in, block_at}
+use Rattle.law_write.specs.Runs.{IsChained, places_in, block_at}
 use Rattle.dn_name_changes.specs.NameChange.{NameChange as DiskChange, FreshNames, root_after, Turn, Stays, Comes, Goes}
 use Rattle.file_content.specs.Pages.{AreApart}
 use Rattle.file_content.specs.Runs.{all_seen}

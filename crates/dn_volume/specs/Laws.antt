@@ -12,7 +12,7 @@ use Rattle.dn_model.specs.Course.{Base}
 use Rattle.dn_model.specs.declared.op.Op.{Op}
 use Rattle.dn_model.specs.declared.op.Reply.{Reply}
 use Rattle.fact_table.specs.Table.{IsTable}
-use Rattle.dn_changes.specs.Events.{IsUnused}
+use Rattle.law_write.specs.Events.{IsUnused}
 use Rattle.file_content.specs.Pages.{IsInPages}
 use Rattle.dn_volume.specs.declared.outcome.Outcome.TheVariants.{Running, Done}
 use Rattle.dn_volume.specs.declared.volume.Parts.{Parts}

@@ -11,7 +11,7 @@ use Rattle.dn_model.specs.Files.{named}
 use Rattle.dn_model.specs.History.{touched, refilled}
 use Rattle.dn_model.specs.declared.op.Op.{Op}
 use Rattle.dn_model.specs.declared.op.Op.TheVariants.{Create, Write, Read, Cut, Remove, Rename, Size, List as ListAll}
-use Rattle.dn_changes.specs.Runs.{Run, run_items}
+use Rattle.law_write.specs.Runs.{Run, run_items}
 use Rattle.file_content.specs.Content.{merged_byte}
 use Rattle.dn_volume.specs.declared.flight.Flight.{Flight}
 use Rattle.dn_volume.specs.declared.flight.DataChange.{DataChange}

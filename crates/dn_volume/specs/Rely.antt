@@ -11,7 +11,7 @@ use Rattle.dn_model.specs.Table.{Row, row_of}
 use Rattle.dn_model.specs.Disk.{Disk, Dying, IsUsed, maps, rows}
 use Rattle.dn_model.specs.Files.{named}
 use Rattle.dn_model.specs.Valid.{IsValid}
-use Rattle.dn_changes.specs.Events.{IsReadPage, IsUnused}
+use Rattle.law_write.specs.Events.{IsReadPage, IsUnused}
 use Rattle.dn_row_changes.specs.Words.{IsTableWord}
 use Rattle.dn_volume.specs.declared.background.DyingPlace.{DyingPlace}
 use Rattle.dn_volume.specs.declared.flight.Flight.{Flight}

@@ -4,7 +4,7 @@ use Rattle.page_alloc.specs.Free.{IsInOrder}
 use Rattle.pm_layout.specs.Geometry.{directs}
 use Rattle.fact_table.specs.Table.{Table, HasRow, HasNoneAt}
 use Rattle.dn_model.specs.Disk.{Disk}
-use Rattle.dn_changes.specs.Events.{IsUnused}
+use Rattle.law_write.specs.Events.{IsUnused}
 use Rattle.dn_volume.specs.declared.volume.Parts.{Parts}
 use Rattle.dn_volume.specs.Parties.{Takes}
 

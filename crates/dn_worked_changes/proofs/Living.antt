@@ -20,12 +20,12 @@ use Rattle.dn_model.specs.Apply.{written, bytes_or_none, after_op}
 use Rattle.dn_model.specs.Valid.{IsValid}
 use Rattle.dn_model.specs.Own.{Print, IsOwn}
 use Rattle.dn_model.specs.declared.op.Op.TheVariants.{Create, Write, Remove}
-use Rattle.dn_changes.specs.Events.{IsUnused}
-use Rattle.dn_changes.specs.Writing.{Writes}
-use Rattle.dn_changes.specs.Runs.{run_items}
-use Rattle.dn_changes.specs.WithLog.{grown_log}
-use Rattle.dn_changes.proofs.WithLog.{with_log-log, with_log-other, with_log-word}
-use Rattle.dn_changes.proofs.WriteValid.{rows_kept}
+use Rattle.law_write.specs.Events.{IsUnused}
+use Rattle.law_write.specs.Writing.{Writes}
+use Rattle.law_write.specs.Runs.{run_items}
+use Rattle.law_write.specs.WithLog.{grown_log}
+use Rattle.law_write.proofs.WithLog.{with_log-log, with_log-other, with_log-word}
+use Rattle.law_write.proofs.WriteValid.{rows_kept}
 use Rattle.dn_row_changes.proofs.Rows.{some_or_none, listed_cases}
 use Rattle.dn_name_changes.specs.NameChange.{NameChange, MayChange, ChangesNames}
 use Rattle.dn_name_changes.specs.Keeping.{KeepsData}

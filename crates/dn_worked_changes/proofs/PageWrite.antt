@@ -16,14 +16,14 @@ use Rattle.dn_model.specs.Apply.{written, after_op}
 use Rattle.dn_model.specs.Valid.{IsValid}
 use Rattle.dn_model.specs.Own.{Print, IsOwn}
 use Rattle.dn_model.specs.declared.op.Op.TheVariants.{Write}
-use Rattle.dn_changes.specs.Events.{IsReadPage, IsUnused}
-use Rattle.dn_changes.specs.Writing.{Writes, WritesBytes}
-use Rattle.dn_changes.specs.Runs.{block_at}
-use Rattle.dn_changes.specs.MayWrite.{written_disk, IsLeft, MayWrite}
-use Rattle.dn_changes.specs.WriteLaws.{TakesAndFrees, IsWriteOf}
-use Rattle.dn_changes.proofs.Unread.{unused_unread}
-use Rattle.dn_changes.proofs.WithLog.{with_log-other, with_log-word}
-use Rattle.dn_changes.proofs.WriteBytes.{length-bytes}
+use Rattle.law_write.specs.Events.{IsReadPage, IsUnused}
+use Rattle.law_write.specs.Writing.{Writes, WritesBytes}
+use Rattle.law_write.specs.Runs.{block_at}
+use Rattle.law_write.specs.MayWrite.{written_disk, IsLeft, MayWrite}
+use Rattle.law_write.specs.WriteLaws.{TakesAndFrees, IsWriteOf}
+use Rattle.law_write.proofs.Unread.{unused_unread}
+use Rattle.law_write.proofs.WithLog.{with_log-other, with_log-word}
+use Rattle.law_write.proofs.WriteBytes.{length-bytes}
 use Rattle.dn_worked_changes.specs.Life.{on_page, HoldsBytes}
 use Rattle.dn_worked_changes.proofs.Laws.{Laws}
 

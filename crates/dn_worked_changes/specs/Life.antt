@@ -11,8 +11,8 @@ use Rattle.dn_model.specs.Valid.{IsValid}
 use Rattle.dn_model.specs.Own.{Print, IsOwn}
 use Rattle.dn_model.specs.declared.op.Op.{Op}
 use Rattle.dn_model.specs.declared.op.Op.TheVariants.{Create, Write, Remove}
-use Rattle.dn_changes.specs.Runs.{Run}
-use Rattle.dn_changes.specs.MayWrite.{written_disk}
+use Rattle.law_write.specs.Runs.{Run}
+use Rattle.law_write.specs.MayWrite.{written_disk}
 use Rattle.dn_name_changes.specs.Operations.{created_disk, unnamed_disk}
 use Rattle.dn_model.specs.Empty.{empty_disk}
 

@@ -3,7 +3,7 @@
 
 ghost use Rattle.dn_worked_changes.specs.Life.{FilesLive};
 
-use dn_changes::writes;
+use law_write::writes;
 use dn_name_changes::names;
 use dn_table_changes::counted;
 use recovery::laws;

@@ -11,7 +11,7 @@ use Rattle.pm_layout.specs.Geometry.{slots, slot_word, pointer_word}
 use Rattle.dn_model.specs.Table.{Row, prefix_of}
 use Rattle.dn_model.specs.Disk.{Disk}
 use Rattle.dn_model.specs.Valid.{HasGoodRows}
-use Rattle.dn_changes.proofs.Unread.{slot_word_low, pointer_word_low}
+use Rattle.law_write.proofs.Unread.{slot_word_low, pointer_word_low}
 use Rattle.dn_row_changes.specs.Changes.{slot_before}
 use Rattle.dn_row_changes.proofs.Rows.{same_test, other_test}
 use Rattle.dn_row_changes.proofs.Slots.{HasSlot}

@@ -16,9 +16,9 @@ use Rattle.dn_model.specs.Growth.{Prepared}
 use Rattle.dn_model.specs.Disk.{Disk, DiskSays, IsUsed, of_logs}
 use Rattle.dn_model.specs.Image.{StandsFor}
 use Rattle.inode_log.specs.Prepare.{IsToPrepare, CanPrepare, IsPreparedBy}
-use Rattle.dn_changes.specs.Writing.{Writes, IsStored, IsBlockWord}
-use Rattle.dn_changes.proofs.Unread.{prepared_unsaid, prepared_not_in}
-use Rattle.dn_changes.proofs.WriteEvent.{length-left, stands_for_read, stored_ready, written_images, written_stands}
+use Rattle.law_write.specs.Writing.{Writes, IsStored, IsBlockWord}
+use Rattle.law_write.proofs.Unread.{prepared_unsaid, prepared_not_in}
+use Rattle.law_write.proofs.WriteEvent.{length-left, stands_for_read, stored_ready, written_images, written_stands}
 use Rattle.file_commit.specs.Commit.{IsItemWord}
 use Rattle.file_commit.specs.Append.{IsReadyToAppend, AppendsOnly}
 

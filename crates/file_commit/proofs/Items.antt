@@ -17,13 +17,13 @@ use Rattle.dn_model.specs.Growth.{Prepared}
 use Rattle.dn_model.specs.Disk.{Disk, DiskSays, IsUsed, of_logs}
 use Rattle.dn_model.specs.Image.{StandsFor}
 use Rattle.inode_log.specs.Prepare.{IsToPrepare, CanPrepare, IsPreparedBy}
-use Rattle.dn_changes.specs.Writing.{Writes, WritesWell, IsStored, IsBlockWord}
-use Rattle.dn_changes.specs.Runs.{Run, places_in, block_at}
-use Rattle.dn_changes.specs.MayWrite.{written_disk}
-use Rattle.dn_changes.proofs.Unread.{prepared_unsaid, prepared_not_in}
-use Rattle.dn_changes.proofs.WithLog.{with_log-word}
-use Rattle.dn_changes.proofs.WriteEvent.{length-left, stands_for_read, stored_ready, written_images, written_stands}
-use Rattle.dn_changes.proofs.WrittenDisk.{written-writes, written-well}
+use Rattle.law_write.specs.Writing.{Writes, WritesWell, IsStored, IsBlockWord}
+use Rattle.law_write.specs.Runs.{Run, places_in, block_at}
+use Rattle.law_write.specs.MayWrite.{written_disk}
+use Rattle.law_write.proofs.Unread.{prepared_unsaid, prepared_not_in}
+use Rattle.law_write.proofs.WithLog.{with_log-word}
+use Rattle.law_write.proofs.WriteEvent.{length-left, stands_for_read, stored_ready, written_images, written_stands}
+use Rattle.law_write.proofs.WrittenDisk.{written-writes, written-well}
 use Rattle.file_commit.specs.Commit.{IsReadyToCommit, IsItemWord}
 
 module _ (g : Geometry) (ino : ℕ) (fresh : List ℕ) (slots : List (List ℕ)) (d : Disk) (first size : ℕ) (runs : List Run) (word : ℕ → ℕ → ℕ) (s : State)

@@ -7,7 +7,7 @@ use Rattle.pm_layout.specs.declared.Geometry.{Geometry}
 use Rattle.log_entry.specs.Spelling.{spelled}
 use Rattle.dn_model.specs.Disk.{Disk, DiskSays}
 use Rattle.dn_model.specs.Image.{StandsFor}
-use Rattle.dn_changes.specs.Writing.{Writes, WritesWell, IsBlockWord}
+use Rattle.law_write.specs.Writing.{Writes, WritesWell, IsBlockWord}
 use Rattle.file_commit.specs.Commit.{IsItemWord}
 
 -- The device stands for the old disk, and the event leads to the new one. The words of its pages stand, and are settled

@@ -10,8 +10,8 @@ use Rattle.dn_model.specs.Growth.{Prepared}
 use Rattle.dn_model.specs.Disk.{Disk, DiskSays}
 use Rattle.dn_model.specs.Counts.{Near}
 use Rattle.dn_model.specs.Image.{StandsFor}
-use Rattle.dn_changes.specs.Runs.{Run, run_items, places_in, block_at}
-use Rattle.dn_changes.specs.MayWrite.{written_disk, MayWrite}
+use Rattle.law_write.specs.Runs.{Run, run_items, places_in, block_at}
+use Rattle.law_write.specs.MayWrite.{written_disk, MayWrite}
 
 -- The device stands for this disk. The runs map places from first on to pages whose words stand and are durable, in
 -- a file that then has this size; the slots spell their items.

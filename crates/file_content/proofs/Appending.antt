@@ -12,7 +12,7 @@ use Rattle.file_index.specs.declared.page_map.Mapping.{Mapping}
 use Rattle.dn_model.specs.Disk.{Disk, DiskSays}
 use Rattle.dn_model.specs.Files.{bytes}
 use Rattle.dn_model.specs.Valid.{IsValid}
-use Rattle.dn_changes.proofs.WriteBytes.{length-bytes}
+use Rattle.law_write.proofs.WriteBytes.{length-bytes}
 use Rattle.file_content.specs.Content.{IsFileOf, file_byte}
 use Rattle.file_content.specs.ReadLoop.{AppendsBytes}
 use Rattle.file_content.proofs.FileBytes.{byte_is}

@@ -11,8 +11,8 @@ use Rattle.file_index.specs.Index.{Index, Puts}
 use Rattle.dn_model.specs.Maps.{Mapping as DiskMapping}
 use Rattle.dn_model.specs.Disk.{Disk, IsMapped, maps}
 use Rattle.dn_model.specs.Valid.{IsValid}
-use Rattle.dn_changes.proofs.MappedPlaces.{maps-in_file}
-use Rattle.dn_changes.proofs.Unread.{read_in_data}
+use Rattle.law_write.proofs.MappedPlaces.{maps-in_file}
+use Rattle.law_write.proofs.Unread.{read_in_data}
 use Rattle.file_content.specs.Content.{IsFileOf, AreBlocksIn, kept}
 
 abbrev IsIn : Geometry → Mapping → Type 0

@@ -2,8 +2,8 @@
 use Rattle.std.proofs.Common.{◌≡◌, ◌≢◌, inl, inr, ℕ, ◌+◌, ◌-◌, ◌<◌, ◌≤◌, List, [], ◌∷◌, ◌++◌, length, sym, ◌∙◌, ap, arith, length-append}
 use Rattle.std.specs.Prelude.{slice_index}
 use Rattle.std.proofs.lemmas.Bool.{cases_lt}
-use Rattle.dn_changes.specs.Runs.{Run, places_in, block_at, IsChained}
-use Rattle.dn_changes.proofs.RunItems.{block_at-here, block_at-later}
+use Rattle.law_write.specs.Runs.{Run, places_in, block_at, IsChained}
+use Rattle.law_write.proofs.RunItems.{block_at-here, block_at-later}
 use Rattle.file_content.specs.Slots.{IsRunAt, AreMaximal, IsCutInto}
 use Rattle.file_content.specs.SlotLoop.{GoesOnTo, IsCutTo}
 

@@ -18,8 +18,8 @@ use Rattle.dn_model.specs.Disk.{Disk, DiskSays, of_pages, IsMapped, maps}
 use Rattle.dn_model.specs.Files.{bytes, byte_of, mapped_byte}
 use Rattle.dn_model.specs.Valid.{IsValid}
 use Rattle.dn_model.specs.Own.{file_page}
-use Rattle.dn_changes.proofs.MappedPlaces.{maps-in_file}
-use Rattle.dn_changes.proofs.WriteBytes.{length-bytes, byte_at}
+use Rattle.law_write.proofs.MappedPlaces.{maps-in_file}
+use Rattle.law_write.proofs.WriteBytes.{length-bytes, byte_at}
 use Rattle.file_content.specs.Content.{IsFileOf, kept, block_byte, file_byte, IsPlaceOf}
 use Rattle.file_content.specs.ReadLoop.{place_byte}
 

@@ -19,8 +19,8 @@ use Rattle.file_index.specs.declared.page_map.Mapping.{Mapping}
 use Rattle.dn_model.specs.Disk.{Disk, DiskSays}
 use Rattle.dn_model.specs.Files.{bytes}
 use Rattle.dn_model.specs.Valid.{IsValid}
-use Rattle.dn_changes.specs.Events.{IsUnused}
-use Rattle.dn_changes.proofs.Unread.{unused_unsaid}
+use Rattle.law_write.specs.Events.{IsUnused}
+use Rattle.law_write.proofs.Unread.{unused_unsaid}
 use Rattle.file_content.specs.Content.{IsFileOf, IsFilled, SettlesBut}
 use Rattle.file_content.specs.Pages.{IsInPages, AreApart}
 use Rattle.file_content.specs.FillLoop.{FillsTo}

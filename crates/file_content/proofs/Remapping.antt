@@ -14,14 +14,14 @@ use Rattle.dn_model.specs.Log.{Log, IsPaged, count, tail_at, slot_name, Placed, 
 use Rattle.dn_model.specs.Maps.{Mapping as DiskMapping, mapping, mapped_after, remapped}
 use Rattle.dn_model.specs.Disk.{Disk, Use, maps, maps_by_use}
 use Rattle.dn_model.specs.Growth.{IsGrown}
-use Rattle.dn_changes.specs.Events.{Relogs}
-use Rattle.dn_changes.specs.Runs.{run_item, run_items, places_in, IsChained}
-use Rattle.dn_changes.specs.MayWrite.{MayWrite, written_disk}
-use Rattle.dn_changes.proofs.Mapped.{mapping-grown}
-use Rattle.dn_changes.proofs.MappedPlaces.{uncut, mapping-below}
-use Rattle.dn_changes.proofs.WithLog.{with_log-grown}
-use Rattle.dn_changes.proofs.WriteRuns.{size-last}
-use Rattle.dn_changes.proofs.WrittenDisk.{log_before, written-relogs}
+use Rattle.law_write.specs.Events.{Relogs}
+use Rattle.law_write.specs.Runs.{run_item, run_items, places_in, IsChained}
+use Rattle.law_write.specs.MayWrite.{MayWrite, written_disk}
+use Rattle.law_write.proofs.Mapped.{mapping-grown}
+use Rattle.law_write.proofs.MappedPlaces.{uncut, mapping-below}
+use Rattle.law_write.proofs.WithLog.{with_log-grown}
+use Rattle.law_write.proofs.WriteRuns.{size-last}
+use Rattle.law_write.proofs.WrittenDisk.{log_before, written-relogs}
 use Rattle.file_index.specs.Index.{Index}
 use Rattle.file_index.specs.declared.page_map.Mapping.{Mapping}
 use Rattle.file_content.specs.declared.runs.Run.{Run}

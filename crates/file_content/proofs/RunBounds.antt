@@ -3,8 +3,8 @@ use Rattle.std.proofs.Common.{ℕ, ◌+◌, ◌-◌, ◌<◌, ◌≤◌, List, [
 use Rattle.std.specs.Prelude.{All}
 use Rattle.std.proofs.lemmas.List.Elements.{All-nil, All-cons}
 use Rattle.log_entry.specs.Spelling.{IsSpelled, pages_of}
-use Rattle.dn_changes.specs.Runs.{run_items, places_in, block_at, IsChained}
-use Rattle.dn_changes.proofs.RunItems.{block_at-here, block_at-later, runs-spelled}
+use Rattle.law_write.specs.Runs.{run_items, places_in, block_at, IsChained}
+use Rattle.law_write.proofs.RunItems.{block_at-here, block_at-later, runs-spelled}
 use Rattle.file_content.specs.declared.runs.Run.{Run}
 use Rattle.file_content.specs.Runs.{seen, all_seen}
 use Rattle.file_content.specs.Slots.{IsCutInto}

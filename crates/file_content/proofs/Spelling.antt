@@ -4,7 +4,7 @@ use Rattle.std.specs.Prelude.{get_or, All}
 use Rattle.std.proofs.Math.ListN.{get_or-map}
 use Rattle.std.proofs.lemmas.List.{length-map}
 use Rattle.log_entry.specs.Spelling.{IsSpelled}
-use Rattle.dn_changes.specs.Runs.{run_item, run_items}
+use Rattle.law_write.specs.Runs.{run_item, run_items}
 use Rattle.file_content.specs.declared.runs.Run.{Run}
 use Rattle.file_content.specs.Runs.{seen, all_seen}
 

@@ -10,7 +10,7 @@ use Rattle.file_index.specs.declared.page_map.Mapping.{Mapping}
 use Rattle.dn_model.specs.Disk.{Disk, DiskSays}
 use Rattle.dn_model.specs.Files.{bytes}
 use Rattle.dn_model.specs.Valid.{IsValid}
-use Rattle.dn_changes.specs.Events.{IsUnused}
+use Rattle.law_write.specs.Events.{IsUnused}
 use Rattle.file_content.specs.Content.{IsFileOf, IsFilled}
 
 -- a word of one of the pages

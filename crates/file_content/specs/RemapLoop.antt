@@ -4,7 +4,7 @@ use Rattle.std.specs.Ordering.{nat_cmp}
 use Rattle.std.specs.FinMap.{get}
 use Rattle.pm_layout.specs.declared.Geometry.{Geometry}
 use Rattle.dn_model.specs.Log.{Log, IsPaged, count, tail_at, slot_name}
-use Rattle.dn_changes.specs.Runs.{places_in}
+use Rattle.law_write.specs.Runs.{places_in}
 use Rattle.file_index.specs.Index.{Index}
 use Rattle.file_index.specs.declared.page_map.Mapping.{Mapping}
 use Rattle.file_content.specs.declared.runs.Run.{Run}

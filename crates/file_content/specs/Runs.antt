@@ -1,7 +1,7 @@
 -- Runs as they are kept in memory, and what they make of the mappings that are kept in memory.
 use Rattle.std.specs.Prelude.{ℕ, ◌+◌, ◌-◌, ◌&&◌, nat_le, nat_lt, if◌then◌else◌, List, [], ◌∷◌, map, Option, Some}
 use Rattle.file_index.specs.declared.page_map.Mapping.{Mapping}
-use Rattle.dn_changes.specs.Runs.{Run as DiskRun}
+use Rattle.law_write.specs.Runs.{Run as DiskRun}
 use Rattle.file_content.specs.declared.runs.Run.{Run}
 
 -- a run, as the laws of changes see it

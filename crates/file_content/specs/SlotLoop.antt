@@ -1,7 +1,7 @@
 -- How far the pages of a write are cut into runs, and how far the slots of the runs are made.
 use Rattle.std.specs.Prelude.{◌≡◌, ◌≢◌, ℕ, ◌+◌, ◌-◌, ◌<◌, ◌≤◌, List, ◌++◌, length, slice_index, drop}
 use Rattle.log_entry.specs.Spelling.{spelled}
-use Rattle.dn_changes.specs.Runs.{Run, run_items, places_in, block_at, IsChained}
+use Rattle.law_write.specs.Runs.{Run, run_items, places_in, block_at, IsChained}
 use Rattle.file_content.specs.declared.runs.Run.{Run as KeptRun}
 use Rattle.file_content.specs.Runs.{all_seen}
 use Rattle.file_content.specs.Slots.{AreMaximal}

@@ -1,6 +1,6 @@
 -- How the pages that a write takes are cut into runs.
 use Rattle.std.specs.Prelude.{◌≡◌, ◌≢◌, ℕ, ◌+◌, ◌-◌, ◌<◌, ◌≤◌, List, [], ◌∷◌, length, slice_index}
-use Rattle.dn_changes.specs.Runs.{Run, places_in, block_at, IsChained}
+use Rattle.law_write.specs.Runs.{Run, places_in, block_at, IsChained}
 
 -- from this place on, so many of the pages have consecutive numbers, and the page behind them doesn't follow
 pub record IsRunAt (pages : List ℕ) (from count : ℕ) : Type 0 where

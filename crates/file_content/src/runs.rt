@@ -1,7 +1,7 @@
 // The pages of a write, cut into runs, and the slots of their items.
 ghost use Rattle.std.specs.Prelude.{◌≡◌, ◌↔◌, ◌+◌, ◌<◌, ◌≤◌, ℕ, length, IsTrue, IfOk, All};
 ghost use Rattle.log_entry.specs.Spelling.{IsSpelled, spelled};
-ghost use Rattle.dn_changes.specs.Runs.{run_items};
+ghost use Rattle.law_write.specs.Runs.{run_items};
 ghost use Rattle.file_content.specs.Runs.{all_seen};
 ghost use Rattle.file_content.specs.Slots.{IsRunAt, IsCutInto};
 

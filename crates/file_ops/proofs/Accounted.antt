@@ -8,11 +8,11 @@ use Rattle.dn_model.specs.Table.{Row}
 use Rattle.dn_model.specs.Disk.{Disk, maps, rows}
 use Rattle.dn_model.specs.Files.{byte_of}
 use Rattle.dn_model.specs.Own.{Print, LivePlace, IsAlone, page_bytes}
-use Rattle.dn_changes.specs.Events.{IsReadPage}
-use Rattle.dn_changes.specs.Writing.{Writes, WritesWell}
-use Rattle.dn_changes.proofs.MappedPlaces.{maps-in_file, cut_some}
-use Rattle.dn_changes.proofs.WriteCounts.{own_or_other, maps_others}
-use Rattle.dn_changes.proofs.WriteValid.{use_kept, rows_kept, below_old}
+use Rattle.law_write.specs.Events.{IsReadPage}
+use Rattle.law_write.specs.Writing.{Writes, WritesWell}
+use Rattle.law_write.proofs.MappedPlaces.{maps-in_file, cut_some}
+use Rattle.law_write.proofs.WriteCounts.{own_or_other, maps_others}
+use Rattle.law_write.proofs.WriteValid.{use_kept, rows_kept, below_old}
 use Rattle.dn_row_changes.proofs.Rows.{row_found}
 use Rattle.dn_volume.specs.Accounts.{WasAloneOn, AccountsFor}
 

@@ -8,7 +8,7 @@ use Rattle.pm_layout.specs.declared.Geometry.{Geometry}
 use Rattle.pm_layout.specs.Geometry.{slots}
 use Rattle.dn_model.specs.Table.{Row}
 use Rattle.dn_model.specs.Disk.{Disk, DiskSays, rows}
-use Rattle.dn_changes.proofs.WriteValid.{named_same, written_valid}
+use Rattle.law_write.proofs.WriteValid.{named_same, written_valid}
 use Rattle.file_commit.specs.Append.{AppendsOnly, SettlesItems}
 use Rattle.dn_volume.specs.declared.flight.Flight.{Flight}
 use Rattle.dn_volume.specs.declared.flight.Change.{Change}

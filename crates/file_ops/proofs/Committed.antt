@@ -16,8 +16,8 @@ use Rattle.dn_model.specs.Apply.{IsGranted, Grants, after_op}
 use Rattle.dn_model.specs.declared.op.Op.{Op}
 use Rattle.dn_model.specs.declared.op.Op.TheVariants.{Write}
 use Rattle.dn_model.specs.declared.op.Reply.TheVariants.{Done}
-use Rattle.dn_changes.specs.Writing.{Writes}
-use Rattle.dn_changes.proofs.WriteValid.{rows_kept}
+use Rattle.law_write.specs.Writing.{Writes}
+use Rattle.law_write.proofs.WriteValid.{rows_kept}
 use Rattle.dn_volume.specs.declared.flight.Flight.{Flight}
 use Rattle.dn_volume.specs.declared.flight.Change.TheVariants.{Data}
 use Rattle.dn_volume.specs.declared.flight.DataChange.{DataChange}

@@ -16,12 +16,12 @@ use Rattle.dn_model.specs.Counts.{IsNear, Near}
 use Rattle.dn_model.specs.History.{refilled, inode_of}
 use Rattle.dn_model.specs.declared.op.Op.{Op}
 use Rattle.dn_model.specs.declared.op.Op.TheVariants.{Cut}
-use Rattle.dn_changes.specs.Events.{IsUnused}
-use Rattle.dn_changes.specs.Writing.{Writes, WritesWell}
-use Rattle.dn_changes.specs.Runs.{Run, run_items, places_in, block_at, IsChained}
-use Rattle.dn_changes.proofs.Counting.{term-le}
-use Rattle.dn_changes.proofs.MappedPlaces.{maps-in_file}
-use Rattle.dn_changes.proofs.WriteValid.{rows_kept}
+use Rattle.law_write.specs.Events.{IsUnused}
+use Rattle.law_write.specs.Writing.{Writes, WritesWell}
+use Rattle.law_write.specs.Runs.{Run, run_items, places_in, block_at, IsChained}
+use Rattle.law_write.proofs.Counting.{term-le}
+use Rattle.law_write.proofs.MappedPlaces.{maps-in_file}
+use Rattle.law_write.proofs.WriteValid.{rows_kept}
 use Rattle.dn_row_changes.proofs.Rows.{all_listed, row_found, none_or_some}
 use Rattle.dn_table_changes.specs.BalanceLaws.{IsBalanced}
 use Rattle.file_content.specs.Runs.{all_seen}
@@ -35,7 +35,7 @@ use Rattle.log_entry.specs.Name.{IsLegal}
 use Rattle.dn_model.specs.Files.{bytes, byte_of, files, IsSameFiles}
 use Rattle.dn_model.specs.Own.{Print, IsOwn}
 use Rattle.dn_model.specs.Apply.{after_op, IsGranted}
-use Rattle.dn_changes.proofs.WithLog.{with_log-word}
+use Rattle.law_write.proofs.WithLog.{with_log-word}
 use Rattle.dn_volume.specs.Planned.{new_byte}
 use Rattle.file_commit.specs.Append.{IsReadyToAppend}
 use Rattle.dn_size_changes.specs.Cutting.{Refills, last_page, refill_runs, cut_items, cut_disk, MayRefill, MayCut, IsLeft, IsNotRefill}

@@ -24,18 +24,18 @@ use Rattle.dn_model.specs.Apply.{after_op, IsGranted}
 use Rattle.dn_model.specs.History.{touched}
 use Rattle.dn_model.specs.declared.op.Op.{Op}
 use Rattle.dn_model.specs.declared.op.Op.TheVariants.{Write}
-use Rattle.dn_changes.specs.Events.{IsReadPage, IsUnused}
-use Rattle.dn_changes.specs.Writing.{Writes, WritesWell, WritesBytes}
-use Rattle.dn_changes.specs.Runs.{Run, run_items, places_in, block_at}
-use Rattle.dn_changes.specs.MayWrite.{MayWrite, IsLeft, written_disk}
-use Rattle.dn_changes.proofs.MappedPlaces.{size-small}
-use Rattle.dn_changes.proofs.RunItems.{length-spelled-runs}
-use Rattle.dn_changes.proofs.WithLog.{with_log-word}
-use Rattle.dn_changes.proofs.WriteBytes.{length-bytes}
-use Rattle.dn_changes.proofs.WriteFiles.{files-written}
-use Rattle.dn_changes.proofs.WriteOwn.{own-written}
-use Rattle.dn_changes.proofs.WriteValid.{rows_kept}
-use Rattle.dn_changes.proofs.WrittenDisk.{written-writes, written-well}
+use Rattle.law_write.specs.Events.{IsReadPage, IsUnused}
+use Rattle.law_write.specs.Writing.{Writes, WritesWell, WritesBytes}
+use Rattle.law_write.specs.Runs.{Run, run_items, places_in, block_at}
+use Rattle.law_write.specs.MayWrite.{MayWrite, IsLeft, written_disk}
+use Rattle.law_write.proofs.MappedPlaces.{size-small}
+use Rattle.law_write.proofs.RunItems.{length-spelled-runs}
+use Rattle.law_write.proofs.WithLog.{with_log-word}
+use Rattle.law_write.proofs.WriteBytes.{length-bytes}
+use Rattle.law_write.proofs.WriteFiles.{files-written}
+use Rattle.law_write.proofs.WriteOwn.{own-written}
+use Rattle.law_write.proofs.WriteValid.{rows_kept}
+use Rattle.law_write.proofs.WrittenDisk.{written-writes, written-well}
 use Rattle.dn_row_changes.proofs.Rows.{all_listed, row_found, none_or_some}
 use Rattle.dn_table_changes.specs.BalanceLaws.{IsBalanced}
 use Rattle.file_content.specs.Content.{merged_byte}
@@ -51,7 +51,7 @@ use Rattle.dn_volume.specs.Planned.{data_items, new_byte, PlansData, PlansWrite}
 use Rattle.dn_volume.specs.Balance.{times, raised_by, raised, added, dropped}
 use Rattle.dn_volume.specs.Flights.{IsDataFlight}
 use Rattle.dn_volume.specs.Agrees.{IsVolume}
-use Rattle.dn_changes.proofs.Counting.{term-le}
+use Rattle.law_write.proofs.Counting.{term-le}
 use Rattle.file_commit.specs.Append.{IsReadyToAppend}
 use Rattle.file_ops.specs.Ends.{ChangesData}
 use Rattle.file_ops.proofs.Basics.{flight_within}

@@ -9,14 +9,14 @@ use Rattle.dn_model.specs.Maps.{Mapping}
 use Rattle.dn_model.specs.Table.{Row, row_of}
 use Rattle.dn_model.specs.Disk.{Disk, Inode, IsUsed, IsMapped, maps, rows}
 use Rattle.dn_model.specs.Counts.{hit, mappings, IsLogPage}
-use Rattle.dn_changes.specs.Events.{IsUnused}
-use Rattle.dn_changes.specs.Writing.{Writes, WritesWell}
-use Rattle.dn_changes.proofs.Counting.{total-some, term-le}
-use Rattle.dn_changes.proofs.MappedPlaces.{maps-in_file}
-use Rattle.dn_changes.proofs.Unread.{read_in_data}
-use Rattle.dn_changes.proofs.WriteCounts.{hit_here, hit_other}
-use Rattle.dn_changes.proofs.WriteFree.{free-kept, fresh-not_free, free-no_block, block-not_free}
-use Rattle.dn_changes.proofs.WriteValid.{use_kept, rows_kept, not_mapped, log_page_cases}
+use Rattle.law_write.specs.Events.{IsUnused}
+use Rattle.law_write.specs.Writing.{Writes, WritesWell}
+use Rattle.law_write.proofs.Counting.{total-some, term-le}
+use Rattle.law_write.proofs.MappedPlaces.{maps-in_file}
+use Rattle.law_write.proofs.Unread.{read_in_data}
+use Rattle.law_write.proofs.WriteCounts.{hit_here, hit_other}
+use Rattle.law_write.proofs.WriteFree.{free-kept, fresh-not_free, free-no_block, block-not_free}
+use Rattle.law_write.proofs.WriteValid.{use_kept, rows_kept, not_mapped, log_page_cases}
 use Rattle.dn_size_changes.specs.DropLaws.{Drops, dropped_from}
 use Rattle.dn_size_changes.proofs.Dropped.{drop_mappings}
 use Rattle.file_ops.specs.Ends.{IsFreed}

@@ -7,9 +7,9 @@ use Rattle.std.proofs.lemmas.Option.{slice_get_cases}
 use Rattle.file_content.specs.Content.{kept}
 use Rattle.dn_model.specs.Maps.{size_of}
 use Rattle.dn_model.specs.Disk.{Disk, Inode, IsUsed}
-use Rattle.dn_changes.proofs.MappedPlaces.{size-small}
-use Rattle.dn_changes.proofs.WriteCounts.{maps_others}
-use Rattle.dn_changes.proofs.WriteValid.{use_kept, was_used, written_valid}
+use Rattle.law_write.proofs.MappedPlaces.{size-small}
+use Rattle.law_write.proofs.WriteCounts.{maps_others}
+use Rattle.law_write.proofs.WriteValid.{use_kept, was_used, written_valid}
 use Rattle.dn_volume.specs.declared.flight.Flight.{Flight}
 use Rattle.dn_volume.specs.declared.flight.DataChange.{DataChange}
 use Rattle.dn_volume.specs.declared.volume.InodeState.{InodeState}

@@ -3,7 +3,7 @@ use Rattle.std.proofs.Common.{◌≡◌, ◌≢◌, ℕ, ◌+◌, ◌-◌, ◌*�
 use Rattle.std.specs.Prelude.{Option, Some, None, vec_len, vec_capacity}
 use Rattle.pm_device.specs.State.{State}
 use Rattle.dn_model.specs.declared.op.Entry.{Entry}
-use Rattle.dn_changes.proofs.Counting.{total-change}
+use Rattle.law_write.proofs.Counting.{total-change}
 use Rattle.dn_volume.specs.declared.background.DyingPlace.{DyingPlace}
 use Rattle.dn_volume.specs.declared.background.Sharing.{Sharing}
 use Rattle.dn_volume.specs.declared.flight.Flight.{Flight}

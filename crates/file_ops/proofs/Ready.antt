@@ -20,13 +20,13 @@ use Rattle.dn_model.specs.Table.{row_of}
 use Rattle.dn_model.specs.Disk.{Disk, IsUsed, Use, Free, Live, Dying, IsMapped, maps, rows}
 use Rattle.dn_model.specs.Counts.{total}
 use Rattle.dn_model.specs.declared.op.Op.TheVariants.{Write}
-use Rattle.dn_changes.specs.Events.{IsUnused}
-use Rattle.dn_changes.specs.Runs.{places_in, block_at}
-use Rattle.dn_changes.proofs.Counting.{term-le}
-use Rattle.dn_changes.proofs.MappedPlaces.{maps-in_file}
-use Rattle.dn_changes.proofs.Unread.{read_in_data}
-use Rattle.dn_changes.proofs.WriteFree.{places_apart}
-use Rattle.dn_changes.proofs.WriteValid.{not_mapped}
+use Rattle.law_write.specs.Events.{IsUnused}
+use Rattle.law_write.specs.Runs.{places_in, block_at}
+use Rattle.law_write.proofs.Counting.{term-le}
+use Rattle.law_write.proofs.MappedPlaces.{maps-in_file}
+use Rattle.law_write.proofs.Unread.{read_in_data}
+use Rattle.law_write.proofs.WriteFree.{places_apart}
+use Rattle.law_write.proofs.WriteValid.{not_mapped}
 use Rattle.dn_row_changes.proofs.Rows.{none_found, none_listed}
 use Rattle.dn_volume.specs.declared.flight.Flight.{Flight}
 use Rattle.dn_volume.specs.declared.flight.Change.{Change}

@@ -7,12 +7,12 @@ use Rattle.log_entry.specs.declared.item.LogItem.TheVariants.{Write, Size, Add, 
 use Rattle.dn_model.specs.Log.{Placed, placed_from, slot_name, count}
 use Rattle.dn_model.specs.Maps.{Mapping, mapped_after, remapped}
 use Rattle.dn_model.specs.Disk.{Disk, maps}
-use Rattle.dn_changes.specs.Runs.{Run, run_item, run_items}
-use Rattle.dn_changes.specs.Writing.{Writes, WritesWell}
-use Rattle.dn_changes.proofs.Mapped.{mapping-grown}
-use Rattle.dn_changes.proofs.MappedPlaces.{cut_some, maps-in_file}
-use Rattle.dn_changes.proofs.WriteCounts.{maps_old, maps_new}
-use Rattle.dn_changes.proofs.WriteValid.{not_mapped}
+use Rattle.law_write.specs.Runs.{Run, run_item, run_items}
+use Rattle.law_write.specs.Writing.{Writes, WritesWell}
+use Rattle.law_write.proofs.Mapped.{mapping-grown}
+use Rattle.law_write.proofs.MappedPlaces.{cut_some, maps-in_file}
+use Rattle.law_write.proofs.WriteCounts.{maps_old, maps_new}
+use Rattle.law_write.proofs.WriteValid.{not_mapped}
 use Rattle.dn_size_changes.specs.Cutting.{last_page, refill_runs, cut_items}
 use Rattle.dn_row_changes.proofs.Rows.{listed_here, listed_later, listed_cases}
 

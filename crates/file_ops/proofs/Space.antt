@@ -5,7 +5,7 @@ use Rattle.std.proofs.lemmas.Bool.{cases_eq}
 use Rattle.std.proofs.lemmas.List.{get_or_default}
 use Rattle.std.proofs.lemmas.List.Elements.{Contains-get_or}
 use Rattle.dn_model.specs.Disk.{Disk}
-use Rattle.dn_changes.specs.Events.{IsUnused}
+use Rattle.law_write.specs.Events.{IsUnused}
 use Rattle.dn_row_changes.proofs.Rows.{same_test, other_test}
 use Rattle.file_content.specs.Pages.{AreApart}
 use Rattle.dn_volume.specs.declared.flight.Flight.{Flight}

@@ -10,9 +10,9 @@ use Rattle.dn_model.specs.Table.{Row}
 use Rattle.dn_model.specs.Disk.{Disk, Use, maps}
 use Rattle.dn_model.specs.Counts.{total}
 use Rattle.dn_model.specs.Own.{LivePlace}
-use Rattle.dn_changes.proofs.Counting.{total-same}
-use Rattle.dn_changes.proofs.WriteCounts.{maps_others}
-use Rattle.dn_changes.proofs.WriteValid.{use_kept}
+use Rattle.law_write.proofs.Counting.{total-same}
+use Rattle.law_write.proofs.WriteCounts.{maps_others}
+use Rattle.law_write.proofs.WriteValid.{use_kept}
 use Rattle.dn_volume.specs.declared.flight.Flight.{Flight}
 use Rattle.dn_volume.specs.declared.flight.DataChange.{DataChange}
 use Rattle.dn_volume.specs.declared.volume.InodeState.{InodeState}

@@ -4,7 +4,7 @@ use Rattle.std.specs.VecDeque.{deque_len, deque_capacity}
 use Rattle.page_alloc.specs.Free.{IsInOrder}
 use Rattle.file_content.specs.Pages.{AreApart}
 use Rattle.dn_model.specs.declared.op.Reply.TheVariants.{Done}
-use Rattle.dn_changes.specs.Runs.{places_in}
+use Rattle.law_write.specs.Runs.{places_in}
 use Rattle.file_ops.specs.Giving.{Gives, QueuesSlots}
 use Rattle.file_content.specs.Content.{IsFileOf}
 use Rattle.file_content.specs.Runs.{all_seen}
@@ -12,7 +12,7 @@ use Rattle.file_content.specs.declared.runs.Run.{Run}
 use Rattle.dn_model.specs.Log.{count, tail_at}
 use Rattle.dn_model.specs.Disk.{Disk}
 use Rattle.dn_model.specs.declared.op.Op.TheVariants.{Write}
-use Rattle.dn_changes.specs.MayWrite.{MayWrite, written_disk}
+use Rattle.law_write.specs.MayWrite.{MayWrite, written_disk}
 use Rattle.dn_volume.specs.declared.flight.Flight.{Flight}
 use Rattle.dn_volume.specs.declared.flight.Change.TheVariants.{Data}
 use Rattle.dn_volume.specs.declared.flight.DataChange.{DataChange}

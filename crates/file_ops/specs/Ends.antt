@@ -10,7 +10,7 @@ use Rattle.dn_model.specs.Maps.{Mapping}
 use Rattle.dn_model.specs.Table.{row_of}
 use Rattle.dn_model.specs.Disk.{Disk, maps, rows}
 use Rattle.dn_model.specs.declared.op.Entry.{Entry}
-use Rattle.dn_changes.specs.Writing.{Writes, WritesWell}
+use Rattle.law_write.specs.Writing.{Writes, WritesWell}
 use Rattle.dn_size_changes.specs.DropLaws.{Drops}
 use Rattle.dn_volume.specs.declared.flight.Flight.{Flight}
 use Rattle.dn_volume.specs.declared.flight.DataChange.{DataChange}

@@ -1,6 +1,6 @@
 // A flight ends.
 ghost use Rattle.std.specs.Prelude.{◌≡◌, ◌≢◌, ◌⊎◌, ◌+◌, ◌-◌, ◌<◌, ◌≤◌, ℕ, List, length, All, IsSome, Some, None, slice_get};
-ghost use Rattle.dn_changes.specs.Runs.{places_in};
+ghost use Rattle.law_write.specs.Runs.{places_in};
 ghost use Rattle.dn_volume.specs.declared.flight.Flight.{Flight};
 ghost use Rattle.dn_volume.specs.declared.volume.InodeState.{InodeState};
 ghost use Rattle.dn_volume.specs.Parties.{flight_at};

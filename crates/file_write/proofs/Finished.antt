@@ -19,13 +19,13 @@ use Rattle.dn_model.specs.Maps.{Mapping as DiskMapping}
 use Rattle.dn_model.specs.Disk.{Disk, DiskSays, maps}
 use Rattle.dn_model.specs.Counts.{IsFree, mappings}
 use Rattle.dn_model.specs.History.{room}
-use Rattle.dn_changes.specs.Writing.{Writes, WritesWell, IsOverwritten}
-use Rattle.dn_changes.specs.Runs.{Run as DiskRun, places_in, block_at, IsChained}
-use Rattle.dn_changes.specs.MayWrite.{MayWrite}
-use Rattle.dn_changes.proofs.WriteFree.{places_apart, free-kept, fresh-not_free, block-not_free, free_cases, overwritten-free}
-use Rattle.dn_changes.proofs.MappedPlaces.{maps-in_file}
-use Rattle.dn_changes.proofs.WriteValid.{written_valid, mapped_counts}
-use Rattle.dn_changes.proofs.WrittenDisk.{written-writes, written-well_without_rows}
+use Rattle.law_write.specs.Writing.{Writes, WritesWell, IsOverwritten}
+use Rattle.law_write.specs.Runs.{Run as DiskRun, places_in, block_at, IsChained}
+use Rattle.law_write.specs.MayWrite.{MayWrite}
+use Rattle.law_write.proofs.WriteFree.{places_apart, free-kept, fresh-not_free, block-not_free, free_cases, overwritten-free}
+use Rattle.law_write.proofs.MappedPlaces.{maps-in_file}
+use Rattle.law_write.proofs.WriteValid.{written_valid, mapped_counts}
+use Rattle.law_write.proofs.WrittenDisk.{written-writes, written-well_without_rows}
 use Rattle.file_content.specs.Content.{IsFileOf, kept}
 use Rattle.file_content.specs.Overwritten.{IsBlockOf, IsBlockAmong, GivesBlocks}
 use Rattle.file_content.specs.Runs.{seen, all_seen}

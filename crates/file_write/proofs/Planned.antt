@@ -6,8 +6,8 @@ use Rattle.std.proofs.lemmas.Bool.Decides.{nat_tests}
 use Rattle.page_alloc.specs.Free.{FreePages, IsInOrder}
 use Rattle.log_entry.specs.Spelling.{IsSpelled, pages_of}
 use Rattle.dn_model.specs.History.{touched}
-use Rattle.dn_changes.specs.Runs.{run_items}
-use Rattle.dn_changes.proofs.RunItems.{runs-spelled}
+use Rattle.law_write.specs.Runs.{run_items}
+use Rattle.law_write.proofs.RunItems.{runs-spelled}
 use Rattle.file_content.specs.Runs.{seen, all_seen}
 use Rattle.file_content.specs.declared.runs.Run.{Run}
 use Rattle.file_content.specs.Slots.{IsCutInto}

@@ -22,11 +22,11 @@ use Rattle.dn_model.specs.Table.{Row, rows_from, row_of}
 use Rattle.dn_model.specs.Disk.{Disk, DiskSays, IsUsed, IsMapped, maps, rows, of_logs}
 use Rattle.dn_model.specs.Counts.{IsFree}
 use Rattle.dn_model.specs.History.{room, touched}
-use Rattle.dn_changes.specs.Events.{IsUnused}
-use Rattle.dn_changes.specs.Runs.{Run as DiskRun, run_items, places_in, block_at}
-use Rattle.dn_changes.specs.MayWrite.{MayWrite, IsLeft}
-use Rattle.dn_changes.proofs.Relog.{rows-same}
-use Rattle.dn_changes.proofs.RunItems.{length-spelled-runs}
+use Rattle.law_write.specs.Events.{IsUnused}
+use Rattle.law_write.specs.Runs.{Run as DiskRun, run_items, places_in, block_at}
+use Rattle.law_write.specs.MayWrite.{MayWrite, IsLeft}
+use Rattle.law_write.proofs.Relog.{rows-same}
+use Rattle.law_write.proofs.RunItems.{length-spelled-runs}
 use Rattle.file_content.specs.Content.{IsFileOf, kept}
 use Rattle.file_content.specs.Overwritten.{IsBlockOf}
 use Rattle.file_content.specs.Runs.{seen, all_seen}

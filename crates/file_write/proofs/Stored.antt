@@ -26,17 +26,17 @@ use Rattle.dn_model.specs.Own.{Print, IsOwn}
 use Rattle.dn_model.specs.Apply.{after_op}
 use Rattle.dn_model.specs.History.{touched}
 use Rattle.dn_model.specs.declared.op.Op.TheVariants.{Write}
-use Rattle.dn_changes.specs.Events.{IsReadPage, IsUnused}
-use Rattle.dn_changes.specs.Writing.{Writes, WritesWell, WritesBytes}
-use Rattle.dn_changes.specs.Runs.{Run as DiskRun, places_in, block_at}
-use Rattle.dn_changes.specs.MayWrite.{MayWrite, written_disk}
-use Rattle.dn_changes.proofs.Unread.{unused_unsaid, unused_unread}
-use Rattle.dn_changes.proofs.WithLog.{with_log-word}
-use Rattle.dn_changes.proofs.WriteBytes.{length-bytes}
-use Rattle.dn_changes.proofs.WriteEvent.{length-left, stands_for_read}
-use Rattle.dn_changes.proofs.WriteFiles.{files-written}
-use Rattle.dn_changes.proofs.WriteOwn.{own-written}
-use Rattle.dn_changes.proofs.WrittenDisk.{written-writes, written-well_without_rows}
+use Rattle.law_write.specs.Events.{IsReadPage, IsUnused}
+use Rattle.law_write.specs.Writing.{Writes, WritesWell, WritesBytes}
+use Rattle.law_write.specs.Runs.{Run as DiskRun, places_in, block_at}
+use Rattle.law_write.specs.MayWrite.{MayWrite, written_disk}
+use Rattle.law_write.proofs.Unread.{unused_unsaid, unused_unread}
+use Rattle.law_write.proofs.WithLog.{with_log-word}
+use Rattle.law_write.proofs.WriteBytes.{length-bytes}
+use Rattle.law_write.proofs.WriteEvent.{length-left, stands_for_read}
+use Rattle.law_write.proofs.WriteFiles.{files-written}
+use Rattle.law_write.proofs.WriteOwn.{own-written}
+use Rattle.law_write.proofs.WrittenDisk.{written-writes, written-well_without_rows}
 use Rattle.file_commit.specs.Commit.{IsReadyToCommit, CanCommit}
 use Rattle.file_content.specs.Content.{IsFileOf, IsFilled, AreBlocksIn, merged_byte}
 use Rattle.file_content.specs.Pages.{IsInPages, AreApart, AreFilled}

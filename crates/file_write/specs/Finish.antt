@@ -7,8 +7,8 @@ use Rattle.file_index.specs.Index.{Index}
 use Rattle.file_index.specs.declared.page_map.Mapping.{Mapping}
 use Rattle.dn_model.specs.Log.{count, tail_at}
 use Rattle.dn_model.specs.Disk.{Disk}
-use Rattle.dn_changes.specs.Runs.{places_in}
-use Rattle.dn_changes.specs.MayWrite.{MayWrite}
+use Rattle.law_write.specs.Runs.{places_in}
+use Rattle.law_write.specs.MayWrite.{MayWrite}
 use Rattle.file_content.specs.Content.{IsFileOf}
 use Rattle.file_content.specs.Overwritten.{IsBlockOf, GivesBlocks}
 use Rattle.file_content.specs.Runs.{all_seen}

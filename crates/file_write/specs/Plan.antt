@@ -3,7 +3,7 @@ use Rattle.std.specs.Prelude.{◌≡◌, ℕ, ◌+◌, ◌/◌, max, if◌then�
 use Rattle.page_alloc.specs.Free.{FreePages}
 use Rattle.dn_model.specs.History.{touched}
 use Rattle.log_entry.specs.Spelling.{spelled}
-use Rattle.dn_changes.specs.Runs.{run_items}
+use Rattle.law_write.specs.Runs.{run_items}
 use Rattle.file_content.specs.Slots.{IsCutInto}
 use Rattle.file_content.specs.Runs.{all_seen}
 use Rattle.file_write.specs.Take.{TakesForWrite}

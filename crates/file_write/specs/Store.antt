@@ -10,9 +10,9 @@ use Rattle.file_index.specs.declared.page_map.Mapping.{Mapping}
 use Rattle.dn_model.specs.Disk.{Disk, DiskSays}
 use Rattle.dn_model.specs.Valid.{IsValid}
 use Rattle.dn_model.specs.History.{touched}
-use Rattle.dn_changes.specs.Events.{IsReadPage}
-use Rattle.dn_changes.specs.Runs.{run_items, places_in, block_at}
-use Rattle.dn_changes.specs.MayWrite.{MayWrite, written_disk}
+use Rattle.law_write.specs.Events.{IsReadPage}
+use Rattle.law_write.specs.Runs.{run_items, places_in, block_at}
+use Rattle.law_write.specs.MayWrite.{MayWrite, written_disk}
 use Rattle.file_content.specs.Content.{IsFileOf}
 use Rattle.file_content.specs.Runs.{all_seen}
 use Rattle.file_write.specs.Held.{IsWritten}

@@ -10,7 +10,7 @@ use Rattle.std.proofs.lemmas.Grind.{get_or_default_zero}
 use Rattle.std.proofs.lemmas.Map.Steps.{length-le_from_distinct_below}
 use Rattle.std.proofs.lemmas.Map.Made.{IsDistinct-from_AllPairs}
 use Rattle.dn_model.specs.Counts.{total}
-use Rattle.dn_changes.proofs.Counting.{total-zero, total-one, term-le}
+use Rattle.law_write.proofs.Counting.{total-zero, total-one, term-le}
 use Rattle.image_logs.specs.Usage.{page_hit, listed, CountsPages}
 
 pub hit-le-one : (p : ℕ) (o : Option ℕ) → page_hit p o ≤ 1

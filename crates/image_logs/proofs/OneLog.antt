@@ -13,8 +13,8 @@ use Rattle.dn_model.specs.Log.{Log, Placed, placed, placed_from}
 use Rattle.dn_model.specs.Maps.{Mapping as DiskMapping, mapping}
 use Rattle.dn_model.specs.Counts.{hit}
 use Rattle.dn_model.specs.Valid.{MayStand, IsLog}
-use Rattle.dn_changes.proofs.Counting.{total-same}
-use Rattle.dn_changes.proofs.Unread.{mapping_set_by}
+use Rattle.law_write.proofs.Counting.{total-same}
+use Rattle.law_write.proofs.Unread.{mapping_set_by}
 use Rattle.log_walk.specs.Items.{seen}
 use Rattle.log_walk.specs.declared.items.Placed.{Placed as PlacedItem}
 use Rattle.log_walk.specs.Walk.{HasWholeLog}

@@ -14,7 +14,7 @@ use Rattle.dn_model.specs.Disk.{Disk, Use, Free, Live, Dying, InodesSay, at_stat
 use Rattle.dn_model.specs.Counts.{total, hit, mappings}
 use Rattle.dn_model.specs.Numbers.{file_hit, dying_hit, files_in, dying_in}
 use Rattle.dn_model.specs.Files.{named, named_after}
-use Rattle.dn_changes.proofs.Counting.{total-same}
+use Rattle.law_write.proofs.Counting.{total-same}
 use Rattle.log_walk.specs.Laws.{ReadsAs}
 use Rattle.image_logs.specs.declared.logs.LogsRead.{LogsRead}
 use Rattle.image_logs.specs.declared.logs.LogsFault.{LogsFault}

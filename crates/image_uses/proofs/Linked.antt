@@ -17,7 +17,7 @@ use Rattle.dn_model.specs.Counts.{total}
 use Rattle.dn_model.specs.Files.{named}
 use Rattle.dn_model.specs.Valid.{IsLinked}
 use Rattle.dn_model.specs.Faults.{IsLeast}
-use Rattle.dn_changes.proofs.Counting.{total-some, term-le, terms-le}
+use Rattle.law_write.proofs.Counting.{total-some, term-le, terms-le}
 use Rattle.image_logs.proofs.Hits.{total-next, total-none, total-few}
 use Rattle.image_logs.proofs.Steps.{state_word}
 use Rattle.image_uses.specs.Links.{name_hit, ino_at, CountsNames, AreLinks, IsLinkedBy, AllLinked, IsNamed}

@@ -11,7 +11,7 @@ use Rattle.dn_model.specs.Table.{row_of}
 use Rattle.dn_model.specs.Disk.{Disk, Use, Free, Live, Dying, IsUsed, IsMapped, maps, maps_by_use, rows}
 use Rattle.dn_model.specs.Counts.{total, mappings, IsLogPage}
 use Rattle.dn_model.specs.Faults.{IsLeast, IsDouble}
-use Rattle.dn_changes.proofs.Counting.{total-some, term-le, terms-le}
+use Rattle.law_write.proofs.Counting.{total-some, term-le, terms-le}
 use Rattle.law_unique.proofs.Counted.{counts_mappings}
 use Rattle.image_logs.specs.Logs.{log_page, log_hit, logs_with}
 use Rattle.image_logs.proofs.OneLog.{block_in}

@@ -18,8 +18,8 @@ use Rattle.dn_model.specs.Log.{count}
 use Rattle.dn_model.specs.Disk.{Disk, Use, IsUsed, Free, Live, Dying, rows}
 use Rattle.dn_model.specs.Counts.{total}
 use Rattle.dn_model.specs.History.{needed, name_slots}
-use Rattle.dn_changes.specs.Events.{IsUnused}
-use Rattle.dn_changes.proofs.Counting.{total-change}
+use Rattle.law_write.specs.Events.{IsUnused}
+use Rattle.law_write.proofs.Counting.{total-change}
 use Rattle.law_unique.proofs.Listings.{none_listed}
 use Rattle.dn_name_changes.specs.Operations.{creation}
 use Rattle.dn_volume.specs.declared.flight.Flight.{Flight}

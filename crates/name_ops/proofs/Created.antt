@@ -24,8 +24,8 @@ use Rattle.dn_model.specs.Maps.{size_of, size_after}
 use Rattle.dn_model.specs.Disk.{Disk, Inode, Use, Free, IsUsed, rows}
 use Rattle.dn_model.specs.Counts.{total}
 use Rattle.dn_model.specs.Files.{named}
-use Rattle.dn_changes.specs.Events.{IsUnused}
-use Rattle.dn_changes.proofs.Counting.{total-same}
+use Rattle.law_write.specs.Events.{IsUnused}
+use Rattle.law_write.proofs.Counting.{total-same}
 use Rattle.dn_name_changes.specs.NameChange.{NameChange as DiskChange, MayChange, IsSpared, FreshNames, name_changes, names_changed}
 use Rattle.dn_name_changes.specs.Operations.{MayCreate, creation, with_name}
 use Rattle.dn_name_changes.proofs.Changed.{at_root, at_ino, at_other, same_geometry, same_word, Where, where_is, is_root, is_here, elsewhere}

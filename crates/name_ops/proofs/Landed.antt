@@ -10,8 +10,8 @@ use Rattle.pm_device.specs.State.{State}
 use Rattle.pm_layout.specs.declared.Geometry.{Geometry}
 use Rattle.dn_model.specs.Table.{Row, row_of}
 use Rattle.dn_model.specs.Disk.{Disk, rows}
-use Rattle.dn_changes.specs.Events.{IsUnused}
-use Rattle.dn_changes.proofs.Counting.{total-change}
+use Rattle.law_write.specs.Events.{IsUnused}
+use Rattle.law_write.proofs.Counting.{total-change}
 use Rattle.dn_table_changes.specs.BalanceLaws.{IsBalanced}
 use Rattle.dn_name_changes.specs.NameChange.{NameChange as DiskChange, MayChange, names_changed}
 use Rattle.dn_name_changes.proofs.Changed.{same_geometry, same_rows}

@@ -12,7 +12,7 @@ use Rattle.file_content.specs.Pages.{AreApart}
 use Rattle.dn_model.specs.Log.{count}
 use Rattle.dn_model.specs.Disk.{Disk, Free}
 use Rattle.dn_model.specs.declared.op.Op.TheVariants.{Create}
-use Rattle.dn_changes.specs.Events.{IsUnused}
+use Rattle.law_write.specs.Events.{IsUnused}
 use Rattle.dn_name_changes.specs.NameChange.{NameChange as DiskChange, MayChange, IsSpared}
 use Rattle.dn_name_changes.specs.Operations.{MayCreate, creation}
 use Rattle.dn_name_changes.proofs.Operating.{may_create}

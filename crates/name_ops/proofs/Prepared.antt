@@ -48,7 +48,7 @@ use Rattle.dn_volume.specs.Agrees.{StandsFast, IsVolume}
 use Rattle.dn_volume.specs.Rely.{IsWordOf, of_inode, of_log, of_page, LeavesRest, KeepsRest, StayInHand}
 use Rattle.dn_volume.specs.Events.{IsBetween}
 use Rattle.dn_volume.specs.Steps.{StepsOn}
-use Rattle.dn_changes.proofs.Counting.{total-change}
+use Rattle.law_write.proofs.Counting.{total-change}
 use Rattle.dn_volume.proofs.Kept.{quiet_accounts}
 use Rattle.dn_volume.proofs.OthersStay.{others_stay}
 use Rattle.dn_volume.proofs.Stills.{still_flushes}

@@ -18,7 +18,7 @@ use Rattle.log_entry.specs.declared.item.LogItem.TheVariants.{Add}
 use Rattle.dn_model.specs.Counts.{IsFree}
 use Rattle.dn_model.specs.Files.{files}
 use Rattle.dn_model.specs.Own.{Print, IsOwn}
-use Rattle.dn_changes.proofs.WriteEvent.{length-left, stands_for_read}
+use Rattle.law_write.proofs.WriteEvent.{length-left, stands_for_read}
 use Rattle.dn_model.specs.OnCourse.{IsImageOf, LeavesOneOf}
 use Rattle.one_file.specs.declared.file.OneFile.{OneFile}
 use Rattle.dn_model.specs.declared.op.Op.{Op}

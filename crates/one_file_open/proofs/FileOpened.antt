@@ -20,7 +20,7 @@ use Rattle.dn_model.specs.Counts.{IsFree}
 use Rattle.dn_model.specs.Valid.{MayStand, IsLog, IsValid}
 use Rattle.dn_model.specs.Image.{StandsFor}
 use Rattle.dn_model.proofs.L1.{rolled_closed, gate_closed}
-use Rattle.dn_changes.proofs.MappedPlaces.{size-small}
+use Rattle.law_write.proofs.MappedPlaces.{size-small}
 use Rattle.log_walk.specs.Items.{seen}
 use Rattle.log_walk.specs.declared.items.Placed.{Placed as PlacedItem}
 use Rattle.log_walk.specs.Walk.{HasLog}

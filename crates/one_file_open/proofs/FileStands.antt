@@ -11,7 +11,7 @@ use Rattle.dn_model.specs.Table.{Row, ChainSays, at_direct_page, at_direct_next,
 use Rattle.dn_model.specs.Disk.{Disk, DiskSays, of_head, of_inodes, of_logs, of_chains, of_pointers, of_pages, at_magic, at_version, at_pages, at_inodes, at_gate, at_state, at_cut}
 use Rattle.dn_model.specs.Valid.{IsLog, IsValid}
 use Rattle.dn_model.proofs.Regions.{inode_word_low}
-use Rattle.dn_changes.proofs.Unread.{slot_word_low, pointer_word_low, read_in_data}
+use Rattle.law_write.proofs.Unread.{slot_word_low, pointer_word_low, read_in_data}
 use Rattle.dn_model.specs.OneFile.{HasOneFile}
 
 module _ (d : Disk) (valid : IsValid d) (name : List ℕ) (one : HasOneFile d name) (n : ℕ) (size : n ≡ 512 * d.geometry.pages) where

@@ -3,7 +3,7 @@ use Rattle.std.proofs.Common.{ℕ, ◌+◌, ◌*◌, ◌<◌, ◌≤◌, List, l
 use Rattle.pm_layout.specs.declared.Geometry.{Geometry}
 use Rattle.pm_layout.specs.Geometry.{first_data, slots, inode_word, slot_word, pointer_word}
 use Rattle.dn_model.proofs.Regions.{inode_word_low}
-use Rattle.dn_changes.proofs.Unread.{slot_word_low, pointer_word_low}
+use Rattle.law_write.proofs.Unread.{slot_word_low, pointer_word_low}
 use Rattle.one_file_open.specs.Parts.{HasGeometry}
 
 module _ (w : List ℕ) (g : Geometry) (is : HasGeometry w g) where

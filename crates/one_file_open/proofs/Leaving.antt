@@ -15,8 +15,8 @@ use Rattle.log_entry.specs.declared.item.LogItem.TheVariants.{Write}
 use Rattle.dn_model.specs.Log.{Log}
 use Rattle.dn_model.specs.Maps.{Mapping as DiskMapping, mapping, size_of}
 use Rattle.dn_model.specs.Valid.{MayStand, IsLog}
-use Rattle.dn_changes.proofs.MappedPlaces.{mapping-below, size-small}
-use Rattle.dn_changes.proofs.Unread.{mapping_set_by}
+use Rattle.law_write.proofs.MappedPlaces.{mapping-below, size-small}
+use Rattle.law_write.proofs.Unread.{mapping_set_by}
 use Rattle.log_walk.specs.declared.items.Placed.{Placed as PlacedItem}
 use Rattle.file_content.specs.Content.{kept}
 use Rattle.one_file_open.specs.Marks.{begun_by, mapped_by, AreUsed, IsUsedTwice, log_twice, place_twice, IsLeft}

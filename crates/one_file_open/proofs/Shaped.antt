@@ -17,7 +17,7 @@ use Rattle.dn_model.specs.Disk.{Disk, Use, Free, Live, IsUsed, IsMapped, maps, m
 use Rattle.dn_model.specs.Counts.{hit, total, mappings, IsLogPage, IsFree, IsNear}
 use Rattle.dn_model.specs.Files.{named, named_after}
 use Rattle.dn_model.specs.Valid.{MayStand, IsCut, IsLog, HasOneName, IsLinked, AreApart, IsSingle, IsValid}
-use Rattle.dn_changes.proofs.Counting.{total-zero, total-one, total-some, term-le, terms-le}
+use Rattle.law_write.proofs.Counting.{total-zero, total-one, total-some, term-le, terms-le}
 use Rattle.dn_model.specs.OneFile.{first_log, HasOneFile}
 use Rattle.one_file_open.specs.Used.{IsUnshared, IsLeftBy, HasTwoLeft}
 use Rattle.one_file_open.proofs.NameSlot.{count-first}

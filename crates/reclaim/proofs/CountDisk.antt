@@ -13,8 +13,8 @@ use Rattle.dn_model.specs.Disk.{Disk, TableSays, rows}
 use Rattle.dn_model.specs.Files.{files, IsSameFiles}
 use Rattle.dn_model.specs.Own.{Print, page_bytes}
 use Rattle.dn_model.specs.Valid.{IsValid}
-use Rattle.dn_changes.specs.Events.{IsReadPage, IsUnused}
-use Rattle.dn_changes.proofs.Unread.{slot_word_low}
+use Rattle.law_write.specs.Events.{IsReadPage, IsUnused}
+use Rattle.law_write.proofs.Unread.{slot_word_low}
 use Rattle.dn_row_changes.specs.Changes.{recount, recounted}
 use Rattle.dn_row_changes.specs.Words.{IsTableWord, HoldsTable}
 use Rattle.dn_row_changes.specs.Rows.{RecountsRows}

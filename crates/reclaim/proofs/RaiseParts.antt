@@ -8,8 +8,8 @@ use Rattle.pm_device.proofs.Calls.{settled_is_flushed}
 use Rattle.dedupe_queue.specs.declared.Work.{Work}
 use Rattle.dn_model.specs.Table.{Row}
 use Rattle.dn_model.specs.Disk.{Disk, rows}
-use Rattle.dn_changes.specs.Events.{IsUnused}
-use Rattle.dn_changes.proofs.Counting.{total-change, term-le}
+use Rattle.law_write.specs.Events.{IsUnused}
+use Rattle.law_write.proofs.Counting.{total-change, term-le}
 use Rattle.dn_table_changes.specs.BalanceLaws.{RecountsBalanced}
 use Rattle.dn_table_changes.proofs.Balanced.{raise_balance}
 use Rattle.fact_table.specs.Table.{HasRow}

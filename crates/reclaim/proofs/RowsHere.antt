@@ -8,7 +8,7 @@ use Rattle.dn_model.specs.Disk.{Disk}
 use Rattle.dn_model.specs.Counts.{total}
 use Rattle.dn_model.specs.declared.op.Op.{Op}
 use Rattle.dn_model.specs.declared.op.Op.TheVariants.{Create, Write, Read, Cut, Remove, Rename, Size, List as ListAll}
-use Rattle.dn_changes.proofs.Counting.{total-le}
+use Rattle.law_write.proofs.Counting.{total-le}
 use Rattle.fact_table.specs.Table.{IsAtSlot, HasRow}
 use Rattle.fact_counts.specs.Counted.{MayRaise}
 use Rattle.dn_volume.specs.declared.flight.Flight.{Flight}

@@ -15,8 +15,8 @@ use Rattle.dn_model.specs.Counts.{hit, mappings, IsFree, IsNear}
 use Rattle.dn_model.specs.Files.{named}
 use Rattle.dn_model.specs.Valid.{MayStand, IsCut, IsLog, IsLinked, AreApart, IsSingle}
 use Rattle.dn_model.specs.Own.{LivePlace, page_bytes}
-use Rattle.dn_changes.specs.Events.{IsReadPage}
-use Rattle.dn_changes.proofs.Counting.{total-zero}
+use Rattle.law_write.specs.Events.{IsReadPage}
+use Rattle.law_write.proofs.Counting.{total-zero}
 use Rattle.dn_model.specs.Empty.{empty_inode, empty_disk}
 use Rattle.recovery.specs.Empty.{EmptyDisksAreValid, EmptyDisksHaveNoFiles, EmptyDisksAreOwn, EmptyDisksAreFree}
 

@@ -19,7 +19,7 @@ use Rattle.dn_model.specs.Disk.{DiskSays, of_head, at_magic}
 use Rattle.dn_model.specs.Image.{StandsFor}
 use Rattle.dn_model.specs.Faults.{FaultOf, not_an_image}
 use Rattle.dn_model.specs.declared.fault.ImageFault.TheVariants.{NotAnImage}
-use Rattle.dn_changes.proofs.WriteEvent.{length-left, stands_for_read}
+use Rattle.law_write.proofs.WriteEvent.{length-left, stands_for_read}
 use Rattle.dn_model.specs.Empty.{empty_disk}
 use Rattle.recovery.specs.Tables.{AllFlushed, IsBehindMagic, HasParts}
 use Rattle.dn_model.specs.Empty.{IsFormatting, IsFormatted}

@@ -10,7 +10,7 @@ use Rattle.dn_model.specs.Log.{no_log, LogSays, at_tail, at_head, at_footer, at_
 use Rattle.dn_model.specs.Table.{ChainSays, at_direct_page, at_direct_next, at_row}
 use Rattle.dn_model.specs.Disk.{DiskSays, IsUsed, Dying, state_number, of_head, of_inodes, of_logs, of_chains, of_pointers, of_pages, HeadSays, at_magic, at_version, at_pages, at_inodes, at_gate, at_state, at_cut}
 use Rattle.dn_model.proofs.Regions.{inode_word_low}
-use Rattle.dn_changes.proofs.Unread.{slot_word_low, pointer_word_low}
+use Rattle.law_write.proofs.Unread.{slot_word_low, pointer_word_low}
 use Rattle.dn_model.specs.Empty.{empty_inode, empty_disk}
 use Rattle.recovery.specs.Tables.{is_inode_part, is_direct_part, is_pointer, is_table_part, HasParts}
 use Rattle.recovery.proofs.EmptyDisk.{count-none, unread}

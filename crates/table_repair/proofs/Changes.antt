@@ -9,8 +9,8 @@ use Rattle.dn_model.specs.Disk.{Disk, maps, rows}
 use Rattle.dn_model.specs.Counts.{hit, mappings, IsNear}
 use Rattle.dn_model.specs.Valid.{IsValid}
 use Rattle.dn_model.specs.Own.{Print, page_bytes, LivePlace, HasRow, IsOwn}
-use Rattle.dn_changes.proofs.MappedPlaces.{maps-in_file}
-use Rattle.dn_changes.proofs.WriteCounts.{place-le}
+use Rattle.law_write.proofs.MappedPlaces.{maps-in_file}
+use Rattle.law_write.proofs.WriteCounts.{place-le}
 use Rattle.dn_row_changes.specs.Changes.{with_table, recount}
 use Rattle.dn_row_changes.specs.Rows.{RecountsRows, TakesRow}
 use Rattle.dn_row_changes.proofs.Rows.{all_listed, row_listed, row_found, distinct_same}

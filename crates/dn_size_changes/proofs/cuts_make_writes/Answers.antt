@@ -1,5 +1,5 @@
 use Rattle.std.proofs.Common.{refl}
-use Rattle.dn_changes.proofs.WriteValid.{written_valid}
+use Rattle.law_write.proofs.WriteValid.{written_valid}
 use Rattle.dn_size_changes.specs.Cutting.{cut_disk}
 use Rattle.dn_size_changes.proofs.Cutting.{cut-writes, cut-well, cut-near_without_rows}
 use Rattle.dn_size_changes.proofs.cuts_make_writes.Goals as goal

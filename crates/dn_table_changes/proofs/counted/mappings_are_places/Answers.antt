@@ -1,4 +1,4 @@
-use Rattle.dn_changes.proofs.WriteValid.{mapped_counts}
+use Rattle.law_write.proofs.WriteValid.{mapped_counts}
 use Rattle.dn_table_changes.proofs.Mappings.{counted_mapped, one_place, blocks_tell}
 use Rattle.dn_table_changes.proofs.counted.mappings_are_places.Goals as goal
 

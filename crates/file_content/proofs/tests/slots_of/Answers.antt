@@ -1,7 +1,7 @@
 use Rattle.std.proofs.Common.{List, sym, subst, arith}
 use Rattle.std.specs.Prelude.{All}
 use Rattle.log_entry.specs.Spelling.{IsSpelled}
-use Rattle.dn_changes.specs.Runs.{run_items}
+use Rattle.law_write.specs.Runs.{run_items}
 use Rattle.file_content.specs.declared.runs.Run.{Run}
 use Rattle.file_content.specs.Runs.{all_seen}
 use Rattle.file_content.proofs.RunBounds.{cut-spelled}

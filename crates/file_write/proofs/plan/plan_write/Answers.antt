@@ -7,7 +7,7 @@ use Rattle.file_content.specs.Slots.{IsCutInto}
 use Rattle.file_content.specs.Runs.{all_seen}
 use Rattle.file_content.specs.declared.runs.Run.{Run}
 use Rattle.log_entry.specs.Spelling.{IsSpelled, spelled}
-use Rattle.dn_changes.specs.Runs.{run_items}
+use Rattle.law_write.specs.Runs.{run_items}
 use Rattle.dn_model.specs.History.{touched}
 use Rattle.file_write.specs.Take.{ReturnsUnused}
 use Rattle.file_write.proofs.plan.plan_write.Goals as goal

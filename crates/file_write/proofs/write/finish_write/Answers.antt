@@ -1,6 +1,6 @@
 use Rattle.std.proofs.Common.{◌≡◌, ◌∙◌, ℕ, List, length, sym, subst, arith}
 use Rattle.dn_model.specs.Log.{count, tail_at}
-use Rattle.dn_changes.specs.MayWrite.{MayWrite, written_disk}
+use Rattle.law_write.specs.MayWrite.{MayWrite, written_disk}
 use Rattle.file_content.specs.Content.{IsFileOf}
 use Rattle.file_content.specs.Overwritten.{GivesBlocks}
 use Rattle.file_content.specs.Runs.{all_seen}

@@ -1,5 +1,5 @@
 use Rattle.std.proofs.Common.{arith}
-use Rattle.dn_changes.proofs.Unread.{pointer_word_low}
+use Rattle.law_write.proofs.Unread.{pointer_word_low}
 use Rattle.recovery.proofs.tables.is_pointer.Goals as goal
 
 pub overflow_add-result : goal.overflow_add-result

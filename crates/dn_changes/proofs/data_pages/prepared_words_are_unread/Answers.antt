@@ -1,5 +1,0 @@
-use Rattle.dn_changes.proofs.Unread.{prepared_unsaid}
-use Rattle.dn_changes.proofs.data_pages.prepared_words_are_unread.Goals as goal
-
-pub returns : goal.returns
-returns c = prepared_unsaid

@@ -1,9 +1,0 @@
-use Rattle.dn_changes.proofs.WriteBytes.{bytes-written}
-use Rattle.dn_changes.proofs.WriteFiles.{bytes-others}
-use Rattle.dn_changes.proofs.writes.writes_put_text.Goals as goal
-
-pub returns : goal.returns
-returns c = λ ino old new w ok at text is. record {
-  here = bytes-written ino old new w ok at text is;
-  others = bytes-others ino old new w ok;
-}
