@@ -9,7 +9,7 @@
 # is a list of words whose fences do nothing, so the times are those of the table's own steps.
 . "$(dirname "$0")/common.sh"
 begin_bench anyhow byteorder pm_device pm_layout pm_snapshot log_entry fingerprint page_alloc fact_slot fact_direct \
-    fact_chain delete_pointer dn_model law_write dn_row_changes law_unique fact_scan fact_table fact_counts fact_rows \
+    fact_chain delete_pointer dn_model law_write law_table law_unique fact_scan fact_table fact_counts fact_rows \
     fact_changes
 
 cat >src/main.rt <<'END'

@@ -14,7 +14,7 @@ use Rattle.dn_table_changes.proofs.NextDisk.{table_said, standing_table, image_o
 use Rattle.fact_table.specs.Table.{Table, IsTable}
 use Rattle.fact_calls.specs.declared.call.TableCall.{TableCall}
 use Rattle.fact_calls.specs.Follows.{MayMake, Follows, After, Allows}
-use Rattle.dn_row_changes.specs.Words.{IsTableWord}
+use Rattle.law_table.specs.Words.{IsTableWord}
 use Rattle.fact_calls.specs.Made.{IsSameBut, MayCall, HasCalled, HoldsRows, LeavesCall, MakesCall, MayCallAll, HasCalledSome, LeavesAll, MakesAll}
 use Rattle.dn_call_changes.specs.Calls.{MayMakeOn, AllowsOn, HasRows, IsOnDisk, LeavesDisksAfter}
 use Rattle.dn_call_changes.proofs.Fitting.{IsFitting, valid_fitting, call_fitting, after_fitting}

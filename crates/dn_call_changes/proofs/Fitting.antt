@@ -10,9 +10,9 @@ use Rattle.dn_model.specs.Disk.{Disk, IsMapped, rows}
 use Rattle.dn_model.specs.Counts.{mappings, IsNear}
 use Rattle.dn_model.specs.Valid.{IsValid}
 use Rattle.law_write.specs.Events.{IsReadPage}
-use Rattle.dn_row_changes.specs.Changes.{recount}
-use Rattle.dn_row_changes.specs.Rows.{PutsRow}
-use Rattle.dn_row_changes.proofs.Rows.{all_listed, none_listed, none_found, distinct_same}
+use Rattle.law_table.specs.Changes.{recount}
+use Rattle.law_table.specs.Rows.{PutsRow}
+use Rattle.law_table.proofs.Rows.{all_listed, none_listed, none_found, distinct_same}
 use Rattle.dn_table_changes.specs.TableLaws.{FitsDisk}
 use Rattle.dn_table_changes.proofs.TableValid.{valid_fits}
 use Rattle.dn_table_changes.proofs.Fits.{put_none, taken_none}

@@ -13,7 +13,7 @@ use Rattle.fact_table.specs.Table.{Table, IsTable}
 use Rattle.fact_calls.specs.declared.call.TableCall.{TableCall}
 use Rattle.fact_calls.specs.declared.call.TableCall.TheVariants.{Insert, Raise, SettleUp, SettleDown, Recount, RemoveZero, ClearStale}
 use Rattle.fact_calls.specs.Follows.{Follows, After}
-use Rattle.dn_row_changes.specs.Words.{IsTableWord}
+use Rattle.law_table.specs.Words.{IsTableWord}
 use Rattle.fact_calls.specs.Made.{IsSameBut, MayCall, LeavesCall, MakesCall, MayCallAll, LeavesAll, MakesAll}
 
 -- Of these rows the call may be made on this disk: what comes in is mapped, and counts stay off the mappings by at most

@@ -10,7 +10,7 @@ use Rattle.dn_model.specs.Disk.{Disk, IsMapped}
 use Rattle.dn_model.specs.Counts.{total, mappings}
 use Rattle.law_unique.proofs.Counted.{counts_mappings}
 use Rattle.law_unique.proofs.Listings.{here, later, none_listed, cons_cases}
-use Rattle.dn_row_changes.proofs.Rows.{same_test, other_test}
+use Rattle.law_table.proofs.Rows.{same_test, other_test}
 use Rattle.image_uses.specs.Uses.{HasSo}
 use Rattle.dn_model.specs.Numbers.{mapped_in}
 

@@ -15,7 +15,7 @@ use Rattle.dn_image_reading.proofs.Stands.{passing}
 use Rattle.dn_rule_reading.specs.Rules.{FreePages, are_few, are_two}
 use Rattle.dn_rule_reading.proofs.Pages.{mapped_in_data, single_from}
 use Rattle.dn_rule_reading.proofs.Frees.{free_pages_are_counted}
-use Rattle.dn_row_changes.proofs.Rows.{all_listed, listed_here}
+use Rattle.law_table.proofs.Rows.{all_listed, listed_here}
 use Rattle.fact_scan.specs.declared.row.Row.{Row}
 use Rattle.fact_scan.specs.Seen.{as_row}
 use Rattle.image_uses.specs.Uses.{IsCounted, HasReadLogs, MarksRows}

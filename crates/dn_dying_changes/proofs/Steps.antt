@@ -18,7 +18,7 @@ use Rattle.law_write.proofs.Unread.{read_in_data}
 use Rattle.dn_table_changes.specs.MappingLaws.{LowersCut, UnmapsPlace, AddsMapping}
 use Rattle.dn_table_changes.proofs.Mappings.{counted_mapped, place_unmapped, blocks_tell, near_stays}
 use Rattle.dn_table_changes.proofs.Remaps.{lowered_cut_unmaps}
-use Rattle.dn_row_changes.proofs.Rows.{all_listed, listed_here, listed_later, listed_cases, none_listed}
+use Rattle.law_table.proofs.Rows.{all_listed, listed_here, listed_later, listed_cases, none_listed}
 use Rattle.dn_dying_changes.specs.Dying.{Falls, Ends, stepped, MayFall, MayEnd, DropsPlace, DropsLog}
 use Rattle.dn_dying_changes.proofs.Stepped.{at_ino, at_other, same_geometry, same_rows}
 use Rattle.dn_dying_changes.proofs.Dropped.{MayStep, below, above, to_new, log_page_only, log_page_other}

@@ -12,7 +12,7 @@ use Rattle.dn_model.specs.Disk.{Disk, rows}
 use Rattle.dn_model.specs.Counts.{total, mappings, IsFree}
 use Rattle.law_write.specs.Events.{IsUnused}
 use Rattle.law_write.proofs.Counting.{total-zero}
-use Rattle.dn_row_changes.proofs.Rows.{all_listed, none_found}
+use Rattle.law_table.proofs.Rows.{all_listed, none_found}
 use Rattle.dn_table_changes.specs.BalanceLaws.{IsBalanced}
 use Rattle.dn_table_changes.specs.CountLaws.{IsExact}
 use Rattle.dn_volume.specs.declared.flight.Flight.{Flight}

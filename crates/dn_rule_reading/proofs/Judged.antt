@@ -14,7 +14,7 @@ use Rattle.dn_model.specs.Image.{HasNoFault}
 use Rattle.dn_model.specs.Faults.{HasLinks, HasTable, HasPointers, IsDouble, FaultOf, bad_table, bad_pointer, double_mapped, bad_count, crowded}
 use Rattle.dn_model.specs.declared.fault.ImageFault.{ImageFault}
 use Rattle.dn_model.specs.declared.fault.ImageFault.TheVariants.{BadTable, BadPointer, DoubleMapped, BadCount, Crowded}
-use Rattle.dn_row_changes.proofs.Rows.{chain_listed, at_listed}
+use Rattle.law_table.proofs.Rows.{chain_listed, at_listed}
 use Rattle.dn_table_reading.specs.Tables.{HasChains}
 use Rattle.dn_table_reading.proofs.Decisions.{Decided, decide_lt, decide_le, decide_both, decide_either, decide_as, decide_not, least_or_none, all_or_first, decide_listed}
 use Rattle.dn_table_reading.proofs.Tables.{tables_read_or_faulty}

@@ -35,7 +35,7 @@ use Rattle.law_write.proofs.WriteFiles.{named-in_table, one_name, bytes-others}
 use Rattle.law_write.proofs.WriteFree.{free-kept, fresh-not_free, block-not_free}
 use Rattle.law_write.proofs.WriteValid.{use_kept, rows_kept, below_old, not_mapped, log_page_cases, named_same}
 use Rattle.law_write.proofs.Unread.{read_in_data}
-use Rattle.dn_row_changes.proofs.Rows.{row_found, all_listed}
+use Rattle.law_table.proofs.Rows.{row_found, all_listed}
 use Rattle.dn_size_changes.specs.Cutting.{last_page, refill_runs, cut_disk, MayRefill, MayCut, RefillsPage, Refills, EndsInZeros, GoesAway, past_end, refilled, IsDropped}
 use Rattle.dn_size_changes.specs.CutLaws.{CutsPlaces, Resizes, TakesAndDrops}
 use Rattle.dn_size_changes.proofs.Cutting.{refill_only, refill_inside, cut-writes, not_block}

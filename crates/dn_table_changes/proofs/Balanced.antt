@@ -5,12 +5,12 @@ use Rattle.dn_model.specs.Table.{Row}
 use Rattle.dn_model.specs.Disk.{Disk, rows}
 use Rattle.dn_model.specs.Counts.{mappings, IsNear}
 use Rattle.dn_model.specs.Valid.{IsValid, IsRow}
-use Rattle.dn_row_changes.specs.Changes.{recount}
+use Rattle.law_table.specs.Changes.{recount}
 use Rattle.dn_table_changes.specs.RowLaws.{IsNewRow}
 use Rattle.dn_table_changes.specs.MappingLaws.{AddsMapping}
 use Rattle.dn_table_changes.specs.BalanceLaws.{IsBalanced, RecountsBalanced}
-use Rattle.dn_row_changes.proofs.Rows.{same_test, none_found}
-use Rattle.dn_row_changes.proofs.TableRows.{of_chain, is_row, good_of}
+use Rattle.law_table.proofs.Rows.{same_test, none_found}
+use Rattle.law_table.proofs.TableRows.{of_chain, is_row, good_of}
 use Rattle.dn_table_changes.proofs.Frame.{mappings_same}
 use Rattle.dn_table_changes.proofs.Mappings.{mapped_once}
 

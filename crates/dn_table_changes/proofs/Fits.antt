@@ -8,9 +8,9 @@ use Rattle.dn_model.specs.Disk.{Disk, IsMapped, rows}
 use Rattle.dn_model.specs.Counts.{mappings, IsNear}
 use Rattle.dn_model.specs.Valid.{IsValid}
 use Rattle.law_write.specs.Events.{IsReadPage}
-use Rattle.dn_row_changes.specs.Changes.{recount}
-use Rattle.dn_row_changes.specs.Rows.{PutsRow, TakesRow, RecountsRows}
-use Rattle.dn_row_changes.proofs.Rows.{all_listed, none_listed, none_found, row_found}
+use Rattle.law_table.specs.Changes.{recount}
+use Rattle.law_table.specs.Rows.{PutsRow, TakesRow, RecountsRows}
+use Rattle.law_table.proofs.Rows.{all_listed, none_listed, none_found, row_found}
 use Rattle.dn_table_changes.specs.TableLaws.{FitsDisk}
 
 -- a page without a row had none, where one comes in, or had the one that went

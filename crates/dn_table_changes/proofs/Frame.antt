@@ -4,7 +4,7 @@ use Rattle.dn_model.specs.Table.{Row}
 use Rattle.dn_model.specs.Disk.{Disk, IsMapped, maps}
 use Rattle.dn_model.specs.Counts.{mappings, IsLogPage, IsFree}
 use Rattle.dn_model.specs.Files.{named, bytes, files, IsSameFiles}
-use Rattle.dn_row_changes.specs.Changes.{with_table}
+use Rattle.law_table.specs.Changes.{with_table}
 use Rattle.dn_table_changes.specs.Keeping.{KeepsFiles}
 
 module _ (d : Disk) (chain : ℕ → List Row) (pointer : ℕ → ℕ) where

@@ -13,7 +13,7 @@ use Rattle.law_write.proofs.Unread.{read_in_data}
 use Rattle.law_write.proofs.WriteCounts.{hit_here, hit_other}
 use Rattle.law_write.proofs.WriteValid.{mapped_counts}
 use Rattle.dn_table_changes.specs.MappingLaws.{places, RemapsInode, RemapsPlace, AddsMapping, MovesMapping, CountsTell}
-use Rattle.dn_row_changes.proofs.Rows.{all_listed, none_or_some, row_found}
+use Rattle.law_table.proofs.Rows.{all_listed, none_or_some, row_found}
 
 -- a mapping that hits the page is there, with this block
 hit_some : (page : ℕ) (m : Option Mapping) → 1 ≤ hit page m → (x : Mapping) × (m ≡ Some x) × (x.block ≡ page)

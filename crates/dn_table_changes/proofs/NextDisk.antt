@@ -19,10 +19,10 @@ use Rattle.dn_model.proofs.Append.{log_word_in_data}
 use Rattle.law_write.specs.Events.{IsReadPage}
 use Rattle.law_write.proofs.Unread.{read_in_data, slot_word_low, pointer_word_low}
 use Rattle.law_write.proofs.WriteEvent.{length-left, stands_for_read}
-use Rattle.dn_row_changes.specs.Changes.{with_table}
-use Rattle.dn_row_changes.specs.Words.{IsTableWord, HoldsTable, IsOneTableWord}
-use Rattle.dn_row_changes.proofs.TableRows.{in_table, row_slot_small, good_of}
-use Rattle.dn_row_changes.proofs.Slots.{HasSlot, chain_word}
+use Rattle.law_table.specs.Changes.{with_table}
+use Rattle.law_table.specs.Words.{IsTableWord, HoldsTable, IsOneTableWord}
+use Rattle.law_table.proofs.TableRows.{in_table, row_slot_small, good_of}
+use Rattle.law_table.proofs.Slots.{HasSlot, chain_word}
 use Rattle.dn_table_changes.specs.OneWord.{IsOneWord}
 use Rattle.dn_table_changes.specs.TableLaws.{IsNextDisk}
 use Rattle.dn_table_changes.proofs.Frame.{mapped_only}

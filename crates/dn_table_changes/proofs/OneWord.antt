@@ -14,7 +14,7 @@ use Rattle.dn_model.specs.Disk.{Disk, DiskSays}
 use Rattle.dn_model.specs.Valid.{IsValid}
 use Rattle.dn_model.specs.Image.{StandsFor}
 use Rattle.law_write.proofs.WriteEvent.{length-left, stands_for_read}
-use Rattle.dn_row_changes.proofs.Words.{nothing_stands, reads_either}
+use Rattle.law_table.proofs.Words.{nothing_stands, reads_either}
 use Rattle.dn_table_changes.specs.OneWord.{IsOneWord, MayCommit}
 
 module _ (old new : Disk) (first : ℕ) (fresh : List ℕ) (at value : ℕ) (is : IsOneWord old new first fresh at value) where

@@ -5,12 +5,12 @@ use Rattle.pm_layout.specs.Geometry.{slots}
 use Rattle.dn_model.specs.Table.{Row, row_of}
 use Rattle.dn_model.specs.Disk.{Disk, rows}
 use Rattle.dn_model.specs.Valid.{IsValid}
-use Rattle.dn_row_changes.specs.Changes.{repointed, removed}
-use Rattle.dn_row_changes.specs.Rows.{MayPutRow}
-use Rattle.dn_row_changes.proofs.Rows.{none_listed}
-use Rattle.dn_row_changes.proofs.TableRows.{good_of}
-use Rattle.dn_row_changes.proofs.Pointed.{stale_may_clear, fresh_may_point, pointed_may_put}
-use Rattle.dn_row_changes.proofs.Gone.{taken_may_clear}
+use Rattle.law_table.specs.Changes.{repointed, removed}
+use Rattle.law_table.specs.Rows.{MayPutRow}
+use Rattle.law_table.proofs.Rows.{none_listed}
+use Rattle.law_table.proofs.TableRows.{good_of}
+use Rattle.law_table.proofs.Pointed.{stale_may_clear, fresh_may_point, pointed_may_put}
+use Rattle.law_table.proofs.Gone.{taken_may_clear}
 use Rattle.dn_table_changes.specs.PointerLaws.{MayRepoint}
 use Rattle.dn_table_changes.specs.RowLaws.{IsNewRow, MayPut, MayRemove}
 use Rattle.dn_table_changes.proofs.Frame.{mapped_kept}

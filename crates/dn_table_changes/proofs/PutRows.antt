@@ -9,13 +9,13 @@ use Rattle.dn_model.specs.Counts.{mappings, IsNear, Exact}
 use Rattle.dn_model.specs.Valid.{IsValid}
 use Rattle.dn_model.specs.Own.{Print, page_bytes, HasRow, IsOwn}
 use Rattle.law_write.proofs.Unread.{read_in_data}
-use Rattle.dn_row_changes.specs.Changes.{with_table, opened, linked}
-use Rattle.dn_row_changes.specs.Words.{IsOneTableWord}
-use Rattle.dn_row_changes.specs.Rows.{IsFreshRow, MayPutRow, PutsRow, opened_words, linked_words}
-use Rattle.dn_row_changes.proofs.Rows.{all_listed, none_found, row_listed, row_found}
-use Rattle.dn_row_changes.proofs.TableRows.{good_of}
-use Rattle.dn_row_changes.proofs.Opened.{opening_puts_row, opening_decides}
-use Rattle.dn_row_changes.proofs.Linked.{link_puts_row, link_decides}
+use Rattle.law_table.specs.Changes.{with_table, opened, linked}
+use Rattle.law_table.specs.Words.{IsOneTableWord}
+use Rattle.law_table.specs.Rows.{IsFreshRow, MayPutRow, PutsRow, opened_words, linked_words}
+use Rattle.law_table.proofs.Rows.{all_listed, none_found, row_listed, row_found}
+use Rattle.law_table.proofs.TableRows.{good_of}
+use Rattle.law_table.proofs.Opened.{opening_puts_row, opening_decides}
+use Rattle.law_table.proofs.Linked.{link_puts_row, link_decides}
 use Rattle.dn_table_changes.specs.OneWord.{IsOneWord}
 use Rattle.dn_table_changes.specs.CountLaws.{IsExact}
 use Rattle.dn_table_changes.specs.RowLaws.{IsNewRow, MayPut}

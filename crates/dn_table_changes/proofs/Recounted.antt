@@ -10,11 +10,11 @@ use Rattle.dn_model.specs.Disk.{Disk, rows}
 use Rattle.dn_model.specs.Counts.{mappings, IsNear, Exact}
 use Rattle.dn_model.specs.Valid.{IsValid}
 use Rattle.dn_model.specs.Own.{Print, page_bytes, IsOwn}
-use Rattle.dn_row_changes.specs.Changes.{recount, recounted}
-use Rattle.dn_row_changes.specs.Words.{IsOneTableWord}
-use Rattle.dn_row_changes.proofs.Rows.{same_test, other_test, all_listed, distinct_same}
-use Rattle.dn_row_changes.proofs.TableRows.{good_of}
-use Rattle.dn_row_changes.proofs.Counted.{has_same, rows_recounted, recounts_rows, count_word_decides}
+use Rattle.law_table.specs.Changes.{recount, recounted}
+use Rattle.law_table.specs.Words.{IsOneTableWord}
+use Rattle.law_table.proofs.Rows.{same_test, other_test, all_listed, distinct_same}
+use Rattle.law_table.proofs.TableRows.{good_of}
+use Rattle.law_table.proofs.Counted.{has_same, rows_recounted, recounts_rows, count_word_decides}
 use Rattle.dn_table_changes.specs.OneWord.{IsOneWord}
 use Rattle.dn_table_changes.specs.CountLaws.{MayRecount, IsExact, OthersAreExact}
 use Rattle.dn_table_changes.proofs.Fits.{count_fits}

@@ -9,11 +9,11 @@ use Rattle.dn_model.specs.Disk.{Disk, rows}
 use Rattle.dn_model.specs.Counts.{mappings, Exact}
 use Rattle.dn_model.specs.Valid.{IsValid}
 use Rattle.dn_model.specs.Own.{Print, page_bytes, HasRow, IsOwn}
-use Rattle.dn_row_changes.specs.Changes.{removed, slot_before, slot_after}
-use Rattle.dn_row_changes.specs.Rows.{MayTakeRow, TakesRow}
-use Rattle.dn_row_changes.proofs.Rows.{all_listed, row_listed, row_found}
-use Rattle.dn_row_changes.proofs.TableRows.{in_table, good_of}
-use Rattle.dn_row_changes.proofs.Gone.{takes_row, taken_good, closing_decides, unlink_decides}
+use Rattle.law_table.specs.Changes.{removed, slot_before, slot_after}
+use Rattle.law_table.specs.Rows.{MayTakeRow, TakesRow}
+use Rattle.law_table.proofs.Rows.{all_listed, row_listed, row_found}
+use Rattle.law_table.proofs.TableRows.{in_table, good_of}
+use Rattle.law_table.proofs.Gone.{takes_row, taken_good, closing_decides, unlink_decides}
 use Rattle.dn_table_changes.specs.OneWord.{IsOneWord}
 use Rattle.dn_table_changes.specs.CountLaws.{IsExact, OthersAreExact}
 use Rattle.dn_table_changes.specs.RowLaws.{MayRemove, IsUnshared}

@@ -5,11 +5,11 @@ use Rattle.dn_model.specs.Disk.{Disk, rows}
 use Rattle.dn_model.specs.Counts.{Exact}
 use Rattle.dn_model.specs.Valid.{IsValid}
 use Rattle.dn_model.specs.Own.{Print, IsOwn}
-use Rattle.dn_row_changes.specs.Changes.{repointed}
-use Rattle.dn_row_changes.specs.Words.{IsOneTableWord}
-use Rattle.dn_row_changes.specs.Rows.{MayPoint}
-use Rattle.dn_row_changes.proofs.TableRows.{good_of}
-use Rattle.dn_row_changes.proofs.Pointed.{rows_repointed, pointer_decides}
+use Rattle.law_table.specs.Changes.{repointed}
+use Rattle.law_table.specs.Words.{IsOneTableWord}
+use Rattle.law_table.specs.Rows.{MayPoint}
+use Rattle.law_table.proofs.TableRows.{good_of}
+use Rattle.law_table.proofs.Pointed.{rows_repointed, pointer_decides}
 use Rattle.dn_table_changes.specs.OneWord.{IsOneWord}
 use Rattle.dn_table_changes.specs.PointerLaws.{MayRepoint}
 use Rattle.dn_table_changes.specs.TableLaws.{FitsDisk}

@@ -8,7 +8,7 @@ use Rattle.dn_model.specs.Disk.{Disk, rows}
 use Rattle.dn_model.specs.Counts.{mappings, Exact}
 use Rattle.dn_model.specs.Own.{Print, page_bytes, LivePlace, IsAlone, HasRow, IsOwn}
 use Rattle.log_entry.specs.declared.item.Flag.TheVariants.{Complete}
-use Rattle.dn_row_changes.specs.Changes.{with_table}
+use Rattle.law_table.specs.Changes.{with_table}
 use Rattle.dn_table_changes.specs.CountLaws.{IsExact}
 use Rattle.dn_table_changes.proofs.Frame.{maps_same, mappings_same}
 

@@ -7,8 +7,8 @@ use Rattle.dn_model.specs.Disk.{Disk, Use, Free, Live, Dying, rows}
 use Rattle.dn_model.specs.Counts.{IsNear}
 use Rattle.dn_model.specs.Valid.{IsLinked, HasGoodRows, IsValid}
 use Rattle.law_write.specs.Events.{IsReadPage}
-use Rattle.dn_row_changes.specs.Changes.{with_table}
-use Rattle.dn_row_changes.proofs.Rows.{row_listed, row_found}
+use Rattle.law_table.specs.Changes.{with_table}
+use Rattle.law_table.proofs.Rows.{row_listed, row_found}
 use Rattle.dn_table_changes.specs.TableLaws.{IsNextDisk, FitsDisk}
 use Rattle.dn_table_changes.proofs.Frame.{mappings_same, named_same, mapped_only, log_page_only, free_kept}
 

@@ -7,9 +7,9 @@ use Rattle.dn_model.specs.Table.{Row}
 use Rattle.dn_model.specs.Disk.{Disk, rows}
 use Rattle.dn_model.specs.Valid.{IsValid}
 use Rattle.law_write.proofs.Unread.{slot_word_low}
-use Rattle.dn_row_changes.specs.Words.{IsTableWord, IsUntold}
-use Rattle.dn_row_changes.proofs.TableRows.{good_of}
-use Rattle.dn_row_changes.proofs.Unused.{indirect_untold, closed_untold}
+use Rattle.law_table.specs.Words.{IsTableWord, IsUntold}
+use Rattle.law_table.proofs.TableRows.{good_of}
+use Rattle.law_table.proofs.Unused.{indirect_untold, closed_untold}
 use Rattle.dn_table_changes.specs.OneWord.{IsUnread}
 use Rattle.dn_table_changes.proofs.NextDisk.{said_of_table}
 

@@ -4,7 +4,7 @@ use Rattle.dn_model.specs.Table.{Row}
 use Rattle.dn_model.specs.Disk.{Disk, rows}
 use Rattle.dn_model.specs.Counts.{mappings, IsNear}
 use Rattle.dn_model.specs.Valid.{IsValid}
-use Rattle.dn_row_changes.specs.Changes.{recount, recounted}
+use Rattle.law_table.specs.Changes.{recount, recounted}
 use Rattle.dn_table_changes.specs.CountLaws.{MayRecount}
 use Rattle.dn_table_changes.specs.RowLaws.{IsNewRow}
 use Rattle.dn_table_changes.specs.MappingLaws.{AddsMapping}

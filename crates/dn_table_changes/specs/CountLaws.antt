@@ -7,7 +7,7 @@ use Rattle.dn_model.specs.Disk.{Disk, rows}
 use Rattle.dn_model.specs.Counts.{mappings, Exact}
 use Rattle.dn_model.specs.Valid.{IsValid}
 use Rattle.dn_model.specs.Own.{Print, IsOwn}
-use Rattle.dn_row_changes.specs.Changes.{recounted}
+use Rattle.law_table.specs.Changes.{recounted}
 use Rattle.dn_table_changes.specs.OneWord.{IsOneWord}
 
 -- the row may get these counts: they fit, and are off by at most what is under way

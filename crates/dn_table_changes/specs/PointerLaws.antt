@@ -6,7 +6,7 @@ use Rattle.dn_model.specs.Disk.{Disk, rows}
 use Rattle.dn_model.specs.Counts.{Exact}
 use Rattle.dn_model.specs.Valid.{IsValid}
 use Rattle.dn_model.specs.Own.{Print, IsOwn}
-use Rattle.dn_row_changes.specs.Changes.{repointed}
+use Rattle.law_table.specs.Changes.{repointed}
 use Rattle.dn_table_changes.specs.OneWord.{IsOneWord}
 
 -- the page may get this pointer: 0 or a slot's number and 1, and that of its row where it has one

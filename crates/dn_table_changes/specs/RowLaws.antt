@@ -8,8 +8,8 @@ use Rattle.dn_model.specs.Counts.{mappings, Exact}
 use Rattle.dn_model.specs.Valid.{IsValid}
 use Rattle.dn_model.specs.Own.{Print, page_bytes, LivePlace, IsAlone, IsOwn}
 use Rattle.log_entry.specs.declared.item.Flag.TheVariants.{Complete}
-use Rattle.dn_row_changes.specs.Changes.{repointed, opened, linked, removed, slot_before, slot_after}
-use Rattle.dn_row_changes.specs.Rows.{PutsRow, TakesRow, StandsInChain, opened_words, linked_words}
+use Rattle.law_table.specs.Changes.{repointed, opened, linked, removed, slot_before, slot_after}
+use Rattle.law_table.specs.Rows.{PutsRow, TakesRow, StandsInChain, opened_words, linked_words}
 use Rattle.dn_table_changes.specs.OneWord.{IsOneWord, IsUnread}
 use Rattle.dn_table_changes.specs.PointerLaws.{MayRepoint}
 use Rattle.dn_table_changes.specs.CountLaws.{OthersAreExact}

@@ -10,8 +10,8 @@ use Rattle.dn_model.specs.Counts.{mappings, IsLogPage, IsNear}
 use Rattle.dn_model.specs.Valid.{HasGoodRows, IsValid}
 use Rattle.dn_model.specs.Image.{StandsFor}
 use Rattle.law_write.specs.Events.{IsReadPage}
-use Rattle.dn_row_changes.specs.Changes.{with_table}
-use Rattle.dn_row_changes.specs.Words.{IsTableWord, HoldsTable}
+use Rattle.law_table.specs.Changes.{with_table}
+use Rattle.law_table.specs.Words.{IsTableWord, HoldsTable}
 
 -- a disk with another table, which is valid, and of which no page is read that wasn't before
 pub record IsNextDisk (d e : Disk) : Type 0 where

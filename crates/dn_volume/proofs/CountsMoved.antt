@@ -6,10 +6,10 @@ use Rattle.std.proofs.lemmas.List.Elements.{All-contains}
 use Rattle.dn_model.specs.Table.{Row}
 use Rattle.dn_model.specs.Disk.{Disk, rows}
 use Rattle.dn_model.specs.Counts.{mappings}
-use Rattle.dn_row_changes.specs.Changes.{recount, recounted}
-use Rattle.dn_row_changes.specs.Rows.{RecountsRows}
-use Rattle.dn_row_changes.proofs.Rows.{all_listed, distinct_same}
-use Rattle.dn_row_changes.proofs.Counted.{recounts_rows}
+use Rattle.law_table.specs.Changes.{recount, recounted}
+use Rattle.law_table.specs.Rows.{RecountsRows}
+use Rattle.law_table.proofs.Rows.{all_listed, distinct_same}
+use Rattle.law_table.proofs.Counted.{recounts_rows}
 use Rattle.dn_table_changes.specs.BalanceLaws.{IsBalanced, RecountsBalanced}
 use Rattle.dn_table_changes.proofs.Frame.{mappings_same}
 use Rattle.fact_table.specs.Table.{HasRow}

@@ -6,8 +6,8 @@ use Rattle.std.proofs.lemmas.List.Elements.{All-contains}
 use Rattle.dn_model.specs.Table.{Row}
 use Rattle.dn_model.specs.Disk.{Disk, rows}
 use Rattle.dn_model.specs.Counts.{mappings}
-use Rattle.dn_row_changes.specs.Rows.{PutsRow, TakesRow}
-use Rattle.dn_row_changes.proofs.Rows.{all_listed}
+use Rattle.law_table.specs.Rows.{PutsRow, TakesRow}
+use Rattle.law_table.proofs.Rows.{all_listed}
 use Rattle.dn_table_changes.specs.BalanceLaws.{IsBalanced}
 use Rattle.fact_table.specs.Table.{HasRow}
 use Rattle.dn_volume.specs.declared.volume.Parts.{Parts}

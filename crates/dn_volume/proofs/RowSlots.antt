@@ -6,7 +6,7 @@ use Rattle.pm_device.specs.State.{State}
 use Rattle.dn_model.specs.Maps.{Mapping}
 use Rattle.dn_model.specs.Table.{Row, row_of}
 use Rattle.dn_model.specs.Disk.{Disk, maps, rows}
-use Rattle.dn_row_changes.proofs.Rows.{listed_here, listed_later}
+use Rattle.law_table.proofs.Rows.{listed_here, listed_later}
 use Rattle.dn_table_changes.specs.BalanceLaws.{IsBalanced}
 use Rattle.fact_table.specs.Table.{IsAtSlot, HasRow}
 use Rattle.dn_volume.specs.declared.volume.Parts.{Parts}

@@ -1,7 +1,7 @@
 -- How often a slot stands in a list.
 use Rattle.std.proofs.Common.{◌≡◌, ◌≢◌, ℕ, zero, suc, ◌+◌, ◌≤◌, Bool, true, false, List, [], ◌∷◌, length, refl, sym, ◌∙◌, ap, arith}
 use Rattle.std.specs.Prelude.{take, if◌then◌else◌, ◌==◌}
-use Rattle.dn_row_changes.proofs.Rows.{same_test, other_test}
+use Rattle.law_table.proofs.Rows.{same_test, other_test}
 use Rattle.dn_volume.specs.Balance.{times}
 
 pub times_first : (slot : ℕ) (rest : List ℕ) → times slot (slot ∷ rest) ≡ 1 + times slot rest

@@ -6,9 +6,9 @@ use Rattle.std.proofs.lemmas.Bool.Decides.{nat_tests}
 use Rattle.fingerprint.specs.Count.{count_word}
 use Rattle.dn_model.specs.Table.{Row}
 use Rattle.dn_model.specs.Disk.{Disk, rows}
-use Rattle.dn_row_changes.specs.Changes.{recount, recounted}
-use Rattle.dn_row_changes.proofs.Rows.{same_test, other_test, listed_cases}
-use Rattle.dn_row_changes.proofs.Counted.{rows_recounted}
+use Rattle.law_table.specs.Changes.{recount, recounted}
+use Rattle.law_table.proofs.Rows.{same_test, other_test, listed_cases}
+use Rattle.law_table.proofs.Counted.{rows_recounted}
 use Rattle.dn_volume.specs.Events.{word_in, word_at, word_after}
 
 module _ (slot rfc uc : ℕ) where

@@ -12,7 +12,7 @@ use Rattle.dn_model.specs.Disk.{Disk, Dying, IsUsed, maps, rows}
 use Rattle.dn_model.specs.Files.{named}
 use Rattle.dn_model.specs.Valid.{IsValid}
 use Rattle.law_write.specs.Events.{IsReadPage, IsUnused}
-use Rattle.dn_row_changes.specs.Words.{IsTableWord}
+use Rattle.law_table.specs.Words.{IsTableWord}
 use Rattle.dn_volume.specs.declared.background.DyingPlace.{DyingPlace}
 use Rattle.dn_volume.specs.declared.flight.Flight.{Flight}
 use Rattle.dn_volume.specs.declared.volume.Parts.{Parts}

@@ -26,7 +26,7 @@ use Rattle.law_write.specs.Runs.{run_items}
 use Rattle.law_write.specs.WithLog.{grown_log}
 use Rattle.law_write.proofs.WithLog.{with_log-log, with_log-other, with_log-word}
 use Rattle.law_write.proofs.WriteValid.{rows_kept}
-use Rattle.dn_row_changes.proofs.Rows.{some_or_none, listed_cases}
+use Rattle.law_table.proofs.Rows.{some_or_none, listed_cases}
 use Rattle.dn_name_changes.specs.NameChange.{NameChange, MayChange, ChangesNames}
 use Rattle.dn_name_changes.specs.Keeping.{KeepsData}
 use Rattle.dn_name_changes.specs.Operations.{creation, removal, MayCreate, MayRemove}

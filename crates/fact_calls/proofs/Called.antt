@@ -12,16 +12,16 @@ use Rattle.fingerprint.specs.declared.count.CountWord.{CountWord}
 use Rattle.dn_model.specs.Table.{Row, prefix_of}
 use Rattle.dn_model.specs.Disk.{Disk, TableSays, rows}
 use Rattle.dn_model.specs.Valid.{HasGoodRows}
-use Rattle.dn_row_changes.specs.Changes.{with_table, removed}
-use Rattle.dn_row_changes.specs.Words.{HoldsTable}
-use Rattle.dn_row_changes.specs.Rows.{TakesRow}
-use Rattle.dn_row_changes.proofs.Rows.{all_listed}
-use Rattle.dn_row_changes.proofs.TableRows.{of_chain, is_row}
-use Rattle.dn_row_changes.proofs.Counted.{counted_good, recounts_rows}
-use Rattle.dn_row_changes.proofs.Pointed.{rows_repointed}
-use Rattle.dn_row_changes.proofs.Opened.{opening_decides}
-use Rattle.dn_row_changes.proofs.Linked.{link_decides}
-use Rattle.dn_row_changes.proofs.Gone.{takes_row, taken_good}
+use Rattle.law_table.specs.Changes.{with_table, removed}
+use Rattle.law_table.specs.Words.{HoldsTable}
+use Rattle.law_table.specs.Rows.{TakesRow}
+use Rattle.law_table.proofs.Rows.{all_listed}
+use Rattle.law_table.proofs.TableRows.{of_chain, is_row}
+use Rattle.law_table.proofs.Counted.{counted_good, recounts_rows}
+use Rattle.law_table.proofs.Pointed.{rows_repointed}
+use Rattle.law_table.proofs.Opened.{opening_decides}
+use Rattle.law_table.proofs.Linked.{link_decides}
+use Rattle.law_table.proofs.Gone.{takes_row, taken_good}
 use Rattle.fact_table.specs.Table.{Table, IsTable, IsAtSlot, HasRow, TakesSlot}
 use Rattle.fact_counts.specs.Standing.{HasRowWith}
 use Rattle.fact_counts.specs.Counted.{raised, up, down, counted, MayRaise, MaySettleUp, MaySettleDown, AnyRow, count_changed, MakesTable, SettlesTable, LeavesTables}

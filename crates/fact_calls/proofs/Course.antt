@@ -11,12 +11,12 @@ use Rattle.pm_device.proofs.Only.{left-extends, extends_then, stores_only-none, 
 use Rattle.pm_layout.specs.declared.Geometry.{Geometry}
 use Rattle.dn_model.specs.Table.{Row}
 use Rattle.dn_model.specs.Disk.{Disk, TableSays, rows}
-use Rattle.dn_row_changes.specs.Changes.{with_table}
+use Rattle.law_table.specs.Changes.{with_table}
 use Rattle.fact_table.specs.Table.{Table}
 use Rattle.fact_changes.proofs.Staled.{still_images}
 use Rattle.fact_calls.specs.declared.call.TableCall.{TableCall}
 use Rattle.fact_calls.specs.Follows.{MayMake, Follows, After, none_made, one_more}
-use Rattle.dn_row_changes.specs.Words.{IsTableWord}
+use Rattle.law_table.specs.Words.{IsTableWord}
 use Rattle.fact_calls.specs.Made.{IsSameBut, MayCall, HasCalled, HoldsRows, LeavesCall, MakesCall, MayCallAll, HasCalledSome, LeavesAfter}
 
 module _ (d e : Disk) (same : IsSameBut d e) where

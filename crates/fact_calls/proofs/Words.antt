@@ -12,18 +12,18 @@ use Rattle.dn_model.specs.Table.{Row, prefix_of}
 use Rattle.dn_model.specs.Disk.{Disk}
 use Rattle.dn_model.specs.Valid.{HasGoodRows}
 use Rattle.law_write.proofs.Unread.{slot_word_low, pointer_word_low}
-use Rattle.dn_row_changes.specs.Changes.{slot_before}
-use Rattle.dn_row_changes.proofs.Rows.{same_test, other_test}
-use Rattle.dn_row_changes.proofs.Slots.{HasSlot}
-use Rattle.dn_row_changes.proofs.TableRows.{of_chain, in_table, is_row, row_slot_small, stands_in_chain}
-use Rattle.dn_row_changes.proofs.Taken.{before_owned}
+use Rattle.law_table.specs.Changes.{slot_before}
+use Rattle.law_table.proofs.Rows.{same_test, other_test}
+use Rattle.law_table.proofs.Slots.{HasSlot}
+use Rattle.law_table.proofs.TableRows.{of_chain, in_table, is_row, row_slot_small, stands_in_chain}
+use Rattle.law_table.proofs.Taken.{before_owned}
 use Rattle.fact_table.specs.Table.{Table, IsTable, IsAtSlot}
 use Rattle.fact_counts.proofs.Counting.{row_small}
 use Rattle.fact_changes.specs.Insertion.{MayInsert, IsInsertWord, IsTakenWord}
 use Rattle.fact_changes.specs.Removal.{MayRemoveAt, deciding_word, IsRemoveWord}
 use Rattle.fact_changes.specs.Stale.{IsStaleWord}
 use Rattle.fact_changes.proofs.Slotted.{prefix_lt}
-use Rattle.dn_row_changes.specs.Words.{IsTableWord}
+use Rattle.law_table.specs.Words.{IsTableWord}
 
 module _ (g : Geometry) where
   slot_in : (slot i : ℕ) → slot < slots g → i < 8 → IsTableWord g (slot_word g slot i)

@@ -5,7 +5,7 @@ use Rattle.pm_layout.specs.Geometry.{InData, directs, slots}
 use Rattle.fingerprint.specs.Print.{IsPrint}
 use Rattle.fingerprint.specs.declared.count.CountWord.{CountWord}
 use Rattle.dn_model.specs.Table.{Row, prefix_of}
-use Rattle.dn_row_changes.specs.Rows.{RecountsRows, PutsRow, TakesRow}
+use Rattle.law_table.specs.Rows.{RecountsRows, PutsRow, TakesRow}
 use Rattle.fact_table.specs.Chained.{HasNoRow}
 use Rattle.fact_counts.specs.Counted.{raised, up, down, counted, MayRaise, MaySettleUp, MaySettleDown, AnyRow}
 use Rattle.fact_rows.specs.Put.{new_row}

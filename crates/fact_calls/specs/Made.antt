@@ -7,8 +7,8 @@ use Rattle.pm_device.specs.Reading.{Stands}
 use Rattle.dn_model.specs.Table.{Row}
 use Rattle.dn_model.specs.Disk.{Disk, TableSays, rows}
 use Rattle.dn_model.specs.Valid.{HasGoodRows}
-use Rattle.dn_row_changes.specs.Changes.{with_table}
-use Rattle.dn_row_changes.specs.Words.{HoldsTable}
+use Rattle.law_table.specs.Changes.{with_table}
+use Rattle.law_table.specs.Words.{HoldsTable}
 use Rattle.fact_table.specs.Table.{Table, IsTable}
 use Rattle.fact_calls.specs.declared.call.TableCall.{TableCall}
 use Rattle.fact_calls.specs.Follows.{MayMake, Follows, After, Allows}

@@ -2,7 +2,7 @@
 ghost use Rattle.std.specs.Prelude.{◌≡◌, ◌+◌, ◌*◌, ◌≤◌, length, OnOk, IsErr};
 ghost use Rattle.pm_device.specs.State.{Rose};
 ghost use Rattle.pm_device.specs.Settled.{StoresOnly};
-ghost use Rattle.dn_row_changes.specs.Words.{IsTableWord};
+ghost use Rattle.law_table.specs.Words.{IsTableWord};
 ghost use Rattle.fact_calls.specs.Made.{CanCall, CanCallAll, LeavesCall, MakesCall, LeavesAll, MakesAll};
 
 use crate::call::TableCall;

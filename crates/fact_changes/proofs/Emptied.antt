@@ -12,13 +12,13 @@ use Rattle.pm_layout.specs.Geometry.{IsAccepted, slot_word, pointer_word, direct
 use Rattle.dn_model.specs.Table.{Row, prefix_of, chained, direct_page_word}
 use Rattle.dn_model.specs.Disk.{Disk, TableSays, rows}
 use Rattle.dn_model.specs.Valid.{HasGoodRows}
-use Rattle.dn_row_changes.specs.Changes.{removed, slot_before}
-use Rattle.dn_row_changes.specs.Words.{HoldsTable}
-use Rattle.dn_row_changes.specs.Rows.{StandsInChain, MayTakeRow, TakesRow}
-use Rattle.dn_row_changes.proofs.Rows.{same_test, other_test, at_listed}
-use Rattle.dn_row_changes.proofs.TableRows.{stands_in_chain, row_slot_small}
-use Rattle.dn_row_changes.proofs.Pointed.{rows_repointed, pointed_good}
-use Rattle.dn_row_changes.proofs.Gone.{takes_row, taken_may_clear}
+use Rattle.law_table.specs.Changes.{removed, slot_before}
+use Rattle.law_table.specs.Words.{HoldsTable}
+use Rattle.law_table.specs.Rows.{StandsInChain, MayTakeRow, TakesRow}
+use Rattle.law_table.proofs.Rows.{same_test, other_test, at_listed}
+use Rattle.law_table.proofs.TableRows.{stands_in_chain, row_slot_small}
+use Rattle.law_table.proofs.Pointed.{rows_repointed, pointed_good}
+use Rattle.law_table.proofs.Gone.{takes_row, taken_may_clear}
 use Rattle.fact_table.specs.Table.{Table, IsTable, HasRow, HasNoneAt, GivesBackSlot}
 use Rattle.fact_table.proofs.Tables.{head_or_behind, chain_behind, next_word}
 use Rattle.fact_rows.specs.Put.{HoldsOneOf}

@@ -6,9 +6,9 @@ use Rattle.pm_device.specs.Reading.{Reads}
 use Rattle.pm_layout.specs.declared.Geometry.{Geometry}
 use Rattle.pm_layout.specs.Geometry.{directs, slots, slot_word}
 use Rattle.dn_model.specs.Table.{Row, RowsSay, at_next, at_later, first_slot, chained}
-use Rattle.dn_row_changes.specs.Changes.{slot_before}
-use Rattle.dn_row_changes.proofs.Rows.{same_test, other_test, listed_here, listed_later, listed_cases, at_listed}
-use Rattle.dn_row_changes.proofs.Taken.{before_here, before_other}
+use Rattle.law_table.specs.Changes.{slot_before}
+use Rattle.law_table.proofs.Rows.{same_test, other_test, listed_here, listed_later, listed_cases, at_listed}
+use Rattle.law_table.proofs.Taken.{before_here, before_other}
 use Rattle.fact_table.proofs.Chains.{rows_fit}
 use Rattle.fact_changes.specs.Removal.{IsChainTo}
 

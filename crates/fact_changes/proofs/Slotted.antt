@@ -9,14 +9,14 @@ use Rattle.pm_layout.specs.Geometry.{InData, IsAccepted, slot_word, directs, slo
 use Rattle.dn_model.specs.Table.{Row, prefix_of, at_row}
 use Rattle.dn_model.specs.Disk.{Disk, TableSays, rows}
 use Rattle.dn_model.specs.Valid.{HasGoodRows}
-use Rattle.dn_row_changes.specs.Words.{HoldsTable}
-use Rattle.dn_row_changes.specs.Rows.{IsFreshRow, MayPutRow, PutsRow}
-use Rattle.dn_row_changes.proofs.Rows.{distinct_same}
-use Rattle.dn_row_changes.proofs.TableRows.{of_chain, is_row, prefix_small}
-use Rattle.dn_row_changes.proofs.Slots.{field_said}
-use Rattle.dn_row_changes.proofs.Pointed.{rows_repointed, pointed_may_put}
-use Rattle.dn_row_changes.proofs.Opened.{opening_decides, opening_puts_row}
-use Rattle.dn_row_changes.proofs.Linked.{link_decides, link_puts_row}
+use Rattle.law_table.specs.Words.{HoldsTable}
+use Rattle.law_table.specs.Rows.{IsFreshRow, MayPutRow, PutsRow}
+use Rattle.law_table.proofs.Rows.{distinct_same}
+use Rattle.law_table.proofs.TableRows.{of_chain, is_row, prefix_small}
+use Rattle.law_table.proofs.Slots.{field_said}
+use Rattle.law_table.proofs.Pointed.{rows_repointed, pointed_may_put}
+use Rattle.law_table.proofs.Opened.{opening_decides, opening_puts_row}
+use Rattle.law_table.proofs.Linked.{link_decides, link_puts_row}
 use Rattle.fact_table.specs.Table.{Table, IsTable, HasRow, HasNoneAt, TakesSlot}
 use Rattle.fact_table.proofs.Tables.{page_word, head_of, in_rows}
 use Rattle.fact_rows.specs.Put.{new_row, pointed, opened_with, linked_with, MayPutAt, CanPutAt, LeavesOpened, MakesOpened, SettlesOpened, LeavesLinked, MakesLinked, SettlesLinked}

@@ -14,11 +14,11 @@ use Rattle.pm_layout.specs.declared.Geometry.{Geometry}
 use Rattle.pm_layout.specs.Geometry.{pointer_word, directs}
 use Rattle.dn_model.specs.Table.{Row}
 use Rattle.dn_model.specs.Disk.{Disk, TableSays, rows}
-use Rattle.dn_row_changes.specs.Changes.{with_table, repointed}
-use Rattle.dn_row_changes.specs.Words.{HoldsTable, IsOneTableWord}
-use Rattle.dn_row_changes.proofs.Words.{word_settled, word_any_order, word_stands, word_reads, nothing_ready, nothing_stands, untold_images}
-use Rattle.dn_row_changes.proofs.Pointed.{rows_repointed, pointer_decides, stale_may_clear}
-use Rattle.dn_row_changes.proofs.Rows.{same_test, other_test}
+use Rattle.law_table.specs.Changes.{with_table, repointed}
+use Rattle.law_table.specs.Words.{HoldsTable, IsOneTableWord}
+use Rattle.law_table.proofs.Words.{word_settled, word_any_order, word_stands, word_reads, nothing_ready, nothing_stands, untold_images}
+use Rattle.law_table.proofs.Pointed.{rows_repointed, pointer_decides, stale_may_clear}
+use Rattle.law_table.proofs.Rows.{same_test, other_test}
 use Rattle.fact_table.specs.Table.{Table, IsTable, HasNoneOf, IsOfPage}
 use Rattle.fact_table.specs.Seen.{as_row}
 use Rattle.fact_scan.specs.declared.row.Row.{Row as FoundRow}

@@ -7,7 +7,7 @@ use Rattle.pm_layout.specs.declared.Geometry.{Geometry}
 use Rattle.pm_layout.specs.Geometry.{directs, slot_word}
 use Rattle.dn_model.specs.Table.{Row, prefix_of}
 use Rattle.dn_model.specs.Disk.{Disk, TableSays}
-use Rattle.dn_row_changes.specs.Changes.{removed, slot_before}
+use Rattle.law_table.specs.Changes.{removed, slot_before}
 use Rattle.fact_table.specs.Chained.{IsChainFrom}
 use Rattle.fact_table.specs.Table.{Table, IsTable, IsAtSlot, GivesBackSlot}
 use Rattle.fact_rows.specs.Put.{HoldsOneOf}

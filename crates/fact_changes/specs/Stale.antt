@@ -5,8 +5,8 @@ use Rattle.pm_device.specs.Settled.{LeavesOnly, StoresOnly, KeepsFlushed, Others
 use Rattle.pm_device.specs.Reading.{Stands}
 use Rattle.pm_layout.specs.Geometry.{pointer_word}
 use Rattle.dn_model.specs.Disk.{Disk, TableSays, rows}
-use Rattle.dn_row_changes.specs.Changes.{with_table, repointed}
-use Rattle.dn_row_changes.specs.Words.{HoldsTable}
+use Rattle.law_table.specs.Changes.{with_table, repointed}
+use Rattle.law_table.specs.Words.{HoldsTable}
 use Rattle.fact_table.specs.Table.{Table, IsTable, HasNoneOf}
 
 -- the page's pointer leads to a slot, and no row has the page

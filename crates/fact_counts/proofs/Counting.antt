@@ -13,14 +13,14 @@ use Rattle.fingerprint.specs.declared.count.CountWord.{CountWord}
 use Rattle.fingerprint.proofs.SlotLaws.{count_word-one}
 use Rattle.dn_model.specs.Table.{Row, at_row}
 use Rattle.dn_model.specs.Disk.{Disk, ChainsSay, TableSays}
-use Rattle.dn_row_changes.specs.Changes.{recount, recounted}
-use Rattle.dn_row_changes.specs.Rows.{MayCount}
-use Rattle.dn_row_changes.specs.Words.{HoldsTable, IsOneTableWord}
-use Rattle.dn_row_changes.proofs.Counted.{count_word_decides, recounts_rows}
-use Rattle.dn_row_changes.proofs.Rows.{at_listed}
-use Rattle.dn_row_changes.proofs.Slots.{field_said}
-use Rattle.dn_row_changes.proofs.TableRows.{of_chain, row_slot_small}
-use Rattle.dn_row_changes.proofs.Words.{word_settled, word_any_order, word_stands, word_reads, nothing_ready, nothing_stands}
+use Rattle.law_table.specs.Changes.{recount, recounted}
+use Rattle.law_table.specs.Rows.{MayCount}
+use Rattle.law_table.specs.Words.{HoldsTable, IsOneTableWord}
+use Rattle.law_table.proofs.Counted.{count_word_decides, recounts_rows}
+use Rattle.law_table.proofs.Rows.{at_listed}
+use Rattle.law_table.proofs.Slots.{field_said}
+use Rattle.law_table.proofs.TableRows.{of_chain, row_slot_small}
+use Rattle.law_table.proofs.Words.{word_settled, word_any_order, word_stands, word_reads, nothing_ready, nothing_stands}
 use Rattle.fact_table.specs.Table.{Table, IsTable, IsSettledTable, IsAtSlot, HasRow, HasNoneAt}
 use Rattle.fact_counts.specs.Standing.{HasRowWith}
 use Rattle.fact_counts.specs.Counted.{LeavesTables, MakesTable, SettlesTable, SettlesOwn, CountsAre, AnyRow}

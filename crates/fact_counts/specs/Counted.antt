@@ -6,8 +6,8 @@ use Rattle.pm_layout.specs.Geometry.{slot_word}
 use Rattle.fingerprint.specs.declared.count.CountWord.{CountWord}
 use Rattle.dn_model.specs.Table.{Row}
 use Rattle.dn_model.specs.Disk.{Disk}
-use Rattle.dn_row_changes.specs.Changes.{recounted}
-use Rattle.dn_row_changes.specs.Words.{HoldsTable}
+use Rattle.law_table.specs.Changes.{recounted}
+use Rattle.law_table.specs.Words.{HoldsTable}
 use Rattle.fact_table.specs.Table.{Table, IsTable, IsSettledTable, IsAtSlot}
 
 -- what the counts of a row become: with one update more under way

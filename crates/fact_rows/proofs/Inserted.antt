@@ -15,16 +15,16 @@ use Rattle.pm_layout.specs.declared.Geometry.{Geometry}
 use Rattle.pm_layout.specs.Geometry.{IsAccepted, slot_word, pointer_word, directs, slots}
 use Rattle.dn_model.specs.Table.{Row, first_slot, chained, at_direct_next}
 use Rattle.dn_model.specs.Disk.{Disk, TableSays}
-use Rattle.dn_row_changes.specs.Changes.{repointed}
-use Rattle.dn_row_changes.specs.Words.{HoldsTable, IsOneTableWord, IsUntold}
-use Rattle.dn_row_changes.specs.Rows.{MayPoint, opened_words, linked_words}
-use Rattle.dn_row_changes.proofs.Words.{word_settled, word_any_order, word_stands, word_reads, stored_run_ready, front_stands, stands_through, nothing_ready, nothing_stands, untold_reads, untold_stands, untold_images}
-use Rattle.dn_row_changes.proofs.Pointed.{pointer_decides, fresh_may_point, pointed_may_put}
-use Rattle.dn_row_changes.proofs.Unused.{indirect_untold, closed_untold}
-use Rattle.dn_row_changes.proofs.Opened.{opening_decides}
-use Rattle.dn_row_changes.proofs.Linked.{link_decides}
-use Rattle.dn_row_changes.proofs.TableRows.{prefix_small}
-use Rattle.dn_row_changes.proofs.Slots.{pointer_above}
+use Rattle.law_table.specs.Changes.{repointed}
+use Rattle.law_table.specs.Words.{HoldsTable, IsOneTableWord, IsUntold}
+use Rattle.law_table.specs.Rows.{MayPoint, opened_words, linked_words}
+use Rattle.law_table.proofs.Words.{word_settled, word_any_order, word_stands, word_reads, stored_run_ready, front_stands, stands_through, nothing_ready, nothing_stands, untold_reads, untold_stands, untold_images}
+use Rattle.law_table.proofs.Pointed.{pointer_decides, fresh_may_point, pointed_may_put}
+use Rattle.law_table.proofs.Unused.{indirect_untold, closed_untold}
+use Rattle.law_table.proofs.Opened.{opening_decides}
+use Rattle.law_table.proofs.Linked.{link_decides}
+use Rattle.law_table.proofs.TableRows.{prefix_small}
+use Rattle.law_table.proofs.Slots.{pointer_above}
 use Rattle.fact_rows.specs.Put.{new_row, pointed, opened_with, linked_with, MayPutAt, HoldsOneOf, IsPutWord, KeepsOthers}
 use Rattle.pm_device.proofs.SetWord.{done_value}
 

@@ -14,15 +14,15 @@ use Rattle.pm_layout.specs.declared.Geometry.{Geometry}
 use Rattle.pm_layout.specs.Geometry.{slot_word, pointer_word, directs, slots}
 use Rattle.dn_model.specs.Table.{Row, RowsSay, at_next, at_later, at_row}
 use Rattle.dn_model.specs.Disk.{Disk, TableSays}
-use Rattle.dn_row_changes.specs.Changes.{removed, slot_before, slot_after}
-use Rattle.dn_row_changes.specs.Words.{HoldsTable, IsOneTableWord}
-use Rattle.dn_row_changes.proofs.Words.{word_settled, word_any_order, word_stands, word_reads, nothing_ready, nothing_stands}
-use Rattle.dn_row_changes.proofs.Pointed.{pointer_decides}
-use Rattle.dn_row_changes.proofs.Gone.{taken_may_clear, closing_decides, unlink_decides}
-use Rattle.dn_row_changes.proofs.Rows.{listed_cases}
-use Rattle.dn_row_changes.proofs.Slots.{HasSlot}
-use Rattle.dn_row_changes.proofs.TableRows.{in_table, is_row, row_slot_small}
-use Rattle.dn_row_changes.proofs.Taken.{before_owned, after_here, after_other}
+use Rattle.law_table.specs.Changes.{removed, slot_before, slot_after}
+use Rattle.law_table.specs.Words.{HoldsTable, IsOneTableWord}
+use Rattle.law_table.proofs.Words.{word_settled, word_any_order, word_stands, word_reads, nothing_ready, nothing_stands}
+use Rattle.law_table.proofs.Pointed.{pointer_decides}
+use Rattle.law_table.proofs.Gone.{taken_may_clear, closing_decides, unlink_decides}
+use Rattle.law_table.proofs.Rows.{listed_cases}
+use Rattle.law_table.proofs.Slots.{HasSlot}
+use Rattle.law_table.proofs.TableRows.{in_table, is_row, row_slot_small}
+use Rattle.law_table.proofs.Taken.{before_owned, after_here, after_other}
 use Rattle.fact_rows.specs.Put.{HoldsOneOf}
 use Rattle.fact_rows.specs.Gone.{MayTakeOut, MayUnlink, cleared, IsGoneWord}
 use Rattle.pm_device.proofs.SetWord.{done_value}

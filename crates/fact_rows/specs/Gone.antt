@@ -7,9 +7,9 @@ use Rattle.pm_layout.specs.declared.Geometry.{Geometry}
 use Rattle.pm_layout.specs.Geometry.{pointer_word}
 use Rattle.dn_model.specs.Table.{Row}
 use Rattle.dn_model.specs.Disk.{Disk, TableSays}
-use Rattle.dn_row_changes.specs.Changes.{repointed, removed, slot_before}
-use Rattle.dn_row_changes.specs.Words.{HoldsTable}
-use Rattle.dn_row_changes.specs.Rows.{MayTakeRow}
+use Rattle.law_table.specs.Changes.{repointed, removed, slot_before}
+use Rattle.law_table.specs.Words.{HoldsTable}
+use Rattle.law_table.specs.Rows.{MayTakeRow}
 use Rattle.fact_rows.specs.Put.{HoldsOneOf}
 
 -- the words hold the table of this disk, whose row at this slot, of this page, may go out of the chain of this prefix

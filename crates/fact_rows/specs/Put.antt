@@ -9,9 +9,9 @@ use Rattle.pm_layout.specs.Geometry.{slot_word, pointer_word}
 use Rattle.dn_model.specs.Table.{Row}
 use Rattle.dn_model.specs.Disk.{Disk, TableSays}
 use Rattle.dn_model.specs.Valid.{HasGoodRows}
-use Rattle.dn_row_changes.specs.Changes.{repointed, opened, linked}
-use Rattle.dn_row_changes.specs.Words.{HoldsTable}
-use Rattle.dn_row_changes.specs.Rows.{IsFreshRow}
+use Rattle.law_table.specs.Changes.{repointed, opened, linked}
+use Rattle.law_table.specs.Words.{HoldsTable}
+use Rattle.law_table.specs.Rows.{IsFreshRow}
 
 -- a row with no reference yet, and the update under way that brings the first
 abbrev pub new_row : ℕ → List ℕ → ℕ → Row

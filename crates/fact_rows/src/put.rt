@@ -4,7 +4,7 @@ ghost use Rattle.pm_device.specs.State.{Rose};
 ghost use Rattle.pm_device.specs.Settled.{StoresOnly};
 ghost use Rattle.pm_device.specs.Lines.{StoresRun};
 ghost use Rattle.pm_layout.specs.Geometry.{IsAccepted, slot_word, directs, slots};
-ghost use Rattle.dn_row_changes.specs.Rows.{opened_words, linked_words};
+ghost use Rattle.law_table.specs.Rows.{opened_words, linked_words};
 ghost use Rattle.fact_rows.specs.Put.{new_row, CanPutAt, IsPutWord, KeepsOthers, MakesOpened, SettlesOpened, LeavesOpened, MakesLinked, SettlesLinked, LeavesLinked};
 
 use crate::pointer::store_pointer;

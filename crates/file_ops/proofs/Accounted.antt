@@ -13,7 +13,7 @@ use Rattle.law_write.specs.Writing.{Writes, WritesWell}
 use Rattle.law_write.proofs.MappedPlaces.{maps-in_file, cut_some}
 use Rattle.law_write.proofs.WriteCounts.{own_or_other, maps_others}
 use Rattle.law_write.proofs.WriteValid.{use_kept, rows_kept, below_old}
-use Rattle.dn_row_changes.proofs.Rows.{row_found}
+use Rattle.law_table.proofs.Rows.{row_found}
 use Rattle.dn_volume.specs.Accounts.{WasAloneOn, AccountsFor}
 
 module _ (ino : ℕ) (old new : Disk) (w : Writes ino old new) (ok : WritesWell ino old new w) where

@@ -11,7 +11,7 @@ use Rattle.dn_model.specs.Growth.{Prepared, new_head, new_footer, new_slot}
 use Rattle.dn_model.specs.Table.{Row, row_of}
 use Rattle.dn_model.specs.Disk.{Disk}
 use Rattle.law_write.proofs.WriteValid.{named_same, was_used}
-use Rattle.dn_row_changes.proofs.Rows.{listed_here}
+use Rattle.law_table.proofs.Rows.{listed_here}
 use Rattle.file_commit.specs.Commit.{IsItemWord}
 use Rattle.file_commit.specs.Append.{AppendsOnly}
 use Rattle.dn_volume.specs.declared.flight.Flight.{Flight}

@@ -15,7 +15,7 @@ use Rattle.fact_table.specs.Table.{HasNoneOf, IsOfPage}
 use Rattle.dn_model.specs.Table.{Row}
 use Rattle.dn_model.specs.Log.{Log, IsPaged, count, tail_at, slot_name}
 use Rattle.dn_model.specs.Disk.{Disk}
-use Rattle.dn_row_changes.proofs.Rows.{listed_here}
+use Rattle.law_table.proofs.Rows.{listed_here}
 use Rattle.file_content.specs.Pages.{AreApart}
 use Rattle.file_ops.specs.Giving.{Gives, IsAmong, IsUnshared, IsUnsharedAmong, QueuesSlots}
 

@@ -27,7 +27,7 @@ use Rattle.law_write.proofs.MappedPlaces.{maps-in_file}
 use Rattle.law_write.proofs.Unread.{read_in_data}
 use Rattle.law_write.proofs.WriteFree.{places_apart}
 use Rattle.law_write.proofs.WriteValid.{not_mapped}
-use Rattle.dn_row_changes.proofs.Rows.{none_found, none_listed}
+use Rattle.law_table.proofs.Rows.{none_found, none_listed}
 use Rattle.dn_volume.specs.declared.flight.Flight.{Flight}
 use Rattle.dn_volume.specs.declared.flight.Change.{Change}
 use Rattle.dn_volume.specs.declared.flight.Change.TheVariants.{Data}

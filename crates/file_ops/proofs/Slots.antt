@@ -14,7 +14,7 @@ use Rattle.law_write.proofs.MappedPlaces.{cut_some, maps-in_file}
 use Rattle.law_write.proofs.WriteCounts.{maps_old, maps_new}
 use Rattle.law_write.proofs.WriteValid.{not_mapped}
 use Rattle.dn_size_changes.specs.Cutting.{last_page, refill_runs, cut_items}
-use Rattle.dn_row_changes.proofs.Rows.{listed_here, listed_later, listed_cases}
+use Rattle.law_table.proofs.Rows.{listed_here, listed_later, listed_cases}
 
 -- a Write
 abbrev pub IsWriteItem : LogItem → Type 0

@@ -6,7 +6,7 @@ use Rattle.std.proofs.lemmas.List.{get_or_default}
 use Rattle.std.proofs.lemmas.List.Elements.{Contains-get_or}
 use Rattle.dn_model.specs.Disk.{Disk}
 use Rattle.law_write.specs.Events.{IsUnused}
-use Rattle.dn_row_changes.proofs.Rows.{same_test, other_test}
+use Rattle.law_table.proofs.Rows.{same_test, other_test}
 use Rattle.file_content.specs.Pages.{AreApart}
 use Rattle.dn_volume.specs.declared.flight.Flight.{Flight}
 use Rattle.dn_volume.specs.declared.flight.Change.TheVariants.{Data}

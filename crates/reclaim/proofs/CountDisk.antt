@@ -15,11 +15,11 @@ use Rattle.dn_model.specs.Own.{Print, page_bytes}
 use Rattle.dn_model.specs.Valid.{IsValid}
 use Rattle.law_write.specs.Events.{IsReadPage, IsUnused}
 use Rattle.law_write.proofs.Unread.{slot_word_low}
-use Rattle.dn_row_changes.specs.Changes.{recount, recounted}
-use Rattle.dn_row_changes.specs.Words.{IsTableWord, HoldsTable}
-use Rattle.dn_row_changes.specs.Rows.{RecountsRows}
-use Rattle.dn_row_changes.proofs.Rows.{row_listed, row_found, none_found, none_listed}
-use Rattle.dn_row_changes.proofs.Counted.{recounts_rows}
+use Rattle.law_table.specs.Changes.{recount, recounted}
+use Rattle.law_table.specs.Words.{IsTableWord, HoldsTable}
+use Rattle.law_table.specs.Rows.{RecountsRows}
+use Rattle.law_table.proofs.Rows.{row_listed, row_found, none_found, none_listed}
+use Rattle.law_table.proofs.Counted.{recounts_rows}
 use Rattle.dn_table_changes.specs.CountLaws.{MayRecount}
 use Rattle.dn_table_changes.specs.TableLaws.{IsNextDisk}
 use Rattle.dn_table_changes.proofs.Frame.{files_same, maps_same, free_kept, free_only, named_same}

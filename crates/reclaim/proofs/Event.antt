@@ -16,7 +16,7 @@ use Rattle.dn_model.specs.Table.{Row}
 use Rattle.dn_model.specs.Disk.{Disk}
 use Rattle.dn_model.specs.Counts.{total}
 use Rattle.dn_model.specs.Own.{Print}
-use Rattle.dn_row_changes.specs.Changes.{recounted}
+use Rattle.law_table.specs.Changes.{recounted}
 use Rattle.dn_table_changes.specs.CountLaws.{MayRecount}
 use Rattle.dn_table_changes.proofs.Recounted.{recount_own}
 use Rattle.fact_table.specs.Table.{Table, IsAtSlot, HasRow}

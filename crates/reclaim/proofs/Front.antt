@@ -8,7 +8,7 @@ use Rattle.dn_model.specs.Disk.{Disk, rows}
 use Rattle.dn_model.specs.Counts.{mappings}
 use Rattle.law_write.proofs.MappedPlaces.{maps-in_file}
 use Rattle.law_write.proofs.WriteValid.{mapped_counts}
-use Rattle.dn_row_changes.proofs.Rows.{same_test, other_test, distinct_same}
+use Rattle.law_table.proofs.Rows.{same_test, other_test, distinct_same}
 use Rattle.fact_table.specs.Table.{IsAtSlot, HasRow}
 use Rattle.fact_counts.specs.Standing.{HasRowWith}
 use Rattle.fact_counts.specs.Counted.{MaySettleDown}

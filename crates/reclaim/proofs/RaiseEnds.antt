@@ -7,7 +7,7 @@ use Rattle.pm_layout.specs.Geometry.{slot_word}
 use Rattle.dn_model.specs.Disk.{Disk}
 use Rattle.dn_model.specs.Own.{Print}
 use Rattle.dn_model.specs.declared.op.Op.{Op}
-use Rattle.dn_row_changes.proofs.Rows.{other_test}
+use Rattle.law_table.proofs.Rows.{other_test}
 use Rattle.dn_table_changes.specs.CountLaws.{MayRecount}
 use Rattle.dn_table_changes.proofs.Balanced.{raise_balance}
 use Rattle.fact_table.specs.Table.{HasRow}

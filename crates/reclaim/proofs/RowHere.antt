@@ -2,7 +2,7 @@
 use Rattle.std.proofs.Common.{◌≡◌, ℕ, List, sym, ◌∙◌}
 use Rattle.dn_model.specs.Table.{Row}
 use Rattle.dn_model.specs.Disk.{Disk, rows}
-use Rattle.dn_row_changes.proofs.Rows.{distinct_same}
+use Rattle.law_table.proofs.Rows.{distinct_same}
 use Rattle.fact_table.specs.Table.{Table, IsTable, IsAtSlot}
 
 pub same_row : (d : Disk) (words : List ℕ) (t : Table) → IsTable d words t → (slot : ℕ) (one other : Row) → IsAtSlot d slot one → IsAtSlot d slot other → one ≡ other

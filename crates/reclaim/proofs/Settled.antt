@@ -7,7 +7,7 @@ use Rattle.pm_device.specs.State.{State}
 use Rattle.dn_model.specs.Table.{Row}
 use Rattle.dn_model.specs.Disk.{Disk}
 use Rattle.dn_model.specs.Counts.{total}
-use Rattle.dn_row_changes.proofs.Rows.{same_test, other_test}
+use Rattle.law_table.proofs.Rows.{same_test, other_test}
 use Rattle.dn_table_changes.specs.BalanceLaws.{RecountsBalanced}
 use Rattle.dn_table_changes.proofs.Balanced.{settle_down_balance}
 use Rattle.fact_table.specs.Table.{HasRow}

@@ -9,9 +9,9 @@ use Rattle.dn_model.specs.Table.{Row, row_of}
 use Rattle.dn_model.specs.Disk.{Disk, maps, rows}
 use Rattle.dn_model.specs.Counts.{total, mappings}
 use Rattle.dn_model.specs.Own.{IsAlone, HasRow as PageHasRow}
-use Rattle.dn_row_changes.specs.Changes.{recount}
-use Rattle.dn_row_changes.proofs.Rows.{row_found, row_listed}
-use Rattle.dn_row_changes.proofs.Counted.{recounts_rows}
+use Rattle.law_table.specs.Changes.{recount}
+use Rattle.law_table.proofs.Rows.{row_found, row_listed}
+use Rattle.law_table.proofs.Counted.{recounts_rows}
 use Rattle.dn_table_changes.specs.CountLaws.{MayRecount}
 use Rattle.dn_table_changes.specs.BalanceLaws.{RecountsBalanced}
 use Rattle.dn_table_changes.proofs.Balanced.{settle_up_balance}

@@ -11,8 +11,8 @@ use Rattle.pm_layout.specs.declared.Geometry.{Geometry}
 use Rattle.dn_model.specs.Table.{Row}
 use Rattle.dn_model.specs.Disk.{Disk, rows}
 use Rattle.dn_model.specs.Counts.{mappings, Exact}
-use Rattle.dn_row_changes.specs.Words.{IsTableWord}
-use Rattle.dn_row_changes.proofs.Rows.{all_listed, listed_at, at_listed}
+use Rattle.law_table.specs.Words.{IsTableWord}
+use Rattle.law_table.proofs.Rows.{all_listed, listed_at, at_listed}
 use Rattle.dn_table_changes.specs.CountLaws.{IsExact}
 use Rattle.fact_scan.specs.Seen.{as_row}
 use Rattle.fact_scan.specs.declared.row.Row.{Row as RowValue}

@@ -11,9 +11,9 @@ use Rattle.dn_model.specs.Valid.{IsValid}
 use Rattle.dn_model.specs.Own.{Print, page_bytes, LivePlace, HasRow, IsOwn}
 use Rattle.law_write.proofs.MappedPlaces.{maps-in_file}
 use Rattle.law_write.proofs.WriteCounts.{place-le}
-use Rattle.dn_row_changes.specs.Changes.{with_table, recount}
-use Rattle.dn_row_changes.specs.Rows.{RecountsRows, TakesRow}
-use Rattle.dn_row_changes.proofs.Rows.{all_listed, row_listed, row_found, distinct_same}
+use Rattle.law_table.specs.Changes.{with_table, recount}
+use Rattle.law_table.specs.Rows.{RecountsRows, TakesRow}
+use Rattle.law_table.proofs.Rows.{all_listed, row_listed, row_found, distinct_same}
 use Rattle.dn_table_changes.proofs.Frame.{mappings_same}
 use Rattle.dn_table_changes.proofs.TableOwn.{own_kept}
 use Rattle.fact_calls.specs.Made.{IsSameBut}

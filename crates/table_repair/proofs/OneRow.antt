@@ -12,9 +12,9 @@ use Rattle.dn_model.specs.Table.{Row}
 use Rattle.dn_model.specs.Disk.{Disk, rows}
 use Rattle.dn_model.specs.Counts.{mappings, IsNear}
 use Rattle.dn_model.specs.Valid.{IsValid}
-use Rattle.dn_row_changes.specs.Words.{IsTableWord}
-use Rattle.dn_row_changes.specs.Rows.{TakesRow}
-use Rattle.dn_row_changes.proofs.Rows.{distinct_same}
+use Rattle.law_table.specs.Words.{IsTableWord}
+use Rattle.law_table.specs.Rows.{TakesRow}
+use Rattle.law_table.proofs.Rows.{distinct_same}
 use Rattle.dn_table_changes.specs.CountLaws.{IsExact}
 use Rattle.fact_table.specs.Table.{Table, IsTable}
 use Rattle.fact_counts.specs.Standing.{HasRowWith}

@@ -10,8 +10,8 @@ use Rattle.dn_model.specs.Table.{Row}
 use Rattle.dn_model.specs.Disk.{Disk, rows}
 use Rattle.dn_model.specs.Counts.{mappings, Exact}
 use Rattle.dn_model.specs.Valid.{IsValid}
-use Rattle.dn_row_changes.specs.Words.{IsTableWord}
-use Rattle.dn_row_changes.proofs.Rows.{all_listed}
+use Rattle.law_table.specs.Words.{IsTableWord}
+use Rattle.law_table.proofs.Rows.{all_listed}
 use Rattle.dn_table_changes.specs.CountLaws.{IsExact}
 use Rattle.std.proofs.lemmas.List.Elements.{All-contains}
 use Rattle.fact_table.specs.Table.{Table, IsTable}

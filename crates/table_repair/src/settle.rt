@@ -2,7 +2,7 @@
 ghost use Rattle.std.specs.Prelude.{◌≡◌, ◌+◌, ◌*◌, ◌<◌, ◌≤◌, length, All, OnOk, IsErr};
 ghost use Rattle.pm_device.specs.State.{Rose};
 ghost use Rattle.pm_device.specs.Settled.{StoresOnly};
-ghost use Rattle.dn_row_changes.specs.Words.{IsTableWord};
+ghost use Rattle.law_table.specs.Words.{IsTableWord};
 ghost use Rattle.fact_scan.specs.Seen.{as_row};
 ghost use Rattle.fact_scan.specs.declared.row.Row.{Row as RowValue};
 ghost use Rattle.table_repair.specs.Settling.{HasRowToSettle, HasTableToSettle, LeavesRow, CountsRow, SettlesRow, LeavesTable, SettlesCounts, SettlesAll, with_count};

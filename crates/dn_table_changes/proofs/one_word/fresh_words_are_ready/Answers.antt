@@ -1,4 +1,4 @@
-use Rattle.dn_row_changes.proofs.Words.{held_run_ready, stored_run_ready, front_ready, ready_through, nothing_ready}
+use Rattle.law_table.proofs.Words.{held_run_ready, stored_run_ready, front_ready, ready_through, nothing_ready}
 use Rattle.dn_table_changes.proofs.one_word.fresh_words_are_ready.Goals as goal
 
 pub returns-clause-held : goal.returns-clause-held

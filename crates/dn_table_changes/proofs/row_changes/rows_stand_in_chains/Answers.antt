@@ -1,4 +1,4 @@
-use Rattle.dn_row_changes.proofs.TableRows.{good_of, stands_in_chain, chain_holds}
+use Rattle.law_table.proofs.TableRows.{good_of, stands_in_chain, chain_holds}
 use Rattle.dn_table_changes.proofs.row_changes.rows_stand_in_chains.Goals as goal
 
 pub returns-clause-listed : goal.returns-clause-listed

@@ -1,6 +1,6 @@
 use Rattle.std.proofs.Common.{arith}
 use Rattle.fact_changes.proofs.SlotBefore.{sought_begins, sought_on, sought_ends}
-use Rattle.dn_row_changes.specs.Changes.{slot_before}
+use Rattle.law_table.specs.Changes.{slot_before}
 use Rattle.fact_changes.proofs.removal.slot_before_of.Goals as goal
 
 pub loop-i-init : goal.loop-i-init

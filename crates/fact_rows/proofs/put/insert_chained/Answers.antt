@@ -1,7 +1,7 @@
 use Rattle.std.proofs.Common.{[], ◌∷◌, ◌++◌, ◌∙◌, arith}
 use Rattle.pm_layout.specs.Geometry.{slot_word}
 use Rattle.pm_layout.proofs.Bits.{slots_small}
-use Rattle.dn_row_changes.specs.Rows.{linked_words}
+use Rattle.law_table.specs.Rows.{linked_words}
 use Rattle.fact_rows.specs.Put.{new_row}
 use Rattle.pm_device.proofs.SetWord.{on_ok_map}
 use Rattle.fact_rows.proofs.Inserted.{Filled, Decided, put_direct_lt, put_page_lt, link_failed, link_images, link_holds, link_stands, put_only_front, put_keeps_front, put_only, put_keeps}
