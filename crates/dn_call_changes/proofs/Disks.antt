@@ -8,9 +8,9 @@ use Rattle.pm_layout.specs.declared.Geometry.{Geometry}
 use Rattle.dn_model.specs.Table.{Row}
 use Rattle.dn_model.specs.Disk.{Disk, DiskSays, TableSays, rows}
 use Rattle.dn_model.specs.Valid.{HasGoodRows, IsValid}
-use Rattle.dn_table_changes.specs.TableLaws.{IsNextDisk}
-use Rattle.dn_table_changes.proofs.TableValid.{fitting_valid}
-use Rattle.dn_table_changes.proofs.NextDisk.{table_said, standing_table, image_of_table}
+use Rattle.law_table_on_disk.specs.TableLaws.{IsNextDisk}
+use Rattle.law_table_on_disk.proofs.TableValid.{fitting_valid}
+use Rattle.law_table_on_disk.proofs.NextDisk.{table_said, standing_table, image_of_table}
 use Rattle.fact_table.specs.Table.{Table, IsTable}
 use Rattle.fact_calls.specs.declared.call.TableCall.{TableCall}
 use Rattle.fact_calls.specs.Follows.{MayMake, Follows, After, Allows}

@@ -13,9 +13,9 @@ use Rattle.law_write.specs.Events.{IsReadPage}
 use Rattle.law_table.specs.Changes.{recount}
 use Rattle.law_table.specs.Rows.{PutsRow}
 use Rattle.law_table.proofs.Rows.{all_listed, none_listed, none_found, distinct_same}
-use Rattle.dn_table_changes.specs.TableLaws.{FitsDisk}
-use Rattle.dn_table_changes.proofs.TableValid.{valid_fits}
-use Rattle.dn_table_changes.proofs.Fits.{put_none, taken_none}
+use Rattle.law_table_on_disk.specs.TableLaws.{FitsDisk}
+use Rattle.law_table_on_disk.proofs.TableValid.{valid_fits}
+use Rattle.law_table_on_disk.proofs.Fits.{put_none, taken_none}
 use Rattle.fact_counts.specs.Counted.{raised, up, down, counted, MaySettleUp, MaySettleDown}
 use Rattle.fact_rows.specs.Put.{new_row}
 use Rattle.fact_calls.specs.declared.call.TableCall.{TableCall}

@@ -15,9 +15,9 @@ use Rattle.dn_model.specs.Disk.{Disk, Inode, Use, Free, Dying, IsUsed, IsMapped,
 use Rattle.dn_model.specs.Counts.{mappings, IsLogPage, IsFree, IsNear, Near, Exact}
 use Rattle.dn_model.specs.Valid.{IsCut}
 use Rattle.law_write.proofs.Unread.{read_in_data}
-use Rattle.dn_table_changes.specs.MappingLaws.{LowersCut, UnmapsPlace, AddsMapping}
-use Rattle.dn_table_changes.proofs.Mappings.{counted_mapped, place_unmapped, blocks_tell, near_stays}
-use Rattle.dn_table_changes.proofs.Remaps.{lowered_cut_unmaps}
+use Rattle.law_table_on_disk.specs.MappingLaws.{LowersCut, UnmapsPlace, AddsMapping}
+use Rattle.law_table_on_disk.proofs.Mappings.{counted_mapped, place_unmapped, blocks_tell, near_stays}
+use Rattle.law_table_on_disk.proofs.Remaps.{lowered_cut_unmaps}
 use Rattle.law_table.proofs.Rows.{all_listed, listed_here, listed_later, listed_cases, none_listed}
 use Rattle.dn_dying_changes.specs.Dying.{Falls, Ends, stepped, MayFall, MayEnd, DropsPlace, DropsLog}
 use Rattle.dn_dying_changes.proofs.Stepped.{at_ino, at_other, same_geometry, same_rows}

@@ -3,8 +3,8 @@ use Rattle.std.specs.Prelude.{ℕ, []}
 use Rattle.pm_layout.specs.Geometry.{inode_word}
 use Rattle.dn_model.specs.Disk.{Disk}
 use Rattle.dn_model.specs.Own.{Print, IsOwn}
-use Rattle.dn_table_changes.specs.OneWord.{IsOneWord}
-use Rattle.dn_table_changes.specs.MappingLaws.{LowersCut}
+use Rattle.law_table_on_disk.specs.OneWord.{IsOneWord}
+use Rattle.law_table_on_disk.specs.MappingLaws.{LowersCut}
 use Rattle.dn_dying_changes.specs.Dying.{Step, Falls, Ends, stepped, MayFall, MayEnd, IsStepped, KeepsLiving, DropsPlace, DropsLog}
 
 abbrev pub SteppedDisksAre : Type 0

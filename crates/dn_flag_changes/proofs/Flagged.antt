@@ -18,7 +18,7 @@ use Rattle.dn_model.specs.Valid.{IsLog, IsValid}
 use Rattle.dn_model.proofs.Append.{log_word_in_data}
 use Rattle.law_write.proofs.Unread.{log_page_said}
 use Rattle.inode_log.proofs.Reflagged.{IsWordChange, place_within, reflagged_differs}
-use Rattle.dn_table_changes.specs.OneWord.{IsOneWord}
+use Rattle.law_table_on_disk.specs.OneWord.{IsOneWord}
 use Rattle.dn_log_changes.specs.Relogged.{relogged, was_free, MayRelog, MovesLog, TellsDone, KeepsDone}
 use Rattle.dn_log_changes.proofs.Relogged.{log_here, use_same, at_other, same_geometry, above, maps_here, maps_before, relogged_valid, relogged_says}
 use Rattle.dn_log_changes.proofs.KeptPlaces.{is_relog, keeps_data, moves_log}

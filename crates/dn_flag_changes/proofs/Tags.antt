@@ -15,7 +15,7 @@ use Rattle.dn_model.specs.Own.{Print, IsAlone, HasRow, IsOwn, Settled}
 use Rattle.dn_model.specs.Valid.{IsLog}
 use Rattle.inode_log.specs.Reflags.{with_flag, with_mask, flag_word, mask_word, Reflags}
 use Rattle.inode_log.proofs.Reflagged.{flag_changes, mask_changes, flag_keeps_log, mask_keeps_log}
-use Rattle.dn_table_changes.specs.OneWord.{IsOneWord}
+use Rattle.law_table_on_disk.specs.OneWord.{IsOneWord}
 use Rattle.dn_log_changes.specs.Relogged.{relogged}
 use Rattle.dn_log_changes.proofs.Relogged.{maps_before}
 use Rattle.dn_log_changes.proofs.KeptPlaces.{own_kept, settled_kept}

@@ -12,8 +12,8 @@ use Rattle.dn_model.specs.Counts.{IsLogPage, IsFree}
 use Rattle.dn_model.specs.Own.{Print, IsAlone, HasRow, IsOwn, Settled}
 use Rattle.dn_model.specs.Valid.{IsValid}
 use Rattle.inode_log.specs.Reflags.{with_flag, with_mask, flag_word, mask_word, Reflags, pages_written}
-use Rattle.dn_table_changes.specs.OneWord.{IsOneWord}
-use Rattle.dn_table_changes.specs.Keeping.{Same}
+use Rattle.law_table_on_disk.specs.OneWord.{IsOneWord}
+use Rattle.law_table_on_disk.specs.Keeping.{Same}
 use Rattle.dn_log_changes.specs.Relogged.{relogged, KeepsData}
 
 -- A Write of a live inode's log stands at this slot, and `log` is that log with this change of it.

@@ -13,8 +13,8 @@ use Rattle.dn_model.specs.Counts.{total, mappings, IsFree}
 use Rattle.law_write.specs.Events.{IsUnused}
 use Rattle.law_write.proofs.Counting.{total-zero}
 use Rattle.law_table.proofs.Rows.{all_listed, none_found}
-use Rattle.dn_table_changes.specs.BalanceLaws.{IsBalanced}
-use Rattle.dn_table_changes.specs.CountLaws.{IsExact}
+use Rattle.law_table_on_disk.specs.BalanceLaws.{IsBalanced}
+use Rattle.law_table_on_disk.specs.CountLaws.{IsExact}
 use Rattle.dn_volume.specs.declared.flight.Flight.{Flight}
 use Rattle.dn_volume.specs.declared.volume.Parts.{Parts}
 use Rattle.dn_volume.specs.declared.volume.Room.{Room}

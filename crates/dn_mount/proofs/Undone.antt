@@ -15,7 +15,7 @@ use Rattle.dn_model.proofs.Regions.{inode_word_low}
 use Rattle.law_write.proofs.Unread.{read_in_data}
 use Rattle.law_write.proofs.WriteEvent.{length-left}
 use Rattle.law_table.proofs.TableRows.{good_of}
-use Rattle.dn_table_changes.proofs.NextDisk.{said_within}
+use Rattle.law_table_on_disk.proofs.NextDisk.{said_within}
 use Rattle.name_journal.specs.Pairs.{HasGateOf}
 
 -- all words of which a valid disk tells a value lie in the device

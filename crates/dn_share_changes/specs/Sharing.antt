@@ -20,8 +20,8 @@ use Rattle.dn_model.specs.Image.{StandsFor}
 use Rattle.law_write.specs.Events.{IsUnused}
 use Rattle.law_write.specs.WithLog.{grown_log}
 use Rattle.dn_log_changes.specs.Relogged.{relogged}
-use Rattle.dn_table_changes.specs.MappingLaws.{RemapsPlace, MovesMapping}
-use Rattle.dn_table_changes.specs.BalanceLaws.{IsBalanced}
+use Rattle.law_table_on_disk.specs.MappingLaws.{RemapsPlace, MovesMapping}
+use Rattle.law_table_on_disk.specs.BalanceLaws.{IsBalanced}
 
 -- the log afterwards, and the disk
 abbrev pub shared_log : Disk → ℕ → ℕ → ℕ → List ℕ → Log

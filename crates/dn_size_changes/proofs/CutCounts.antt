@@ -10,7 +10,7 @@ use Rattle.dn_model.specs.Counts.{total, hit, mappings, IsNear, Near}
 use Rattle.law_write.specs.Writing.{Writes}
 use Rattle.law_write.proofs.WriteCounts.{hit_other, mappings-written}
 use Rattle.law_write.proofs.WriteValid.{rows_kept}
-use Rattle.dn_table_changes.proofs.Mappings.{near_stays}
+use Rattle.law_table_on_disk.proofs.Mappings.{near_stays}
 use Rattle.law_table.proofs.Rows.{row_found, none_or_some}
 use Rattle.dn_size_changes.specs.Cutting.{last_page, cut_disk, MayRefill, IsNotRefill, MayCut, first_gone, dropped_places}
 use Rattle.dn_size_changes.specs.CutLaws.{CutsPlaces}

@@ -10,8 +10,8 @@ use Rattle.law_table.specs.Changes.{recount, recounted}
 use Rattle.law_table.specs.Rows.{RecountsRows}
 use Rattle.law_table.proofs.Rows.{all_listed, distinct_same}
 use Rattle.law_table.proofs.Counted.{recounts_rows}
-use Rattle.dn_table_changes.specs.BalanceLaws.{IsBalanced, RecountsBalanced}
-use Rattle.dn_table_changes.proofs.Frame.{mappings_same}
+use Rattle.law_table_on_disk.specs.BalanceLaws.{IsBalanced, RecountsBalanced}
+use Rattle.law_table_on_disk.proofs.Frame.{mappings_same}
 use Rattle.fact_table.specs.Table.{HasRow}
 use Rattle.dn_volume.specs.declared.volume.Parts.{Parts}
 use Rattle.dn_volume.specs.Reclaims.{one_if}

@@ -14,7 +14,7 @@ use Rattle.dn_model.specs.Table.{Row}
 use Rattle.dn_model.specs.Disk.{Disk, maps}
 use Rattle.dn_model.specs.Counts.{total}
 use Rattle.law_table.specs.Changes.{with_table}
-use Rattle.dn_table_changes.proofs.Frame.{maps_same, named_same}
+use Rattle.law_table_on_disk.proofs.Frame.{maps_same, named_same}
 use Rattle.fact_table.specs.Table.{Table, IsTable}
 use Rattle.dn_volume.specs.declared.volume.InodeState.{InodeState}
 use Rattle.dn_volume.specs.declared.volume.Parts.{Parts}

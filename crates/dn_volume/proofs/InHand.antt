@@ -12,7 +12,7 @@ use Rattle.dn_model.specs.Disk.{Disk, Inode, maps, rows}
 use Rattle.dn_model.specs.Files.{byte_of}
 use Rattle.dn_model.specs.Valid.{IsValid}
 use Rattle.dn_model.specs.Own.{page_bytes}
-use Rattle.dn_table_changes.specs.BalanceLaws.{IsBalanced}
+use Rattle.law_table_on_disk.specs.BalanceLaws.{IsBalanced}
 use Rattle.law_table.proofs.Rows.{row_found}
 use Rattle.law_write.specs.Events.{IsReadPage}
 use Rattle.law_write.proofs.MappedPlaces.{maps-in_file}

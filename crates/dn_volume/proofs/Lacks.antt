@@ -23,7 +23,7 @@ use Rattle.law_write.proofs.MappedPlaces.{maps-in_file}
 use Rattle.law_unique.proofs.Counted.{counts_mappings}
 use Rattle.law_unique.proofs.Listings.{here, later, none_listed, cons_cases}
 use Rattle.law_table.proofs.Rows.{row_listed, some_or_none}
-use Rattle.dn_table_changes.specs.BalanceLaws.{IsBalanced}
+use Rattle.law_table_on_disk.specs.BalanceLaws.{IsBalanced}
 use Rattle.dn_volume.specs.declared.background.Sharing.{Sharing}
 use Rattle.dn_volume.specs.declared.background.SharingStep.{SharingStep}
 use Rattle.dn_volume.specs.declared.background.SharingStep.TheVariants.{Look, Remap, Settle}

@@ -10,8 +10,8 @@ use Rattle.dn_model.specs.Counts.{total, hit, mappings}
 use Rattle.dn_model.specs.Valid.{IsValid}
 use Rattle.law_write.proofs.Counting.{total-same}
 use Rattle.law_table.proofs.Rows.{same_test, other_test, distinct_same, row_found, none_or_some}
-use Rattle.dn_table_changes.specs.MappingLaws.{RemapsInode, places}
-use Rattle.dn_table_changes.proofs.Mappings.{inode_moves}
+use Rattle.law_table_on_disk.specs.MappingLaws.{RemapsInode, places}
+use Rattle.law_table_on_disk.proofs.Mappings.{inode_moves}
 use Rattle.dn_volume.specs.Planned.{slot_of, slot_of_row, row_slots}
 use Rattle.dn_volume.specs.Balance.{times}
 use Rattle.dn_volume.proofs.Raises.{times-append}

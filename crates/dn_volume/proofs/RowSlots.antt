@@ -7,7 +7,7 @@ use Rattle.dn_model.specs.Maps.{Mapping}
 use Rattle.dn_model.specs.Table.{Row, row_of}
 use Rattle.dn_model.specs.Disk.{Disk, maps, rows}
 use Rattle.law_table.proofs.Rows.{listed_here, listed_later}
-use Rattle.dn_table_changes.specs.BalanceLaws.{IsBalanced}
+use Rattle.law_table_on_disk.specs.BalanceLaws.{IsBalanced}
 use Rattle.fact_table.specs.Table.{IsAtSlot, HasRow}
 use Rattle.dn_volume.specs.declared.volume.Parts.{Parts}
 use Rattle.dn_volume.specs.Planned.{slot_of, slot_of_row, row_slots}

@@ -5,7 +5,7 @@ ghost use Rattle.dn_worked_changes.specs.Life.{FilesLive};
 
 use law_write::writes;
 use dn_name_changes::names;
-use dn_table_changes::counted;
+use law_table_on_disk::counted;
 use recovery::laws;
 
 /// On an empty disk a file is created, a text is written to it, another is written over it, and the file is removed:

@@ -23,7 +23,7 @@ use Rattle.law_write.proofs.Counting.{term-le}
 use Rattle.law_write.proofs.MappedPlaces.{maps-in_file}
 use Rattle.law_write.proofs.WriteValid.{rows_kept}
 use Rattle.law_table.proofs.Rows.{all_listed, row_found, none_or_some}
-use Rattle.dn_table_changes.specs.BalanceLaws.{IsBalanced}
+use Rattle.law_table_on_disk.specs.BalanceLaws.{IsBalanced}
 use Rattle.file_content.specs.Runs.{all_seen}
 use Rattle.std.proofs.Common.{◌^◌}
 use Rattle.std.specs.Option.{option_map}

@@ -37,7 +37,7 @@ use Rattle.law_write.proofs.WriteOwn.{own-written}
 use Rattle.law_write.proofs.WriteValid.{rows_kept}
 use Rattle.law_write.proofs.WrittenDisk.{written-writes, written-well}
 use Rattle.law_table.proofs.Rows.{all_listed, row_found, none_or_some}
-use Rattle.dn_table_changes.specs.BalanceLaws.{IsBalanced}
+use Rattle.law_table_on_disk.specs.BalanceLaws.{IsBalanced}
 use Rattle.file_content.specs.Content.{merged_byte}
 use Rattle.file_content.specs.Runs.{all_seen}
 use Rattle.dn_size_changes.specs.DropLaws.{Drops, dropped_from}

@@ -12,7 +12,7 @@ use Rattle.dn_model.specs.Table.{Row, row_of}
 use Rattle.dn_model.specs.Disk.{Disk, rows}
 use Rattle.law_write.specs.Events.{IsUnused}
 use Rattle.law_write.proofs.Counting.{total-change}
-use Rattle.dn_table_changes.specs.BalanceLaws.{IsBalanced}
+use Rattle.law_table_on_disk.specs.BalanceLaws.{IsBalanced}
 use Rattle.dn_name_changes.specs.NameChange.{NameChange as DiskChange, MayChange, names_changed}
 use Rattle.dn_name_changes.proofs.Changed.{same_geometry, same_rows}
 use Rattle.dn_name_changes.proofs.Kept.{mappings_same, free_kept, free_only, fresh_taken}

@@ -20,11 +20,11 @@ use Rattle.law_table.specs.Words.{IsTableWord, HoldsTable}
 use Rattle.law_table.specs.Rows.{RecountsRows}
 use Rattle.law_table.proofs.Rows.{row_listed, row_found, none_found, none_listed}
 use Rattle.law_table.proofs.Counted.{recounts_rows}
-use Rattle.dn_table_changes.specs.CountLaws.{MayRecount}
-use Rattle.dn_table_changes.specs.TableLaws.{IsNextDisk}
-use Rattle.dn_table_changes.proofs.Frame.{files_same, maps_same, free_kept, free_only, named_same}
-use Rattle.dn_table_changes.proofs.NextDisk.{table_said, standing_table, image_of_table}
-use Rattle.dn_table_changes.proofs.Recounted.{recount_one_word, recount_own}
+use Rattle.law_table_on_disk.specs.CountLaws.{MayRecount}
+use Rattle.law_table_on_disk.specs.TableLaws.{IsNextDisk}
+use Rattle.law_table_on_disk.proofs.Frame.{files_same, maps_same, free_kept, free_only, named_same}
+use Rattle.law_table_on_disk.proofs.NextDisk.{table_said, standing_table, image_of_table}
+use Rattle.law_table_on_disk.proofs.Recounted.{recount_one_word, recount_own}
 use Rattle.fact_table.specs.Table.{Table, IsTable, IsSettledTable, IsAtSlot}
 use Rattle.fact_counts.specs.Counted.{LeavesTables, SettlesTable}
 use Rattle.fact_counts.proofs.Counting.{row_small}

@@ -17,8 +17,8 @@ use Rattle.dn_model.specs.Disk.{Disk}
 use Rattle.dn_model.specs.Counts.{total}
 use Rattle.dn_model.specs.Own.{Print}
 use Rattle.law_table.specs.Changes.{recounted}
-use Rattle.dn_table_changes.specs.CountLaws.{MayRecount}
-use Rattle.dn_table_changes.proofs.Recounted.{recount_own}
+use Rattle.law_table_on_disk.specs.CountLaws.{MayRecount}
+use Rattle.law_table_on_disk.proofs.Recounted.{recount_own}
 use Rattle.fact_table.specs.Table.{Table, IsAtSlot, HasRow}
 use Rattle.fact_counts.specs.Counted.{LeavesTables, SettlesTable, SettlesOwn, count_changed}
 use Rattle.fact_counts.proofs.Counting.{row_kept, row_small}

@@ -8,8 +8,8 @@ use Rattle.dn_model.specs.Disk.{Disk}
 use Rattle.dn_model.specs.Own.{Print}
 use Rattle.dn_model.specs.declared.op.Op.{Op}
 use Rattle.law_table.proofs.Rows.{other_test}
-use Rattle.dn_table_changes.specs.CountLaws.{MayRecount}
-use Rattle.dn_table_changes.proofs.Balanced.{raise_balance}
+use Rattle.law_table_on_disk.specs.CountLaws.{MayRecount}
+use Rattle.law_table_on_disk.proofs.Balanced.{raise_balance}
 use Rattle.fact_table.specs.Table.{HasRow}
 use Rattle.fact_counts.specs.Standing.{HasRowWith}
 use Rattle.fact_counts.specs.Counted.{raised, MayRaise, LeavesTables, SettlesTable, SettlesOwn}

@@ -10,8 +10,8 @@ use Rattle.dn_model.specs.Table.{Row}
 use Rattle.dn_model.specs.Disk.{Disk, rows}
 use Rattle.law_write.specs.Events.{IsUnused}
 use Rattle.law_write.proofs.Counting.{total-change, term-le}
-use Rattle.dn_table_changes.specs.BalanceLaws.{RecountsBalanced}
-use Rattle.dn_table_changes.proofs.Balanced.{raise_balance}
+use Rattle.law_table_on_disk.specs.BalanceLaws.{RecountsBalanced}
+use Rattle.law_table_on_disk.proofs.Balanced.{raise_balance}
 use Rattle.fact_table.specs.Table.{HasRow}
 use Rattle.fact_counts.specs.Counted.{raised as raised_row, count_changed}
 use Rattle.dn_volume.specs.declared.flight.Flight.{Flight}

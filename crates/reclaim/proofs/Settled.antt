@@ -8,8 +8,8 @@ use Rattle.dn_model.specs.Table.{Row}
 use Rattle.dn_model.specs.Disk.{Disk}
 use Rattle.dn_model.specs.Counts.{total}
 use Rattle.law_table.proofs.Rows.{same_test, other_test}
-use Rattle.dn_table_changes.specs.BalanceLaws.{RecountsBalanced}
-use Rattle.dn_table_changes.proofs.Balanced.{settle_down_balance}
+use Rattle.law_table_on_disk.specs.BalanceLaws.{RecountsBalanced}
+use Rattle.law_table_on_disk.proofs.Balanced.{settle_down_balance}
 use Rattle.fact_table.specs.Table.{HasRow}
 use Rattle.fact_counts.specs.Counted.{down}
 use Rattle.dn_volume.specs.declared.flight.Flight.{Flight}

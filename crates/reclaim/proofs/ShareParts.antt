@@ -12,10 +12,10 @@ use Rattle.dn_model.specs.Own.{IsAlone, HasRow as PageHasRow}
 use Rattle.law_table.specs.Changes.{recount}
 use Rattle.law_table.proofs.Rows.{row_found, row_listed}
 use Rattle.law_table.proofs.Counted.{recounts_rows}
-use Rattle.dn_table_changes.specs.CountLaws.{MayRecount}
-use Rattle.dn_table_changes.specs.BalanceLaws.{RecountsBalanced}
-use Rattle.dn_table_changes.proofs.Balanced.{settle_up_balance}
-use Rattle.dn_table_changes.proofs.Frame.{maps_same}
+use Rattle.law_table_on_disk.specs.CountLaws.{MayRecount}
+use Rattle.law_table_on_disk.specs.BalanceLaws.{RecountsBalanced}
+use Rattle.law_table_on_disk.proofs.Balanced.{settle_up_balance}
+use Rattle.law_table_on_disk.proofs.Frame.{maps_same}
 use Rattle.fact_table.specs.Table.{IsAtSlot, HasRow}
 use Rattle.fact_counts.specs.Standing.{HasRowWith}
 use Rattle.fact_counts.specs.Counted.{up, MaySettleUp, count_changed}

@@ -13,7 +13,7 @@ use Rattle.dn_model.specs.Disk.{Disk, rows}
 use Rattle.dn_model.specs.Counts.{mappings, Exact}
 use Rattle.law_table.specs.Words.{IsTableWord}
 use Rattle.law_table.proofs.Rows.{all_listed, listed_at, at_listed}
-use Rattle.dn_table_changes.specs.CountLaws.{IsExact}
+use Rattle.law_table_on_disk.specs.CountLaws.{IsExact}
 use Rattle.fact_scan.specs.Seen.{as_row}
 use Rattle.fact_scan.specs.declared.row.Row.{Row as RowValue}
 use Rattle.fact_table.specs.Table.{Table}

@@ -14,8 +14,8 @@ use Rattle.law_write.proofs.WriteCounts.{place-le}
 use Rattle.law_table.specs.Changes.{with_table, recount}
 use Rattle.law_table.specs.Rows.{RecountsRows, TakesRow}
 use Rattle.law_table.proofs.Rows.{all_listed, row_listed, row_found, distinct_same}
-use Rattle.dn_table_changes.proofs.Frame.{mappings_same}
-use Rattle.dn_table_changes.proofs.TableOwn.{own_kept}
+use Rattle.law_table_on_disk.proofs.Frame.{mappings_same}
+use Rattle.law_table_on_disk.proofs.TableOwn.{own_kept}
 use Rattle.fact_calls.specs.Made.{IsSameBut}
 use Rattle.table_repair.specs.Settling.{SettlesFrom, with_count, AreSameElsewhere}
 

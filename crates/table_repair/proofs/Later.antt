@@ -9,7 +9,7 @@ use Rattle.pm_device.proofs.Only.{stores_only-none}
 use Rattle.dn_model.specs.Disk.{Disk, DiskSays}
 use Rattle.dn_model.specs.Image.{StandsFor}
 use Rattle.dn_model.specs.Valid.{IsValid}
-use Rattle.dn_table_changes.proofs.OneWord.{unread_images}
+use Rattle.law_table_on_disk.proofs.OneWord.{unread_images}
 use Rattle.table_repair.specs.Later.{HasLater}
 
 module _ (R : Disk → Disk → Type 0) where

@@ -15,7 +15,7 @@ use Rattle.dn_model.specs.Valid.{IsValid}
 use Rattle.law_table.specs.Words.{IsTableWord}
 use Rattle.law_table.specs.Rows.{TakesRow}
 use Rattle.law_table.proofs.Rows.{distinct_same}
-use Rattle.dn_table_changes.specs.CountLaws.{IsExact}
+use Rattle.law_table_on_disk.specs.CountLaws.{IsExact}
 use Rattle.fact_table.specs.Table.{Table, IsTable}
 use Rattle.fact_counts.specs.Standing.{HasRowWith}
 use Rattle.fact_counts.specs.Counted.{counted, AnyRow, LeavesTables, MakesTable, SettlesTable}

@@ -12,7 +12,7 @@ use Rattle.dn_model.specs.Counts.{mappings, Exact}
 use Rattle.dn_model.specs.Valid.{IsValid}
 use Rattle.law_table.specs.Words.{IsTableWord}
 use Rattle.law_table.proofs.Rows.{all_listed}
-use Rattle.dn_table_changes.specs.CountLaws.{IsExact}
+use Rattle.law_table_on_disk.specs.CountLaws.{IsExact}
 use Rattle.std.proofs.lemmas.List.Elements.{All-contains}
 use Rattle.fact_table.specs.Table.{Table, IsTable}
 use Rattle.fact_table.proofs.Tables.{pointer_read}

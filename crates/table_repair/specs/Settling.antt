@@ -8,7 +8,7 @@ use Rattle.dn_model.specs.Disk.{Disk, DiskSays, rows}
 use Rattle.dn_model.specs.Counts.{mappings, Exact}
 use Rattle.dn_model.specs.Valid.{IsValid}
 use Rattle.dn_model.specs.Own.{Print, IsOwn}
-use Rattle.dn_table_changes.specs.CountLaws.{IsExact}
+use Rattle.law_table_on_disk.specs.CountLaws.{IsExact}
 use Rattle.fact_scan.specs.Seen.{as_row}
 use Rattle.fact_scan.specs.declared.row.Row.{Row as RowValue}
 use Rattle.fact_table.specs.Table.{Table, IsTable}

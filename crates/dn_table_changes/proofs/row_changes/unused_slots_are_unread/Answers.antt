@@ -1,8 +1,0 @@
-use Rattle.dn_table_changes.proofs.UnusedSlots.{indirect_unread, closed_unread}
-use Rattle.dn_table_changes.proofs.row_changes.unused_slots_are_unread.Goals as goal
-
-pub returns-clause-indirect : goal.returns-clause-indirect
-returns-clause-indirect c = indirect_unread
-
-pub returns-clause-direct : goal.returns-clause-direct
-returns-clause-direct c = closed_unread
