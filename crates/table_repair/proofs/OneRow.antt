@@ -24,8 +24,8 @@ use Rattle.fact_calls.specs.declared.call.TableCall.TheVariants.{Recount, Remove
 use Rattle.fact_calls.specs.Follows.{HasRowAt, CountsRow as CountsOne, RemovesRow, Follows}
 use Rattle.fact_calls.specs.Made.{IsSameBut, MayCall}
 use Rattle.fact_calls.proofs.Called.{zero_may, zero_images, zero_made, counted_leaves, counted_makes}
-use Rattle.dn_call_changes.specs.Calls.{HasRows, IsOnDisk, MayMakeOn}
-use Rattle.dn_call_changes.proofs.Disks.{call_images, call_made}
+use Rattle.law_table_calls.specs.Calls.{HasRows, IsOnDisk, MayMakeOn}
+use Rattle.law_table_calls.proofs.Disks.{call_images, call_made}
 use Rattle.table_repair.specs.Later.{HasLater}
 use Rattle.table_repair.specs.Settling.{SettlesFrom, HasSettling, StandsWith, IsRowToSettle, HasRowToSettle, RowIsCounted, RowIsSettled, with_count, AreSameElsewhere, LeavesRow, CountsRow, SettlesRow}
 use Rattle.table_repair.proofs.Later.{leaves_none, leaves_then}

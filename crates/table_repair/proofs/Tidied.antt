@@ -22,8 +22,8 @@ use Rattle.fact_calls.specs.Follows.{Follows}
 use Rattle.fact_calls.specs.Made.{IsSameBut, MayCall}
 use Rattle.fact_calls.proofs.Called.{clear_images, clear_made}
 use Rattle.fact_calls.proofs.Words.{stale_in}
-use Rattle.dn_call_changes.specs.Calls.{HasRows, IsOnDisk}
-use Rattle.dn_call_changes.proofs.Disks.{call_images, call_made}
+use Rattle.law_table_calls.specs.Calls.{HasRows, IsOnDisk}
+use Rattle.law_table_calls.proofs.Disks.{call_images, call_made}
 use Rattle.table_repair.specs.Settling.{SettlesFrom, HasSettling, StandsWith, CountsAreSettled, TableIsSettled}
 use Rattle.table_repair.proofs.Later.{leaves_then}
 use Rattle.table_repair.proofs.Changes.{settles_then, settles_rows, same_mappings}

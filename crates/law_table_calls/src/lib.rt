@@ -3,7 +3,7 @@
 //! Each function states laws of all disks; it does nothing.
 #![tactic(auto)]
 
-ghost use Rattle.dn_call_changes.specs.Calls.{CallLeavesDisks, CallMakesDisk, CallsLeaveDisks, CallsMakeDisk};
+ghost use Rattle.law_table_calls.specs.Calls.{CallLeavesDisks, CallMakesDisk, CallsLeaveDisks, CallsMakeDisk};
 
 /// A call whose counts stay near the mappings, and whose new page is mapped: each image that a stop may leave on the way
 /// stands for a valid disk that differs in its table alone, with the rows of before or those of after. In the end the

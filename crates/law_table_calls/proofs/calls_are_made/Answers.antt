@@ -1,5 +1,5 @@
-use Rattle.dn_call_changes.proofs.Disks.{calls_images, calls_made}
-use Rattle.dn_call_changes.proofs.calls_are_made.Goals as goal
+use Rattle.law_table_calls.proofs.Disks.{calls_images, calls_made}
+use Rattle.law_table_calls.proofs.calls_are_made.Goals as goal
 
 pub returns-clause-images : goal.returns-clause-images
 returns-clause-images c = λ d t calls s u valid stands may on agree stores leaves. calls_images d valid s u stands t calls may on stores agree leaves

@@ -21,7 +21,7 @@ use Rattle.fact_rows.specs.Put.{new_row}
 use Rattle.fact_calls.specs.declared.call.TableCall.{TableCall}
 use Rattle.fact_calls.specs.declared.call.TableCall.TheVariants.{Insert, Raise, SettleUp, SettleDown, Recount, RemoveZero, ClearStale}
 use Rattle.fact_calls.specs.Follows.{HasRowAt, NoneAt, MayComeIn, MayMake, IsSlotFor, at_direct, at_indirect, InsertsRow, CountsRow, RemovesRow, Follows, After, none_made, one_more, Allows}
-use Rattle.dn_call_changes.specs.Calls.{MayMakeOn, AllowsOn}
+use Rattle.law_table_calls.specs.Calls.{MayMakeOn, AllowsOn}
 
 -- rows that fit the disk, and of which no two are at one slot
 pub record IsFitting (d : Disk) (rs : List Row) : Type 0 where

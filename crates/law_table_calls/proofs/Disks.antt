@@ -16,8 +16,8 @@ use Rattle.fact_calls.specs.declared.call.TableCall.{TableCall}
 use Rattle.fact_calls.specs.Follows.{MayMake, Follows, After, Allows}
 use Rattle.law_table.specs.Words.{IsTableWord}
 use Rattle.fact_calls.specs.Made.{IsSameBut, MayCall, HasCalled, HoldsRows, LeavesCall, MakesCall, MayCallAll, HasCalledSome, LeavesAll, MakesAll}
-use Rattle.dn_call_changes.specs.Calls.{MayMakeOn, AllowsOn, HasRows, IsOnDisk, LeavesDisksAfter}
-use Rattle.dn_call_changes.proofs.Fitting.{IsFitting, valid_fitting, call_fitting, after_fitting}
+use Rattle.law_table_calls.specs.Calls.{MayMakeOn, AllowsOn, HasRows, IsOnDisk, LeavesDisksAfter}
+use Rattle.law_table_calls.proofs.Fitting.{IsFitting, valid_fitting, call_fitting, after_fitting}
 
 module _ (d : Disk) (valid : IsValid d) (s u : State) (stands : Stands (DiskSays d) s) where
   table_stands : Stands (TableSays d) s
