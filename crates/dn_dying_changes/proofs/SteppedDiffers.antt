@@ -11,7 +11,7 @@ use Rattle.dn_model.specs.Disk.{Disk, Inode, Free, Dying, IsUsed, IsMapped, rows
 use Rattle.dn_model.proofs.Regions.{inode_word_low}
 use Rattle.law_write.specs.Events.{IsReadPage}
 use Rattle.law_write.proofs.Unread.{read_in_data}
-use Rattle.dn_name_changes.proofs.Places.{IsHigh, high_not_inode, data_high, chain_high, pointer_high, LogPlace, is_head, is_tail, is_high, log_place}
+use Rattle.law_names.proofs.Places.{IsHigh, high_not_inode, data_high, chain_high, pointer_high, LogPlace, is_head, is_tail, is_high, log_place}
 use Rattle.law_table_on_disk.specs.OneWord.{IsOneWord}
 use Rattle.dn_dying_changes.specs.Dying.{Step, Falls, Ends, use_after, step_word, step_value, stepped}
 use Rattle.dn_dying_changes.proofs.Stepped.{at_ino, at_other, same_geometry, same_rows}

@@ -24,10 +24,10 @@ use Rattle.law_write.proofs.WriteEvent.{length-left, stands_for_read}
 use Rattle.name_journal.specs.declared.change.Change.{Change}
 use Rattle.name_journal.specs.Changes.{address, AreChanges, IsNamed, NewValues}
 use Rattle.name_journal.specs.AllOrNone.{AllOrNone, IsAllDone, DiffersBy}
-use Rattle.dn_name_changes.specs.AllOrNoneLaws.{FreshWord, AreAllOrNone}
-use Rattle.dn_name_changes.specs.NameLaws.{StandsStill}
-use Rattle.dn_name_changes.proofs.Places.{IsHigh, high_not_inode, data_high, chain_high, pointer_high, LogPlace, is_head, is_tail, is_high, log_place}
-use Rattle.dn_name_changes.proofs.AllWords.{all_or_none_images, all_or_none_stands}
+use Rattle.law_names.specs.AllOrNoneLaws.{FreshWord, AreAllOrNone}
+use Rattle.law_names.specs.NameLaws.{StandsStill}
+use Rattle.law_names.proofs.Places.{IsHigh, high_not_inode, data_high, chain_high, pointer_high, LogPlace, is_head, is_tail, is_high, log_place}
+use Rattle.law_names.proofs.AllWords.{all_or_none_images, all_or_none_stands}
 use Rattle.dn_log_changes.specs.Relogged.{relogged, block_of, was_log, MayRelog, MovesLog, TellsDone, KeepsDone}
 use Rattle.dn_log_changes.specs.Replaced.{AreAlike, IsAlike, MayReplace, TwoPagesAreSpared, log_changes, BodySays, body_footer, body_slot, SwapsLog}
 use Rattle.dn_log_changes.proofs.Relogged.{log_here, same_geometry, above, maps_before, relogged_valid, relogged_says}

@@ -15,8 +15,8 @@ use Rattle.dn_model.specs.Valid.{IsLog, IsValid}
 use Rattle.law_write.specs.Events.{IsUnused}
 use Rattle.name_journal.specs.declared.change.Change.{Change}
 use Rattle.name_journal.specs.AllOrNone.{AllOrNone, IsAllDone}
-use Rattle.dn_name_changes.specs.AllOrNoneLaws.{FreshWord, AreAllOrNone}
-use Rattle.dn_name_changes.specs.NameLaws.{StandsStill}
+use Rattle.law_names.specs.AllOrNoneLaws.{FreshWord, AreAllOrNone}
+use Rattle.law_names.specs.NameLaws.{StandsStill}
 use Rattle.dn_log_changes.specs.Relogged.{relogged, IsSpared, MayRelog}
 
 -- on the same page, with the same flag, and left alone or not

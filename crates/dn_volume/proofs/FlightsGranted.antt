@@ -11,7 +11,7 @@ use Rattle.dn_model.specs.Apply.{IsGranted}
 use Rattle.dn_model.specs.History.{needed}
 use Rattle.dn_model.specs.declared.op.Op.{Op}
 use Rattle.dn_model.specs.declared.op.Op.TheVariants.{Create, Write, Read, Cut, Remove, Rename, Size, List as ListAll}
-use Rattle.dn_name_changes.specs.NameChange.{NameChange as DiskChange}
+use Rattle.law_names.specs.NameChange.{NameChange as DiskChange}
 use Rattle.dn_volume.specs.declared.flight.Flight.{Flight}
 use Rattle.dn_volume.specs.declared.flight.Change.{Change}
 use Rattle.dn_volume.specs.declared.flight.Change.TheVariants.{Data, Names}

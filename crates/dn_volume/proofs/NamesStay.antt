@@ -17,12 +17,12 @@ use Rattle.dn_model.specs.Valid.{IsValid}
 use Rattle.dn_model.specs.declared.op.Op.{Op}
 use Rattle.dn_model.specs.declared.op.Op.TheVariants.{Create, Write, Read, Cut, Remove, Rename, Size, List as ListAll}
 use Rattle.law_write.specs.Events.{IsUnused}
-use Rattle.dn_name_changes.specs.NameChange.{NameChange as DiskChange, Turn, Stays, Comes, Goes, FreshNames, in_root, in_inode, turn_words, turn_field, root_after}
+use Rattle.law_names.specs.NameChange.{NameChange as DiskChange, Turn, Stays, Comes, Goes, FreshNames, in_root, in_inode, turn_words, turn_field, root_after}
 use Rattle.dn_volume.specs.declared.flight.Flight.{Flight}
 use Rattle.dn_volume.specs.declared.flight.NameChange.{NameChange}
 use Rattle.dn_volume.specs.Parties.{taken_by, blocks_of}
 use Rattle.log_entry.specs.Spelling.{spelled}
-use Rattle.dn_name_changes.specs.Operations.{renaming}
+use Rattle.law_names.specs.Operations.{renaming}
 use Rattle.dn_volume.specs.PlannedNames.{PlansNames}
 use Rattle.dn_volume.specs.Flights.{IsNameFlight}
 use Rattle.dn_volume.specs.Rely.{KeepsRest, LeavesRest, IsWordOf}

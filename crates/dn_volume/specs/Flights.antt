@@ -11,7 +11,7 @@ use Rattle.dn_model.specs.Disk.{Disk, Live, Dying}
 use Rattle.dn_model.specs.Files.{bytes}
 use Rattle.dn_model.specs.History.{needed}
 use Rattle.law_write.specs.Runs.{IsChained, places_in, block_at}
-use Rattle.dn_name_changes.specs.NameChange.{NameChange as DiskChange, FreshNames, root_after, Turn, Stays, Comes, Goes}
+use Rattle.law_names.specs.NameChange.{NameChange as DiskChange, FreshNames, root_after, Turn, Stays, Comes, Goes}
 use Rattle.file_content.specs.Pages.{AreApart}
 use Rattle.file_content.specs.Runs.{all_seen}
 use Rattle.dn_volume.specs.declared.flight.Flight.{Flight}

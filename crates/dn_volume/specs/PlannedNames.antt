@@ -5,8 +5,8 @@ use Rattle.dn_model.specs.Disk.{Disk, Free}
 use Rattle.dn_model.specs.Files.{named}
 use Rattle.dn_model.specs.declared.op.Op.{Op}
 use Rattle.dn_model.specs.declared.op.Op.TheVariants.{Create, Write, Read, Cut, Remove, Rename, Size, List as ListAll}
-use Rattle.dn_name_changes.specs.NameChange.{NameChange as DiskChange}
-use Rattle.dn_name_changes.specs.Operations.{creation, removal, renaming}
+use Rattle.law_names.specs.NameChange.{NameChange as DiskChange}
+use Rattle.law_names.specs.Operations.{creation, removal, renaming}
 use Rattle.dn_volume.specs.declared.flight.Flight.{Flight}
 
 -- the inode that a name leads to, if it leads anywhere

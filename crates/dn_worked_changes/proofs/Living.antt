@@ -27,10 +27,10 @@ use Rattle.law_write.specs.WithLog.{grown_log}
 use Rattle.law_write.proofs.WithLog.{with_log-log, with_log-other, with_log-word}
 use Rattle.law_write.proofs.WriteValid.{rows_kept}
 use Rattle.law_table.proofs.Rows.{some_or_none, listed_cases}
-use Rattle.dn_name_changes.specs.NameChange.{NameChange, MayChange, ChangesNames}
-use Rattle.dn_name_changes.specs.Keeping.{KeepsData}
-use Rattle.dn_name_changes.specs.Operations.{creation, removal, MayCreate, MayRemove}
-use Rattle.dn_name_changes.proofs.Links.{with_name-here}
+use Rattle.law_names.specs.NameChange.{NameChange, MayChange, ChangesNames}
+use Rattle.law_names.specs.Keeping.{KeepsData}
+use Rattle.law_names.specs.Operations.{creation, removal, MayCreate, MayRemove}
+use Rattle.law_names.proofs.Links.{with_name-here}
 use Rattle.dn_model.specs.Empty.{empty_inode, empty_disk}
 use Rattle.recovery.proofs.EmptyDisk.{count-none, unread}
 use Rattle.dn_worked_changes.specs.Life.{Life, IsLife, Lives, HoldsBytes, first_text, second_text, first_file, on_page, empty, created, appended, overwritten, removed, pages_of_life}

@@ -13,7 +13,7 @@ use Rattle.dn_model.specs.declared.op.Op.{Op}
 use Rattle.dn_model.specs.declared.op.Op.TheVariants.{Create, Write, Remove}
 use Rattle.law_write.specs.Runs.{Run}
 use Rattle.law_write.specs.MayWrite.{written_disk}
-use Rattle.dn_name_changes.specs.Operations.{created_disk, unnamed_disk}
+use Rattle.law_names.specs.Operations.{created_disk, unnamed_disk}
 use Rattle.dn_model.specs.Empty.{empty_disk}
 
 -- The file's name and inode, the texts that are written at its start, the pages that are taken, and the words that pages

@@ -4,7 +4,7 @@
 ghost use Rattle.dn_worked_changes.specs.Life.{FilesLive};
 
 use law_write::writes;
-use dn_name_changes::names;
+use law_names::names;
 use law_table_on_disk::counted;
 use recovery::laws;
 

@@ -10,13 +10,13 @@ use Rattle.dn_model.specs.Table.{Row}
 use Rattle.dn_model.specs.Disk.{Disk}
 use Rattle.dn_model.specs.Files.{bytes}
 use Rattle.dn_model.specs.Own.{Print, page_bytes}
-use Rattle.dn_name_changes.specs.NameChange.{NameChange as DiskChange, MayChange, name_changes, names_changed}
-use Rattle.dn_name_changes.specs.Operations.{creation}
-use Rattle.dn_name_changes.proofs.Changed.{same_rows}
-use Rattle.dn_name_changes.proofs.ChangedOwn.{live_was, own_kept}
-use Rattle.dn_name_changes.proofs.Commits.{names_all_or_none, names_suffice}
-use Rattle.dn_name_changes.proofs.AllWords.{all_or_none_images}
-use Rattle.dn_name_changes.proofs.OperatedFiles.{files_created}
+use Rattle.law_names.specs.NameChange.{NameChange as DiskChange, MayChange, name_changes, names_changed}
+use Rattle.law_names.specs.Operations.{creation}
+use Rattle.law_names.proofs.Changed.{same_rows}
+use Rattle.law_names.proofs.ChangedOwn.{live_was, own_kept}
+use Rattle.law_names.proofs.Commits.{names_all_or_none, names_suffice}
+use Rattle.law_names.proofs.AllWords.{all_or_none_images}
+use Rattle.law_names.proofs.OperatedFiles.{files_created}
 use Rattle.dn_volume.specs.declared.volume.Parts.{Parts}
 use Rattle.dn_volume.specs.Flights.{left_by}
 use Rattle.dn_volume.specs.Accounts.{AccountsFor}

@@ -21,7 +21,7 @@ use Rattle.dn_model.specs.History.{needed, name_slots}
 use Rattle.law_write.specs.Events.{IsUnused}
 use Rattle.law_write.proofs.Counting.{total-change}
 use Rattle.law_unique.proofs.Listings.{none_listed}
-use Rattle.dn_name_changes.specs.Operations.{creation}
+use Rattle.law_names.specs.Operations.{creation}
 use Rattle.dn_volume.specs.declared.flight.Flight.{Flight}
 use Rattle.dn_volume.specs.declared.flight.Change.{Change}
 use Rattle.dn_volume.specs.declared.flight.Change.TheVariants.{Data, Names}

@@ -26,15 +26,15 @@ use Rattle.dn_model.specs.Counts.{total}
 use Rattle.dn_model.specs.Files.{named}
 use Rattle.law_write.specs.Events.{IsUnused}
 use Rattle.law_write.proofs.Counting.{total-same}
-use Rattle.dn_name_changes.specs.NameChange.{NameChange as DiskChange, MayChange, IsSpared, FreshNames, name_changes, names_changed}
-use Rattle.dn_name_changes.specs.Operations.{MayCreate, creation, with_name}
-use Rattle.dn_name_changes.proofs.Changed.{at_root, at_ino, at_other, same_geometry, same_word, Where, where_is, is_root, is_here, elsewhere}
-use Rattle.dn_name_changes.proofs.Links.{names_eq, with_name-here, with_name-other}
-use Rattle.dn_name_changes.proofs.Kept.{maps_same, free_kept}
-use Rattle.dn_name_changes.proofs.ChangedValid.{changed_valid}
-use Rattle.dn_name_changes.proofs.Operating.{may_create, named_created}
-use Rattle.dn_name_changes.proofs.Commits.{names_all_or_none, names_suffice}
-use Rattle.dn_name_changes.proofs.AllWords.{all_or_none_stands}
+use Rattle.law_names.specs.NameChange.{NameChange as DiskChange, MayChange, IsSpared, FreshNames, name_changes, names_changed}
+use Rattle.law_names.specs.Operations.{MayCreate, creation, with_name}
+use Rattle.law_names.proofs.Changed.{at_root, at_ino, at_other, same_geometry, same_word, Where, where_is, is_root, is_here, elsewhere}
+use Rattle.law_names.proofs.Links.{names_eq, with_name-here, with_name-other}
+use Rattle.law_names.proofs.Kept.{maps_same, free_kept}
+use Rattle.law_names.proofs.ChangedValid.{changed_valid}
+use Rattle.law_names.proofs.Operating.{may_create, named_created}
+use Rattle.law_names.proofs.Commits.{names_all_or_none, names_suffice}
+use Rattle.law_names.proofs.AllWords.{all_or_none_stands}
 use Rattle.name_journal.specs.Changes.{IsTouched, address}
 use Rattle.dn_volume.specs.declared.flight.Flight.{Flight}
 use Rattle.dn_volume.specs.declared.flight.NameChange.{NameChange}

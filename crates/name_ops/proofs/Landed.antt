@@ -13,10 +13,10 @@ use Rattle.dn_model.specs.Disk.{Disk, rows}
 use Rattle.law_write.specs.Events.{IsUnused}
 use Rattle.law_write.proofs.Counting.{total-change}
 use Rattle.law_table_on_disk.specs.BalanceLaws.{IsBalanced}
-use Rattle.dn_name_changes.specs.NameChange.{NameChange as DiskChange, MayChange, names_changed}
-use Rattle.dn_name_changes.proofs.Changed.{same_geometry, same_rows}
-use Rattle.dn_name_changes.proofs.Kept.{mappings_same, free_kept, free_only, fresh_taken}
-use Rattle.dn_name_changes.proofs.ChangedOwn.{live_was}
+use Rattle.law_names.specs.NameChange.{NameChange as DiskChange, MayChange, names_changed}
+use Rattle.law_names.proofs.Changed.{same_geometry, same_rows}
+use Rattle.law_names.proofs.Kept.{mappings_same, free_kept, free_only, fresh_taken}
+use Rattle.law_names.proofs.ChangedOwn.{live_was}
 use Rattle.file_content.specs.Pages.{AreApart}
 use Rattle.fact_table.specs.Table.{HasRow}
 use Rattle.dn_volume.specs.declared.background.Sharing.{Sharing}

@@ -13,9 +13,9 @@ use Rattle.dn_model.specs.Log.{count}
 use Rattle.dn_model.specs.Disk.{Disk, Free}
 use Rattle.dn_model.specs.declared.op.Op.TheVariants.{Create}
 use Rattle.law_write.specs.Events.{IsUnused}
-use Rattle.dn_name_changes.specs.NameChange.{NameChange as DiskChange, MayChange, IsSpared}
-use Rattle.dn_name_changes.specs.Operations.{MayCreate, creation}
-use Rattle.dn_name_changes.proofs.Operating.{may_create}
+use Rattle.law_names.specs.NameChange.{NameChange as DiskChange, MayChange, IsSpared}
+use Rattle.law_names.specs.Operations.{MayCreate, creation}
+use Rattle.law_names.proofs.Operating.{may_create}
 use Rattle.dn_volume.specs.declared.flight.Flight.{Flight}
 use Rattle.dn_volume.specs.declared.flight.Change.TheVariants.{Names}
 use Rattle.dn_volume.specs.declared.flight.NameChange.{NameChange}

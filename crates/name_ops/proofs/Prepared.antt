@@ -20,12 +20,12 @@ use Rattle.dn_model.specs.Growth.{Prepared, new_head, new_footer, new_slot}
 use Rattle.dn_model.specs.Disk.{Disk, IsUsed}
 use Rattle.dn_model.specs.Image.{StandsFor}
 use Rattle.dn_model.specs.Own.{Print}
-use Rattle.dn_name_changes.specs.NameChange.{NameChange as DiskChange, MayChange, FreshNames, root_after}
-use Rattle.dn_name_changes.specs.Operations.{creation}
-use Rattle.dn_name_changes.specs.NameLaws.{StandsStill}
-use Rattle.dn_name_changes.proofs.ChangedValid.{root_paged}
-use Rattle.dn_name_changes.proofs.Places.{prepared_place, high_not_inode}
-use Rattle.dn_name_changes.proofs.Commits.{root_stores, turn_stores, turn_ready, fresh_ready}
+use Rattle.law_names.specs.NameChange.{NameChange as DiskChange, MayChange, FreshNames, root_after}
+use Rattle.law_names.specs.Operations.{creation}
+use Rattle.law_names.specs.NameLaws.{StandsStill}
+use Rattle.law_names.proofs.ChangedValid.{root_paged}
+use Rattle.law_names.proofs.Places.{prepared_place, high_not_inode}
+use Rattle.law_names.proofs.Commits.{root_stores, turn_stores, turn_ready, fresh_ready}
 use Rattle.dn_volume.specs.declared.flight.Flight.{Flight}
 use Rattle.dn_volume.specs.declared.flight.Change.TheVariants.{Data, Names}
 use Rattle.dn_volume.specs.declared.flight.DataChange.{DataChange}

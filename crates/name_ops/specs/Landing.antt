@@ -14,8 +14,8 @@ use Rattle.dn_model.specs.declared.op.Op.{Op}
 use Rattle.dn_model.specs.declared.op.Op.TheVariants.{Create}
 use Rattle.dn_model.specs.declared.op.Reply.{Reply}
 use Rattle.dn_model.specs.declared.op.Reply.TheVariants.{Done}
-use Rattle.dn_name_changes.specs.NameChange.{name_changes, names_changed}
-use Rattle.dn_name_changes.specs.Operations.{creation, with_name}
+use Rattle.law_names.specs.NameChange.{name_changes, names_changed}
+use Rattle.law_names.specs.Operations.{creation, with_name}
 use Rattle.dn_volume.specs.declared.flight.Flight.{Flight}
 use Rattle.dn_volume.specs.declared.flight.Change.TheVariants.{Names}
 use Rattle.dn_volume.specs.declared.flight.NameChange.{NameChange}

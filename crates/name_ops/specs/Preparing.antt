@@ -8,8 +8,8 @@ use Rattle.dn_model.specs.Log.{count, tail_at}
 use Rattle.dn_model.specs.Disk.{Disk}
 use Rattle.dn_model.specs.Own.{Print}
 use Rattle.dn_model.specs.declared.op.Op.TheVariants.{Create}
-use Rattle.dn_name_changes.specs.NameChange.{NameChange as DiskChange, root_after}
-use Rattle.dn_name_changes.specs.Operations.{creation}
+use Rattle.law_names.specs.NameChange.{NameChange as DiskChange, root_after}
+use Rattle.law_names.specs.Operations.{creation}
 use Rattle.dn_volume.specs.declared.flight.Flight.{Flight}
 use Rattle.dn_volume.specs.declared.flight.Change.{Change}
 use Rattle.dn_volume.specs.declared.flight.Change.TheVariants.{Names}
