@@ -8,9 +8,9 @@ use Rattle.dn_model.specs.Table.{Row, row_of}
 use Rattle.dn_model.specs.Disk.{Disk, Inode, Use, Free, Live, Dying, IsUsed}
 use Rattle.dn_model.specs.Files.{named, named_after}
 use Rattle.dn_model.specs.Valid.{IsCut, IsLog, IsLinked, IsRow, AreApart, IsValid}
-use Rattle.dn_dying_changes.specs.Dying.{Step, Falls, Ends, use_after, stepped}
-use Rattle.dn_dying_changes.proofs.Stepped.{at_ino, at_other, same_geometry, same_chain, same_pointer, same_rows}
-use Rattle.dn_dying_changes.proofs.Dropped.{MayStep, was_used, file, below, mapped_only, mappings-le, log_page_only, free_kept}
+use Rattle.law_dying.specs.Dying.{Step, Falls, Ends, use_after, stepped}
+use Rattle.law_dying.proofs.Stepped.{at_ino, at_other, same_geometry, same_chain, same_pointer, same_rows}
+use Rattle.law_dying.proofs.Dropped.{MayStep, was_used, file, below, mapped_only, mappings-le, log_page_only, free_kept}
 
 module _ (d : Disk) (ino : ℕ) (step : Step) (may : MayStep d ino step) where
   abbrev new : Disk

@@ -5,7 +5,7 @@ use Rattle.dn_model.specs.Disk.{Disk}
 use Rattle.dn_model.specs.Own.{Print, IsOwn}
 use Rattle.law_table_on_disk.specs.OneWord.{IsOneWord}
 use Rattle.law_table_on_disk.specs.MappingLaws.{LowersCut}
-use Rattle.dn_dying_changes.specs.Dying.{Step, Falls, Ends, stepped, MayFall, MayEnd, IsStepped, KeepsLiving, DropsPlace, DropsLog}
+use Rattle.law_dying.specs.Dying.{Step, Falls, Ends, stepped, MayFall, MayEnd, IsStepped, KeepsLiving, DropsPlace, DropsLog}
 
 abbrev pub SteppedDisksAre : Type 0
 SteppedDisksAre = (d : Disk) (ino : ℕ) (step : Step) → IsStepped d ino step (stepped d ino step)

@@ -10,10 +10,10 @@ use Rattle.dn_model.specs.Disk.{Disk, Inode, Free, Live, Dying, maps, rows}
 use Rattle.dn_model.specs.Files.{bytes, byte_of, mapped_byte, named, files, IsSameFiles}
 use Rattle.dn_model.specs.Own.{Print, page_bytes, LivePlace, IsAlone, HasRow, IsOwn, Settled}
 use Rattle.law_write.proofs.WriteBytes.{length-bytes, byte_at}
-use Rattle.dn_dying_changes.specs.Dying.{Step, Falls, Ends, use_after, stepped, KeepsLiving}
-use Rattle.dn_dying_changes.proofs.Stepped.{at_ino, at_other, same_rows, same_word}
-use Rattle.dn_dying_changes.proofs.Dropped.{MayStep, below, above, maps_others, maps_only, mapped_only, log_page_only, free_kept}
-use Rattle.dn_dying_changes.proofs.SteppedValid.{named_same, nameless}
+use Rattle.law_dying.specs.Dying.{Step, Falls, Ends, use_after, stepped, KeepsLiving}
+use Rattle.law_dying.proofs.Stepped.{at_ino, at_other, same_rows, same_word}
+use Rattle.law_dying.proofs.Dropped.{MayStep, below, above, maps_others, maps_only, mapped_only, log_page_only, free_kept}
+use Rattle.law_dying.proofs.SteppedValid.{named_same, nameless}
 
 dying_live : (c : ℕ) → Dying c ≡ Live → ⊥
 dying_live c e = cc

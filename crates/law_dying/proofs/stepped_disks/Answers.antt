@@ -1,5 +1,5 @@
-use Rattle.dn_dying_changes.proofs.Stepped.{at_ino, at_other, same_geometry, same_chain, same_pointer, same_word}
-use Rattle.dn_dying_changes.proofs.stepped_disks.Goals as goal
+use Rattle.law_dying.proofs.Stepped.{at_ino, at_other, same_geometry, same_chain, same_pointer, same_word}
+use Rattle.law_dying.proofs.stepped_disks.Goals as goal
 
 pub returns : goal.returns
 returns c = λ d ino step. record {

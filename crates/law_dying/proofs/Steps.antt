@@ -19,9 +19,9 @@ use Rattle.law_table_on_disk.specs.MappingLaws.{LowersCut, UnmapsPlace, AddsMapp
 use Rattle.law_table_on_disk.proofs.Mappings.{counted_mapped, place_unmapped, blocks_tell, near_stays}
 use Rattle.law_table_on_disk.proofs.Remaps.{lowered_cut_unmaps}
 use Rattle.law_table.proofs.Rows.{all_listed, listed_here, listed_later, listed_cases, none_listed}
-use Rattle.dn_dying_changes.specs.Dying.{Falls, Ends, stepped, MayFall, MayEnd, DropsPlace, DropsLog}
-use Rattle.dn_dying_changes.proofs.Stepped.{at_ino, at_other, same_geometry, same_rows}
-use Rattle.dn_dying_changes.proofs.Dropped.{MayStep, below, above, to_new, log_page_only, log_page_other}
+use Rattle.law_dying.specs.Dying.{Falls, Ends, stepped, MayFall, MayEnd, DropsPlace, DropsLog}
+use Rattle.law_dying.proofs.Stepped.{at_ino, at_other, same_geometry, same_rows}
+use Rattle.law_dying.proofs.Dropped.{MayStep, below, above, to_new, log_page_only, log_page_other}
 
 test_below : (a b : ℕ) → a < b → nat_lt a b ≡ true
 test_below a b lt = grind (arith, nat_tests)

@@ -1,8 +1,8 @@
-use Rattle.dn_dying_changes.specs.Dying.{Falls}
-use Rattle.dn_dying_changes.proofs.SteppedDiffers.{stepped_one_word}
-use Rattle.dn_dying_changes.proofs.SteppedFiles.{living_kept, own_kept}
-use Rattle.dn_dying_changes.proofs.Steps.{fall_lowers, fall_steps, fall_drops}
-use Rattle.dn_dying_changes.proofs.cut_falls.Goals as goal
+use Rattle.law_dying.specs.Dying.{Falls}
+use Rattle.law_dying.proofs.SteppedDiffers.{stepped_one_word}
+use Rattle.law_dying.proofs.SteppedFiles.{living_kept, own_kept}
+use Rattle.law_dying.proofs.Steps.{fall_lowers, fall_steps, fall_drops}
+use Rattle.law_dying.proofs.cut_falls.Goals as goal
 
 pub returns-clause-one_word : goal.returns-clause-one_word
 returns-clause-one_word c = λ d ino cut may. stepped_one_word d ino (Falls cut) (fall_steps d ino cut may)

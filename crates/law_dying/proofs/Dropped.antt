@@ -9,8 +9,8 @@ use Rattle.dn_model.specs.Disk.{Disk, Inode, Live, Dying, IsUsed, IsMapped, maps
 use Rattle.dn_model.specs.Counts.{total, hit, mappings, IsLogPage, IsFree, Near}
 use Rattle.dn_model.specs.Valid.{IsCut, IsValid}
 use Rattle.law_write.proofs.Counting.{total-le}
-use Rattle.dn_dying_changes.specs.Dying.{Step, use_after, stepped}
-use Rattle.dn_dying_changes.proofs.Stepped.{at_ino, at_other, same_geometry}
+use Rattle.law_dying.specs.Dying.{Step, use_after, stepped}
+use Rattle.law_dying.proofs.Stepped.{at_ino, at_other, same_geometry}
 
 -- what both steps stand on
 pub record MayStep (d : Disk) (ino : ℕ) (step : Step) : Type 0 where

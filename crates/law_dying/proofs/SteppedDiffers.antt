@@ -13,10 +13,10 @@ use Rattle.law_write.specs.Events.{IsReadPage}
 use Rattle.law_write.proofs.Unread.{read_in_data}
 use Rattle.law_names.proofs.Places.{IsHigh, high_not_inode, data_high, chain_high, pointer_high, LogPlace, is_head, is_tail, is_high, log_place}
 use Rattle.law_table_on_disk.specs.OneWord.{IsOneWord}
-use Rattle.dn_dying_changes.specs.Dying.{Step, Falls, Ends, use_after, step_word, step_value, stepped}
-use Rattle.dn_dying_changes.proofs.Stepped.{at_ino, at_other, same_geometry, same_rows}
-use Rattle.dn_dying_changes.proofs.Dropped.{MayStep, was_used, below, mapped_only}
-use Rattle.dn_dying_changes.proofs.SteppedValid.{stepped_valid}
+use Rattle.law_dying.specs.Dying.{Step, Falls, Ends, use_after, step_word, step_value, stepped}
+use Rattle.law_dying.proofs.Stepped.{at_ino, at_other, same_geometry, same_rows}
+use Rattle.law_dying.proofs.Dropped.{MayStep, was_used, below, mapped_only}
+use Rattle.law_dying.proofs.SteppedValid.{stepped_valid}
 
 dying_one : (b c : ℕ) → Dying b ≡ Dying c → b ≡ c
 dying_one b c e = cc

@@ -3,7 +3,7 @@ use Rattle.std.proofs.Common.{◌≡◌, ◌≢◌, ℕ, Bool, true, false, refl
 use Rattle.std.specs.Prelude.{if◌then◌else◌, ◌==◌}
 use Rattle.std.proofs.lemmas.Bool.Decides.{nat_tests}
 use Rattle.dn_model.specs.Disk.{Disk, Inode, rows}
-use Rattle.dn_dying_changes.specs.Dying.{Step, use_after, stepped}
+use Rattle.law_dying.specs.Dying.{Step, use_after, stepped}
 
 itself : (a : ℕ) → (a == a) ≡ true
 itself a = grind (arith, nat_tests)

@@ -1,8 +1,8 @@
-use Rattle.dn_dying_changes.specs.Dying.{Ends}
-use Rattle.dn_dying_changes.proofs.SteppedDiffers.{stepped_one_word}
-use Rattle.dn_dying_changes.proofs.SteppedFiles.{living_kept, own_kept}
-use Rattle.dn_dying_changes.proofs.Steps.{end_steps, end_drops}
-use Rattle.dn_dying_changes.proofs.dying_inode_ends.Goals as goal
+use Rattle.law_dying.specs.Dying.{Ends}
+use Rattle.law_dying.proofs.SteppedDiffers.{stepped_one_word}
+use Rattle.law_dying.proofs.SteppedFiles.{living_kept, own_kept}
+use Rattle.law_dying.proofs.Steps.{end_steps, end_drops}
+use Rattle.law_dying.proofs.dying_inode_ends.Goals as goal
 
 pub returns-clause-one_word : goal.returns-clause-one_word
 returns-clause-one_word c = λ d ino may. stepped_one_word d ino Ends (end_steps d ino may)

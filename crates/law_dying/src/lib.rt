@@ -4,7 +4,7 @@
 //! Each function states laws of all disks; it does nothing.
 #![tactic(auto)]
 
-ghost use Rattle.dn_dying_changes.specs.DyingLaws.{SteppedDisksAre, FallIsOneWord, EndIsOneWord, FallKeepsLiving, EndKeepsLiving, FallStaysOwn, EndStaysOwn, FallLowersCut, FallDropsPlace, EndDropsLog};
+ghost use Rattle.law_dying.specs.DyingLaws.{SteppedDisksAre, FallIsOneWord, EndIsOneWord, FallKeepsLiving, EndKeepsLiving, FallStaysOwn, EndStaysOwn, FallLowersCut, FallDropsPlace, EndDropsLog};
 
 /// The parts of the disk are those of before, but for the inode's use.
 pub fn stepped_disks()
