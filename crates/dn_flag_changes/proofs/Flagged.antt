@@ -19,9 +19,9 @@ use Rattle.dn_model.proofs.Append.{log_word_in_data}
 use Rattle.law_write.proofs.Unread.{log_page_said}
 use Rattle.inode_log.proofs.Reflagged.{IsWordChange, place_within, reflagged_differs}
 use Rattle.law_table_on_disk.specs.OneWord.{IsOneWord}
-use Rattle.dn_log_changes.specs.Relogged.{relogged, was_free, MayRelog, MovesLog, TellsDone, KeepsDone}
-use Rattle.dn_log_changes.proofs.Relogged.{log_here, use_same, at_other, same_geometry, above, maps_here, maps_before, relogged_valid, relogged_says}
-use Rattle.dn_log_changes.proofs.KeptPlaces.{is_relog, keeps_data, moves_log}
+use Rattle.law_log_swap.specs.Relogged.{relogged, was_free, MayRelog, MovesLog, TellsDone, KeepsDone}
+use Rattle.law_log_swap.proofs.Relogged.{log_here, use_same, at_other, same_geometry, above, maps_here, maps_before, relogged_valid, relogged_says}
+use Rattle.law_log_swap.proofs.KeptPlaces.{is_relog, keeps_data, moves_log}
 use Rattle.dn_flag_changes.specs.FlagLaws.{MayReflag, KeepsPages}
 use Rattle.dn_flag_changes.proofs.Retagged.{IsRetag, retagged, keeps_places}
 

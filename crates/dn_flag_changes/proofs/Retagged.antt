@@ -15,7 +15,7 @@ use Rattle.dn_model.specs.Files.{named_after}
 use Rattle.dn_model.proofs.Append.{same_index}
 use Rattle.inode_log.specs.Reflags.{IsWrite, Reflags}
 use Rattle.law_write.proofs.Mapped.{mapped_after-append, placed_from-append}
-use Rattle.dn_log_changes.specs.Relogged.{block_of, KeepsPlaces}
+use Rattle.law_log_swap.specs.Relogged.{block_of, KeepsPlaces}
 
 -- slots of one log with one name are one slot
 pub one_slot : (g : Geometry) (log : Log) → IsPaged g log → (k l : ℕ) → k < count log → l < count log → slot_name log.pages k ≡ slot_name log.pages l → k ≡ l

@@ -16,9 +16,9 @@ use Rattle.dn_model.specs.Valid.{IsLog}
 use Rattle.inode_log.specs.Reflags.{with_flag, with_mask, flag_word, mask_word, Reflags}
 use Rattle.inode_log.proofs.Reflagged.{flag_changes, mask_changes, flag_keeps_log, mask_keeps_log}
 use Rattle.law_table_on_disk.specs.OneWord.{IsOneWord}
-use Rattle.dn_log_changes.specs.Relogged.{relogged}
-use Rattle.dn_log_changes.proofs.Relogged.{maps_before}
-use Rattle.dn_log_changes.proofs.KeptPlaces.{own_kept, settled_kept}
+use Rattle.law_log_swap.specs.Relogged.{relogged}
+use Rattle.law_log_swap.proofs.Relogged.{maps_before}
+use Rattle.law_log_swap.proofs.KeptPlaces.{own_kept, settled_kept}
 use Rattle.dn_flag_changes.specs.FlagLaws.{MayReflag, MoreBitsKeepAlone, MayFlag, MayMask, flagged, masked, IsDoneAt, KeepsAlone, KeepsPages}
 use Rattle.dn_flag_changes.proofs.Retagged.{IsRetag, retagged}
 use Rattle.dn_flag_changes.proofs.Flagged.{may_relog, now_maps, keeps_pages, tells_done, keeps_done, one_word}

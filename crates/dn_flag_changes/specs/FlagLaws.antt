@@ -14,7 +14,7 @@ use Rattle.dn_model.specs.Valid.{IsValid}
 use Rattle.inode_log.specs.Reflags.{with_flag, with_mask, flag_word, mask_word, Reflags, pages_written}
 use Rattle.law_table_on_disk.specs.OneWord.{IsOneWord}
 use Rattle.law_table_on_disk.specs.Keeping.{Same}
-use Rattle.dn_log_changes.specs.Relogged.{relogged, KeepsData}
+use Rattle.law_log_swap.specs.Relogged.{relogged, KeepsData}
 
 -- A Write of a live inode's log stands at this slot, and `log` is that log with this change of it.
 pub record MayReflag (d : Disk) (ino : ℕ) (change : LogItem → LogItem) (slot : ℕ) (log : Log) : Type 0 where

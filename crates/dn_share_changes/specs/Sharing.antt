@@ -19,7 +19,7 @@ use Rattle.dn_model.specs.Own.{Print, page_bytes, IsOwn}
 use Rattle.dn_model.specs.Image.{StandsFor}
 use Rattle.law_write.specs.Events.{IsUnused}
 use Rattle.law_write.specs.WithLog.{grown_log}
-use Rattle.dn_log_changes.specs.Relogged.{relogged}
+use Rattle.law_log_swap.specs.Relogged.{relogged}
 use Rattle.law_table_on_disk.specs.MappingLaws.{RemapsPlace, MovesMapping}
 use Rattle.law_table_on_disk.specs.BalanceLaws.{IsBalanced}
 

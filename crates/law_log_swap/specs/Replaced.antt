@@ -17,7 +17,7 @@ use Rattle.name_journal.specs.declared.change.Change.{Change}
 use Rattle.name_journal.specs.AllOrNone.{AllOrNone, IsAllDone}
 use Rattle.law_names.specs.AllOrNoneLaws.{FreshWord, AreAllOrNone}
 use Rattle.law_names.specs.NameLaws.{StandsStill}
-use Rattle.dn_log_changes.specs.Relogged.{relogged, IsSpared, MayRelog}
+use Rattle.law_log_swap.specs.Relogged.{relogged, IsSpared, MayRelog}
 
 -- on the same page, with the same flag, and left alone or not
 pub record IsAlike (m n : Mapping) : Type 0 where

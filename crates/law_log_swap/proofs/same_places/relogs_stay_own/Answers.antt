@@ -1,5 +1,5 @@
-use Rattle.dn_log_changes.proofs.KeptPlaces.{own_kept, settled_kept}
-use Rattle.dn_log_changes.proofs.same_places.relogs_stay_own.Goals as goal
+use Rattle.law_log_swap.proofs.KeptPlaces.{own_kept, settled_kept}
+use Rattle.law_log_swap.proofs.same_places.relogs_stay_own.Goals as goal
 
 pub returns-clause-own : goal.returns-clause-own
 returns-clause-own c = λ print d ino log may tells own. own_kept d ino log may print tells own

@@ -1,5 +1,5 @@
-use Rattle.dn_log_changes.proofs.ReplacedLog.{swaps_log, replaced_own, replaced_settled}
-use Rattle.dn_log_changes.proofs.replaced.replaced_logs_swap_pages.Goals as goal
+use Rattle.law_log_swap.proofs.ReplacedLog.{swaps_log, replaced_own, replaced_settled}
+use Rattle.law_log_swap.proofs.replaced.replaced_logs_swap_pages.Goals as goal
 
 pub returns-clause-pages : goal.returns-clause-pages
 returns-clause-pages c = swaps_log

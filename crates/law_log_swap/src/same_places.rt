@@ -1,7 +1,7 @@
 //! Laws of a live inode that gets another log with the same places.
 //!
 //! Each function states laws of all disks; it does nothing.
-ghost use Rattle.dn_log_changes.specs.RelogLaws.{RelogChangesParts, RelogStaysValid, RelogSays, RelogKeepsData, RelogMovesLog, RelogStaysOwn, RelogStaysSettled};
+ghost use Rattle.law_log_swap.specs.RelogLaws.{RelogChangesParts, RelogStaysValid, RelogSays, RelogKeepsData, RelogMovesLog, RelogStaysOwn, RelogStaysSettled};
 
 /// A valid disk stays valid: its parts are those of before, but for the log. It says what it said, and what the log
 /// says.

@@ -1,5 +1,5 @@
-use Rattle.dn_log_changes.proofs.ReplacedLog.{replaced_all_or_none, body_suffices, replaced_images, replaced_stands}
-use Rattle.dn_log_changes.proofs.replaced.log_is_replaced.Goals as goal
+use Rattle.law_log_swap.proofs.ReplacedLog.{replaced_all_or_none, body_suffices, replaced_images, replaced_stands}
+use Rattle.law_log_swap.proofs.replaced.log_is_replaced.Goals as goal
 
 pub returns-clause-decide : goal.returns-clause-decide
 returns-clause-decide c = replaced_all_or_none

@@ -1,7 +1,7 @@
 //! Laws of a log that is replaced by a shorter one with the same mappings.
 //!
 //! Each function states laws of all disks; it does nothing.
-ghost use Rattle.dn_log_changes.specs.Replaced.{TwoPagesAreSpared, ReplacedKeepsPlaces, BodyIsUnread, BodyStoresChangeNothing, ReplaceIsAllOrNone, BodySuffices, ReplaceLeavesOldOrNew, ReplaceStands, ReplaceSwapsLog, ReplaceStaysOwn, ReplaceStaysSettled};
+ghost use Rattle.law_log_swap.specs.Replaced.{TwoPagesAreSpared, ReplacedKeepsPlaces, BodyIsUnread, BodyStoresChangeNothing, ReplaceIsAllOrNone, BodySuffices, ReplaceLeavesOldOrNew, ReplaceStands, ReplaceSwapsLog, ReplaceStaysOwn, ReplaceStaysSettled};
 
 /// The new log keeps the places of the old one, so that files, mappings, rows and counts stay and the disk stays valid.
 /// A log of two pages leaves two pages free.

@@ -28,10 +28,10 @@ use Rattle.law_names.specs.AllOrNoneLaws.{FreshWord, AreAllOrNone}
 use Rattle.law_names.specs.NameLaws.{StandsStill}
 use Rattle.law_names.proofs.Places.{IsHigh, high_not_inode, data_high, chain_high, pointer_high, LogPlace, is_head, is_tail, is_high, log_place}
 use Rattle.law_names.proofs.AllWords.{all_or_none_images, all_or_none_stands}
-use Rattle.dn_log_changes.specs.Relogged.{relogged, block_of, was_log, MayRelog, MovesLog, TellsDone, KeepsDone}
-use Rattle.dn_log_changes.specs.Replaced.{AreAlike, IsAlike, MayReplace, TwoPagesAreSpared, log_changes, BodySays, body_footer, body_slot, SwapsLog}
-use Rattle.dn_log_changes.proofs.Relogged.{log_here, same_geometry, above, maps_before, relogged_valid, relogged_says}
-use Rattle.dn_log_changes.proofs.KeptPlaces.{is_relog, moves_log, own_kept, settled_kept}
+use Rattle.law_log_swap.specs.Relogged.{relogged, block_of, was_log, MayRelog, MovesLog, TellsDone, KeepsDone}
+use Rattle.law_log_swap.specs.Replaced.{AreAlike, IsAlike, MayReplace, TwoPagesAreSpared, log_changes, BodySays, body_footer, body_slot, SwapsLog}
+use Rattle.law_log_swap.proofs.Relogged.{log_here, same_geometry, above, maps_before, relogged_valid, relogged_says}
+use Rattle.law_log_swap.proofs.KeptPlaces.{is_relog, moves_log, own_kept, settled_kept}
 
 -- two pages of a log are left
 pub two_pages_spared : TwoPagesAreSpared

@@ -1,6 +1,6 @@
-use Rattle.dn_log_changes.proofs.Relogged.{log_here, relogs, at_other, same_word, relogged_valid, relogged_says}
-use Rattle.dn_log_changes.proofs.KeptPlaces.{is_relog}
-use Rattle.dn_log_changes.proofs.same_places.relogs_stay_valid.Goals as goal
+use Rattle.law_log_swap.proofs.Relogged.{log_here, relogs, at_other, same_word, relogged_valid, relogged_says}
+use Rattle.law_log_swap.proofs.KeptPlaces.{is_relog}
+use Rattle.law_log_swap.proofs.same_places.relogs_stay_valid.Goals as goal
 
 pub returns-clause-parts : goal.returns-clause-parts
 returns-clause-parts c = λ d ino log. record {

@@ -16,7 +16,7 @@ use Rattle.law_write.specs.Events.{Relogs, IsReadPage, IsUnused}
 use Rattle.law_write.proofs.Unread.{unused_unread}
 use Rattle.law_write.proofs.WithLog.{with_log-inode, with_log-log, with_log-other, with_log-relogs}
 use Rattle.law_table.proofs.Rows.{none_or_some}
-use Rattle.dn_log_changes.specs.Relogged.{relogged}
+use Rattle.law_log_swap.specs.Relogged.{relogged}
 
 module _ (d : Disk) (ino : ℕ) (log : Log) where
   abbrev after : Disk

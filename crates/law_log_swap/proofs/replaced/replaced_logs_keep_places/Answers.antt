@@ -1,5 +1,5 @@
-use Rattle.dn_log_changes.proofs.ReplacedLog.{may_relog, two_pages_spared}
-use Rattle.dn_log_changes.proofs.replaced.replaced_logs_keep_places.Goals as goal
+use Rattle.law_log_swap.proofs.ReplacedLog.{may_relog, two_pages_spared}
+use Rattle.law_log_swap.proofs.replaced.replaced_logs_keep_places.Goals as goal
 
 pub returns-clause-places : goal.returns-clause-places
 returns-clause-places c = may_relog

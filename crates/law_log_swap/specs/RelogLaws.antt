@@ -4,7 +4,7 @@ use Rattle.dn_model.specs.Log.{Log, LogSays}
 use Rattle.dn_model.specs.Disk.{Disk, DiskSays}
 use Rattle.dn_model.specs.Valid.{IsValid}
 use Rattle.dn_model.specs.Own.{Print, IsOwn, Settled}
-use Rattle.dn_log_changes.specs.Relogged.{relogged, MayRelog, IsRelogged, KeepsData, MovesLog, TellsDone, KeepsDone}
+use Rattle.law_log_swap.specs.Relogged.{relogged, MayRelog, IsRelogged, KeepsData, MovesLog, TellsDone, KeepsDone}
 
 abbrev pub RelogChangesParts : Type 0
 RelogChangesParts = (d : Disk) (ino : ℕ) (log : Log) → IsRelogged d ino log (relogged d ino log)

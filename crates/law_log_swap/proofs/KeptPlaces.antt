@@ -22,8 +22,8 @@ use Rattle.law_write.proofs.MappedPlaces.{maps-in_file}
 use Rattle.law_write.proofs.WriteBytes.{length-bytes, byte_at}
 use Rattle.law_table_on_disk.proofs.Mappings.{blocks_tell, counted_mapped, near_stays}
 use Rattle.law_table.proofs.Rows.{all_listed, listed_here, listed_later, listed_cases}
-use Rattle.dn_log_changes.specs.Relogged.{relogged, block_of, IsSpared, was_free, was_log, MayRelog, KeepsData, MovesLog, TellsDone, KeepsDone}
-use Rattle.dn_log_changes.proofs.Relogged.{IsRelog, at_other, log_here, use_same, same_geometry, same_word, same_rows, below, above, maps_here, maps_before, maps_others}
+use Rattle.law_log_swap.specs.Relogged.{relogged, block_of, IsSpared, was_free, was_log, MayRelog, KeepsData, MovesLog, TellsDone, KeepsDone}
+use Rattle.law_log_swap.proofs.Relogged.{IsRelog, at_other, log_here, use_same, same_geometry, same_word, same_rows, below, above, maps_here, maps_before, maps_others}
 
 -- a mapping on the same page
 same_block : (m : Mapping) (o : Option Mapping) → block_of (Some m) ≡ block_of o → (n : Mapping) × (o ≡ Some n) × (n.block ≡ m.block)
