@@ -1,5 +1,5 @@
-use Rattle.dn_flag_changes.proofs.Tags.{mask_one_word, mask_maps, mask_pages, mask_own, mask_settled}
-use Rattle.dn_flag_changes.proofs.mask_is_set.Goals as goal
+use Rattle.law_flags.proofs.Tags.{mask_one_word, mask_maps, mask_pages, mask_own, mask_settled}
+use Rattle.law_flags.proofs.mask_is_set.Goals as goal
 
 pub returns-clause-one_word : goal.returns-clause-one_word
 returns-clause-one_word c = mask_one_word

@@ -22,8 +22,8 @@ use Rattle.law_table_on_disk.specs.OneWord.{IsOneWord}
 use Rattle.law_log_swap.specs.Relogged.{relogged, was_free, MayRelog, MovesLog, TellsDone, KeepsDone}
 use Rattle.law_log_swap.proofs.Relogged.{log_here, use_same, at_other, same_geometry, above, maps_here, maps_before, relogged_valid, relogged_says}
 use Rattle.law_log_swap.proofs.KeptPlaces.{is_relog, keeps_data, moves_log}
-use Rattle.dn_flag_changes.specs.FlagLaws.{MayReflag, KeepsPages}
-use Rattle.dn_flag_changes.proofs.Retagged.{IsRetag, retagged, keeps_places}
+use Rattle.law_flags.specs.FlagLaws.{MayReflag, KeepsPages}
+use Rattle.law_flags.proofs.Retagged.{IsRetag, retagged, keeps_places}
 
 -- a mapped option is some only of some
 map_some : (r : Mapping → Mapping) (o : Option Mapping) (m : Mapping) → option_map r o ≡ Some m → (n : Mapping) × (o ≡ Some n) × (m ≡ r n)

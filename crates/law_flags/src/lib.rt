@@ -3,7 +3,7 @@
 //! Each function states laws of all disks; it does nothing.
 #![tactic(auto)]
 
-ghost use Rattle.dn_flag_changes.specs.FlagLaws.{FlagIsOneWord, MaskIsOneWord, FlagChangesItsPlaces, MaskChangesItsPlaces, FlagKeepsPages, MaskKeepsPages, FlagStaysOwn, MaskStaysOwn, FlagStaysSettled, MaskStaysSettled, PlacesTellItem, MoreBitsKeepAlone};
+ghost use Rattle.law_flags.specs.FlagLaws.{FlagIsOneWord, MaskIsOneWord, FlagChangesItsPlaces, MaskChangesItsPlaces, FlagKeepsPages, MaskKeepsPages, FlagStaysOwn, MaskStaysOwn, FlagStaysSettled, MaskStaysSettled, PlacesTellItem, MoreBitsKeepAlone};
 
 /// An item gets another flag: the flag's word decides between two valid disks. The places that the item maps have the
 /// new flag; files, mappings, rows, log pages and free pages stay. What every image of this program has stays where

@@ -1,5 +1,5 @@
-use Rattle.dn_flag_changes.proofs.Tags.{flag_one_word, flag_maps, flag_pages, flag_own, flag_settled}
-use Rattle.dn_flag_changes.proofs.flag_is_set.Goals as goal
+use Rattle.law_flags.proofs.Tags.{flag_one_word, flag_maps, flag_pages, flag_own, flag_settled}
+use Rattle.law_flags.proofs.flag_is_set.Goals as goal
 
 pub returns-clause-one_word : goal.returns-clause-one_word
 returns-clause-one_word c = flag_one_word

@@ -19,9 +19,9 @@ use Rattle.law_table_on_disk.specs.OneWord.{IsOneWord}
 use Rattle.law_log_swap.specs.Relogged.{relogged}
 use Rattle.law_log_swap.proofs.Relogged.{maps_before}
 use Rattle.law_log_swap.proofs.KeptPlaces.{own_kept, settled_kept}
-use Rattle.dn_flag_changes.specs.FlagLaws.{MayReflag, MoreBitsKeepAlone, MayFlag, MayMask, flagged, masked, IsDoneAt, KeepsAlone, KeepsPages}
-use Rattle.dn_flag_changes.proofs.Retagged.{IsRetag, retagged}
-use Rattle.dn_flag_changes.proofs.Flagged.{may_relog, now_maps, keeps_pages, tells_done, keeps_done, one_word}
+use Rattle.law_flags.specs.FlagLaws.{MayReflag, MoreBitsKeepAlone, MayFlag, MayMask, flagged, masked, IsDoneAt, KeepsAlone, KeepsPages}
+use Rattle.law_flags.proofs.Retagged.{IsRetag, retagged}
+use Rattle.law_flags.proofs.Flagged.{may_relog, now_maps, keeps_pages, tells_done, keeps_done, one_word}
 
 itself : (a : ℕ) → (a == a) ≡ true
 itself a = grind (arith, nat_tests)

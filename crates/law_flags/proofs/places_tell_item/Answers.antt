@@ -1,5 +1,5 @@
-use Rattle.dn_flag_changes.proofs.Tags.{places_tell, more_bits}
-use Rattle.dn_flag_changes.proofs.places_tell_item.Goals as goal
+use Rattle.law_flags.proofs.Tags.{places_tell, more_bits}
+use Rattle.law_flags.proofs.places_tell_item.Goals as goal
 
 pub returns-clause-tell : goal.returns-clause-tell
 returns-clause-tell c = places_tell
