@@ -8,8 +8,8 @@ use Rattle.dn_model.specs.Counts.{total, hit, mappings}
 use Rattle.dn_model.specs.Valid.{IsValid}
 use Rattle.law_write.proofs.Counting.{total-same, total-change}
 use Rattle.law_table.proofs.Rows.{row_found, none_or_some}
-use Rattle.dn_size_changes.specs.DropLaws.{dropped_from}
-use Rattle.dn_size_changes.proofs.Dropped.{drop_mappings}
+use Rattle.law_cut.specs.DropLaws.{dropped_from}
+use Rattle.law_cut.proofs.Dropped.{drop_mappings}
 use Rattle.dn_volume.specs.declared.flight.Flight.{Flight}
 use Rattle.dn_volume.specs.declared.flight.DataChange.{DataChange}
 use Rattle.dn_volume.specs.declared.volume.Parts.{Parts}

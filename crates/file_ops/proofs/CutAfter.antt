@@ -38,12 +38,12 @@ use Rattle.dn_model.specs.Apply.{after_op, IsGranted}
 use Rattle.law_write.proofs.WithLog.{with_log-word}
 use Rattle.dn_volume.specs.Planned.{new_byte}
 use Rattle.file_commit.specs.Append.{IsReadyToAppend}
-use Rattle.dn_size_changes.specs.Cutting.{Refills, last_page, refill_runs, cut_items, cut_disk, MayRefill, MayCut, IsLeft, IsNotRefill}
-use Rattle.dn_size_changes.specs.CutLaws.{CutsPlaces}
-use Rattle.dn_size_changes.specs.DropLaws.{Drops, dropped_from}
-use Rattle.dn_size_changes.proofs.Cutting.{cut-writes, cut-well}
-use Rattle.dn_size_changes.proofs.CutBytes.{cuts_places, cut_files, cut_own}
-use Rattle.dn_size_changes.proofs.Dropped.{drop_mappings}
+use Rattle.law_cut.specs.Cutting.{Refills, last_page, refill_runs, cut_items, cut_disk, MayRefill, MayCut, IsLeft, IsNotRefill}
+use Rattle.law_cut.specs.CutLaws.{CutsPlaces}
+use Rattle.law_cut.specs.DropLaws.{Drops, dropped_from}
+use Rattle.law_cut.proofs.Cutting.{cut-writes, cut-well}
+use Rattle.law_cut.proofs.CutBytes.{cuts_places, cut_files, cut_own}
+use Rattle.law_cut.proofs.Dropped.{drop_mappings}
 use Rattle.dn_volume.specs.declared.flight.Flight.{Flight}
 use Rattle.dn_volume.specs.declared.flight.Change.TheVariants.{Data}
 use Rattle.dn_volume.specs.declared.flight.DataChange.{DataChange}

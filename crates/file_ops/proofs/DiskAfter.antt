@@ -40,8 +40,8 @@ use Rattle.law_table.proofs.Rows.{all_listed, row_found, none_or_some}
 use Rattle.law_table_on_disk.specs.BalanceLaws.{IsBalanced}
 use Rattle.file_content.specs.Content.{merged_byte}
 use Rattle.file_content.specs.Runs.{all_seen}
-use Rattle.dn_size_changes.specs.DropLaws.{Drops, dropped_from}
-use Rattle.dn_size_changes.proofs.Dropped.{drop_written, drop_mappings}
+use Rattle.law_cut.specs.DropLaws.{Drops, dropped_from}
+use Rattle.law_cut.proofs.Dropped.{drop_written, drop_mappings}
 use Rattle.dn_volume.specs.declared.flight.Flight.{Flight}
 use Rattle.dn_volume.specs.declared.flight.Change.TheVariants.{Data}
 use Rattle.dn_volume.specs.declared.flight.DataChange.{DataChange}

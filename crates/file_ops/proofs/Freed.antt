@@ -17,8 +17,8 @@ use Rattle.law_write.proofs.Unread.{read_in_data}
 use Rattle.law_write.proofs.WriteCounts.{hit_here, hit_other}
 use Rattle.law_write.proofs.WriteFree.{free-kept, fresh-not_free, free-no_block, block-not_free}
 use Rattle.law_write.proofs.WriteValid.{use_kept, rows_kept, not_mapped, log_page_cases}
-use Rattle.dn_size_changes.specs.DropLaws.{Drops, dropped_from}
-use Rattle.dn_size_changes.proofs.Dropped.{drop_mappings}
+use Rattle.law_cut.specs.DropLaws.{Drops, dropped_from}
+use Rattle.law_cut.proofs.Dropped.{drop_mappings}
 use Rattle.file_ops.specs.Ends.{IsFreed}
 
 hit_some : (page : ℕ) (m : Option Mapping) → 1 ≤ hit page m → (x : Mapping) × (m ≡ Some x) × (x.block ≡ page)

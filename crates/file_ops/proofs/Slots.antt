@@ -13,7 +13,7 @@ use Rattle.law_write.proofs.Mapped.{mapping-grown}
 use Rattle.law_write.proofs.MappedPlaces.{cut_some, maps-in_file}
 use Rattle.law_write.proofs.WriteCounts.{maps_old, maps_new}
 use Rattle.law_write.proofs.WriteValid.{not_mapped}
-use Rattle.dn_size_changes.specs.Cutting.{last_page, refill_runs, cut_items}
+use Rattle.law_cut.specs.Cutting.{last_page, refill_runs, cut_items}
 use Rattle.law_table.proofs.Rows.{listed_here, listed_later, listed_cases}
 
 -- a Write

@@ -11,7 +11,7 @@ use Rattle.dn_model.specs.Table.{row_of}
 use Rattle.dn_model.specs.Disk.{Disk, maps, rows}
 use Rattle.dn_model.specs.declared.op.Entry.{Entry}
 use Rattle.law_write.specs.Writing.{Writes, WritesWell}
-use Rattle.dn_size_changes.specs.DropLaws.{Drops}
+use Rattle.law_cut.specs.DropLaws.{Drops}
 use Rattle.dn_volume.specs.declared.flight.Flight.{Flight}
 use Rattle.dn_volume.specs.declared.flight.DataChange.{DataChange}
 use Rattle.dn_volume.specs.declared.volume.InodeState.{InodeState}

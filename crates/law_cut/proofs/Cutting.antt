@@ -21,7 +21,7 @@ use Rattle.law_write.proofs.RunItems.{runs-own, runs-other, runs-spelled, runs-s
 use Rattle.law_write.proofs.WithLog.{with_log-log, with_log-relogs, with_log-grown}
 use Rattle.law_write.proofs.WriteFree.{free-kept}
 use Rattle.law_write.proofs.WrittenDisk.{append-apart, append-in_data, near_without_rows}
-use Rattle.dn_size_changes.specs.Cutting.{last_page, refill_runs, cut_items, cut_disk, MayRefill, IsNotRefill, IsLeft, MayCut}
+use Rattle.law_cut.specs.Cutting.{last_page, refill_runs, cut_items, cut_disk, MayRefill, IsNotRefill, IsLeft, MayCut}
 
 pub refill_chained : (size : ℕ) (refill : Option ℕ) → IsChained (last_page size) (refill_runs size refill)
 refill_chained size None = tt

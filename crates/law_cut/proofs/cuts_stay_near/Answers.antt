@@ -1,5 +1,5 @@
-use Rattle.dn_size_changes.proofs.CutCounts.{mappings_drop, stays_near}
-use Rattle.dn_size_changes.proofs.cuts_stay_near.Goals as goal
+use Rattle.law_cut.proofs.CutCounts.{mappings_drop, stays_near}
+use Rattle.law_cut.proofs.cuts_stay_near.Goals as goal
 
 pub returns-clause-mappings : goal.returns-clause-mappings
 returns-clause-mappings c = mappings_drop

@@ -1,5 +1,5 @@
-use Rattle.dn_size_changes.proofs.Dropped.{writes_drop, writes_drop_mappings}
-use Rattle.dn_size_changes.proofs.writes_drop_mappings.Goals as goal
+use Rattle.law_cut.proofs.Dropped.{writes_drop, writes_drop_mappings}
+use Rattle.law_cut.proofs.writes_drop_mappings.Goals as goal
 
 pub returns-clause-places : goal.returns-clause-places
 returns-clause-places c = writes_drop

@@ -12,7 +12,7 @@ use Rattle.dn_model.specs.Own.{Print, IsOwn}
 use Rattle.dn_model.specs.declared.op.Op.TheVariants.{Cut}
 use Rattle.law_write.specs.Writing.{Writes, WritesWell, IsNewMapping}
 use Rattle.law_write.specs.Runs.{places_in, block_at}
-use Rattle.dn_size_changes.specs.Cutting.{cut_disk, refill_runs, last_page, MayCut, Refills, EndsInZeros, IsDropped, IsNotRefill, dropped_places}
+use Rattle.law_cut.specs.Cutting.{cut_disk, refill_runs, last_page, MayCut, Refills, EndsInZeros, IsDropped, IsNotRefill, dropped_places}
 
 -- The event of a cut is one of a write of no place, or of the last page: the laws of writes say that the disk stays
 -- valid, that the tail decides, and which words have to stand before.

@@ -36,9 +36,9 @@ use Rattle.law_write.proofs.WriteFree.{free-kept, fresh-not_free, block-not_free
 use Rattle.law_write.proofs.WriteValid.{use_kept, rows_kept, below_old, not_mapped, log_page_cases, named_same}
 use Rattle.law_write.proofs.Unread.{read_in_data}
 use Rattle.law_table.proofs.Rows.{row_found, all_listed}
-use Rattle.dn_size_changes.specs.Cutting.{last_page, refill_runs, cut_disk, MayRefill, MayCut, RefillsPage, Refills, EndsInZeros, GoesAway, past_end, refilled, IsDropped}
-use Rattle.dn_size_changes.specs.CutLaws.{CutsPlaces, Resizes, TakesAndDrops}
-use Rattle.dn_size_changes.proofs.Cutting.{refill_only, refill_inside, cut-writes, not_block}
+use Rattle.law_cut.specs.Cutting.{last_page, refill_runs, cut_disk, MayRefill, MayCut, RefillsPage, Refills, EndsInZeros, GoesAway, past_end, refilled, IsDropped}
+use Rattle.law_cut.specs.CutLaws.{CutsPlaces, Resizes, TakesAndDrops}
+use Rattle.law_cut.proofs.Cutting.{refill_only, refill_inside, cut-writes, not_block}
 
 map-same : (f g : ℕ → ℕ) (xs : List ℕ) → ((k : ℕ) → f k ≡ g k) → map f xs ≡ map g xs
 map-same f g [] same = refl

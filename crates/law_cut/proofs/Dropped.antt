@@ -9,7 +9,7 @@ use Rattle.law_write.specs.Writing.{Writes}
 use Rattle.law_write.proofs.Counting.{total-same, total-zero}
 use Rattle.law_write.proofs.MappedPlaces.{mapping-below, uncut}
 use Rattle.law_write.proofs.WriteCounts.{hit_other, own_or_other, maps_old, mappings-written}
-use Rattle.dn_size_changes.specs.DropLaws.{Drops, dropped_from, WritesDrop, WritesDropMappings}
+use Rattle.law_cut.specs.DropLaws.{Drops, dropped_from, WritesDrop, WritesDropMappings}
 
 pub total-add : (f : ℕ → ℕ) (a b : ℕ) → total (a + b) f ≡ total a f + total b (λ i. f (a + i))
 unfolding total

@@ -3,8 +3,8 @@
 //! Each function states laws of all disks; it does nothing.
 #![tactic(auto)]
 
-ghost use Rattle.dn_size_changes.specs.CutLaws.{CutsMakeWrites, CutsMakeWritesWithoutRows, CutsStayValid, CutsDropPlaces, CutsResize, CutsAreCuts, CutsStayOwn, CutsTakeAndDrop, CutsDropMappings, CutsStayNear};
-ghost use Rattle.dn_size_changes.specs.DropLaws.{WritesDrop, WritesDropMappings};
+ghost use Rattle.law_cut.specs.CutLaws.{CutsMakeWrites, CutsMakeWritesWithoutRows, CutsStayValid, CutsDropPlaces, CutsResize, CutsAreCuts, CutsStayOwn, CutsTakeAndDrop, CutsDropMappings, CutsStayNear};
+ghost use Rattle.law_cut.specs.DropLaws.{WritesDrop, WritesDropMappings};
 
 /// A cut is an event of a write of no place, or of the last kept page: a valid disk stays valid, the tail decides, and
 /// what has to stand before are the words past the tail and those of the page that is filled anew.

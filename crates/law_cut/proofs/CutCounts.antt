@@ -12,10 +12,10 @@ use Rattle.law_write.proofs.WriteCounts.{hit_other, mappings-written}
 use Rattle.law_write.proofs.WriteValid.{rows_kept}
 use Rattle.law_table_on_disk.proofs.Mappings.{near_stays}
 use Rattle.law_table.proofs.Rows.{row_found, none_or_some}
-use Rattle.dn_size_changes.specs.Cutting.{last_page, cut_disk, MayRefill, IsNotRefill, MayCut, first_gone, dropped_places}
-use Rattle.dn_size_changes.specs.CutLaws.{CutsPlaces}
-use Rattle.dn_size_changes.proofs.Cutting.{cut-writes}
-use Rattle.dn_size_changes.proofs.CutBytes.{cuts_places}
+use Rattle.law_cut.specs.Cutting.{last_page, cut_disk, MayRefill, IsNotRefill, MayCut, first_gone, dropped_places}
+use Rattle.law_cut.specs.CutLaws.{CutsPlaces}
+use Rattle.law_cut.proofs.Cutting.{cut-writes}
+use Rattle.law_cut.proofs.CutBytes.{cuts_places}
 
 total-split : (f g h : ℕ → ℕ) (n : ℕ) → ((j : ℕ) → j < n → f j ≡ g j + h j) → total n f ≡ total n g + total n h
 unfolding total

@@ -1,8 +1,8 @@
 use Rattle.std.proofs.Common.{refl}
 use Rattle.law_write.proofs.WriteValid.{written_valid}
-use Rattle.dn_size_changes.specs.Cutting.{cut_disk}
-use Rattle.dn_size_changes.proofs.Cutting.{cut-writes, cut-well, cut-near_without_rows}
-use Rattle.dn_size_changes.proofs.cuts_make_writes.Goals as goal
+use Rattle.law_cut.specs.Cutting.{cut_disk}
+use Rattle.law_cut.proofs.Cutting.{cut-writes, cut-well, cut-near_without_rows}
+use Rattle.law_cut.proofs.cuts_make_writes.Goals as goal
 
 pub returns-clause-with_rows : goal.returns-clause-with_rows
 returns-clause-with_rows c = λ d ino fresh size refill word may near. record {
