@@ -1,5 +1,5 @@
-use Rattle.dn_share_changes.proofs.Shared.{balance_kept, others_balanced}
-use Rattle.dn_share_changes.proofs.sharing_keeps_balance.Goals as goal
+use Rattle.law_share.proofs.Shared.{balance_kept, others_balanced}
+use Rattle.law_share.proofs.sharing_keeps_balance.Goals as goal
 
 pub returns-clause-row : goal.returns-clause-row
 returns-clause-row c = balance_kept

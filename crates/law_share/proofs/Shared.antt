@@ -45,7 +45,7 @@ use Rattle.law_table_on_disk.specs.BalanceLaws.{IsBalanced}
 use Rattle.law_table_on_disk.proofs.Mappings.{place_mapped_over, near_stays}
 use Rattle.law_table.proofs.Rows.{row_found, none_listed, none_or_some, distinct_same}
 use Rattle.law_log_swap.proofs.Relogged.{IsRelog, relogs, log_here, at_other, use_same, same_geometry, same_word, same_rows, below, above, maps_here, maps_before, maps_others, relogged_valid, read_before, mapped_read}
-use Rattle.dn_share_changes.specs.Sharing.{shared_log, shared_disk, IsLeft, was_free, was_place, MayShare, SharesPlace, KeepsFiles, FreesPage}
+use Rattle.law_share.specs.Sharing.{shared_log, shared_disk, IsLeft, was_free, was_place, MayShare, SharesPlace, KeepsFiles, FreesPage}
 
 -- a Write of one place: on it, and on another place
 module _ (idx page size slot : ℕ) where

@@ -4,7 +4,7 @@
 //! Each function states laws of all disks; it does nothing.
 #![tactic(auto)]
 
-ghost use Rattle.dn_share_changes.specs.Sharing.{ShareStaysValid, ShareLeavesOldOrNew, ShareStands, ShareMovesPlace, ShareKeepsFiles, ShareFreesPage, ShareStaysOwn, ShareKeepsBalance, OtherRowsStayBalanced};
+ghost use Rattle.law_share.specs.Sharing.{ShareStaysValid, ShareLeavesOldOrNew, ShareStands, ShareMovesPlace, ShareKeepsFiles, ShareFreesPage, ShareStaysOwn, ShareKeepsBalance, OtherRowsStayBalanced};
 
 /// A valid disk stays valid, if an update of the row was raised before. While the tail moves, each image that a stop may
 /// leave stands for what was or for what comes, once what was prepared for the log stands; once it has moved, the

@@ -1,5 +1,5 @@
-use Rattle.dn_share_changes.proofs.Shared.{shared_valid, shared_images, shared_stands}
-use Rattle.dn_share_changes.proofs.place_is_shared.Goals as goal
+use Rattle.law_share.proofs.Shared.{shared_valid, shared_images, shared_stands}
+use Rattle.law_share.proofs.place_is_shared.Goals as goal
 
 pub returns-clause-valid : goal.returns-clause-valid
 returns-clause-valid c = shared_valid

@@ -1,5 +1,5 @@
-use Rattle.dn_share_changes.proofs.Shared.{shares_place, keeps_files, own_kept}
-use Rattle.dn_share_changes.proofs.sharing_keeps_files.Goals as goal
+use Rattle.law_share.proofs.Shared.{shares_place, keeps_files, own_kept}
+use Rattle.law_share.proofs.sharing_keeps_files.Goals as goal
 
 pub returns-clause-places : goal.returns-clause-places
 returns-clause-places c = shares_place
