@@ -25,7 +25,7 @@ use Rattle.dn_model.specs.declared.op.Refusal.{Refusal}
 use Rattle.dn_model.specs.declared.op.Refusal.TheVariants.{BadName, NotFound, Exists, TooLong, TooBig, NoInode, NoSpace}
 use Rattle.law_unique.specs.Operations.{MeetsGrant, MeetsRefusal}
 use Rattle.law_unique.proofs.Answered.{granted_or_refused}
-use Rattle.dn_course.proofs.Course.{legal-told}
+use Rattle.law_course.proofs.Course.{legal-told}
 use Rattle.law_unique.proofs.Listings.{none_listed, cons_cases}
 use Rattle.dn_volume.specs.declared.flight.Flight.{Flight}
 use Rattle.dn_volume.specs.declared.outcome.Outcome.{Outcome}

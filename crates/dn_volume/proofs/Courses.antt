@@ -13,7 +13,7 @@ use Rattle.dn_model.specs.OnCourse.{IsImageOf, LeavesOneOf, IsOnCourse}
 use Rattle.dn_model.specs.declared.op.Op.{Op}
 use Rattle.dn_model.specs.declared.op.Entry.{Entry}
 use Rattle.law_unique.proofs.Answered.{same_files}
-use Rattle.dn_course.proofs.Course.{stays, stops, goes_on}
+use Rattle.law_course.proofs.Course.{stays, stops, goes_on}
 use Rattle.dn_volume.specs.Events.{IsBetween}
 use Rattle.dn_volume.proofs.LeftLater.{leaves_same}
 

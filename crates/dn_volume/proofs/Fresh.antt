@@ -21,7 +21,7 @@ use Rattle.dn_model.specs.Empty.{empty_inode, empty_disk}
 use Rattle.dn_model.specs.declared.op.Entry.{Entry}
 use Rattle.law_write.specs.Events.{IsUnused}
 use Rattle.law_write.proofs.Counting.{total-zero}
-use Rattle.dn_course.proofs.Course.{begins}
+use Rattle.law_course.proofs.Course.{begins}
 use Rattle.dn_volume.specs.declared.flight.Flight.{Flight}
 use Rattle.dn_volume.specs.declared.outcome.CountChange.{CountChange}
 use Rattle.dn_volume.specs.declared.volume.Parts.{Parts}

@@ -15,7 +15,7 @@ use Rattle.dn_model.specs.declared.op.Entry.{Entry}
 use Rattle.dn_model.specs.declared.op.Reply.{Reply}
 use Rattle.dn_model.specs.declared.op.Reply.TheVariants.{Done, Refused}
 use Rattle.dn_model.specs.declared.op.Refusal.{Refusal}
-use Rattle.dn_course.proofs.Course.{legal-told}
+use Rattle.law_course.proofs.Course.{legal-told}
 use Rattle.dn_volume.specs.declared.volume.Parts.{Parts}
 use Rattle.dn_volume.specs.declared.volume.Volume.{Volume}
 use Rattle.dn_volume.specs.Parties.{KeepsOps}

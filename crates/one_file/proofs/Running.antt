@@ -10,7 +10,7 @@ use Rattle.dn_model.specs.Own.{Print, IsOwn}
 use Rattle.dn_model.specs.declared.op.Op.{Op}
 use Rattle.dn_model.specs.declared.op.Entry.{Entry}
 use Rattle.dn_model.specs.OnCourse.{IsImageOf}
-use Rattle.dn_course.proofs.Course.{begins, goes_on, stays, stops}
+use Rattle.law_course.proofs.Course.{begins, goes_on, stays, stops}
 use Rattle.one_file.specs.declared.file.OneFile.{OneFile}
 use Rattle.one_file.specs.Held.{IsDiskOf, Agrees}
 use Rattle.dn_model.specs.Runs.{IsStep, Runs, no_more, one_more}

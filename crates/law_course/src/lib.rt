@@ -3,7 +3,7 @@
 //! Each function states a law of all runs; it does nothing.
 #![tactic(auto)]
 
-ghost use Rattle.dn_course.specs.Laws.{CoursesBegin, CoursesGoOn, CoursesStay, CoursesStop, CoursesAreTold};
+ghost use Rattle.law_course.specs.Laws.{CoursesBegin, CoursesGoOn, CoursesStay, CoursesStop, CoursesAreTold};
 
 /// Where each image that a stop may leave has the same files, a run may begin.
 pub fn courses_begin()

@@ -1,5 +1,0 @@
-use Rattle.dn_course.proofs.Course.{stops}
-use Rattle.dn_course.proofs.courses_stop.Goals as goal
-
-pub returns : goal.returns
-returns c = stops
