@@ -8,7 +8,7 @@ use Rattle.dn_model.specs.Rolled.{IsGate, IsJournaled, pair_address}
 use Rattle.dn_model.specs.Faults.{IsImage, HasGeometry, HasGate, geometry_of, FaultOf, not_an_image, wrong_version, bad_geometry, bad_journal}
 use Rattle.dn_model.specs.declared.fault.ImageFault.{ImageFault}
 use Rattle.dn_model.specs.declared.fault.ImageFault.TheVariants.{NotAnImage, WrongVersion, BadGeometry, BadJournal}
-use Rattle.dn_log_reading.proofs.Decided.{Decided, le_decided, lt_decided, same_decided, both_decided, implies_decided, each_decided}
+use Rattle.law_log_read.proofs.Decided.{Decided, le_decided, lt_decided, same_decided, both_decided, implies_decided, each_decided}
 
 accepted_decided : (g : Geometry) → Decided (IsAccepted g)
 accepted_decided g =

@@ -12,8 +12,8 @@ use Rattle.dn_model.specs.Disk.{Disk, Use, Free, Live, Dying, InodesSay, at_stat
 use Rattle.dn_model.specs.Valid.{IsCut, IsLog}
 use Rattle.dn_model.specs.Faults.{HasGate, HasInodes, geometry_of, IsBadInode, bad_inode}
 use Rattle.dn_model.specs.declared.fault.ImageFault.TheVariants.{BadInode}
-use Rattle.dn_log_reading.proofs.Decided.{Decided, lt_decided, both_decided, either_decided, not_decided}
-use Rattle.dn_log_reading.proofs.LogRead.{log_read}
+use Rattle.law_log_read.proofs.Decided.{Decided, lt_decided, both_decided, either_decided, not_decided}
+use Rattle.law_log_read.proofs.LogRead.{log_read}
 use Rattle.dn_image_reading.proofs.Least.{least_below}
 use Rattle.dn_image_reading.proofs.Head.{HasFault}
 

@@ -4,7 +4,7 @@ use Rattle.std.specs.Prelude.{All}
 use Rattle.std.proofs.lemmas.Bool.{cases_lt}
 use Rattle.std.proofs.lemmas.List.Elements.{All-nil, All-cons}
 use Rattle.dn_model.specs.Faults.{IsLeast}
-use Rattle.dn_log_reading.proofs.Decided.{Decided}
+use Rattle.law_log_read.proofs.Decided.{Decided}
 
 module _ (P : ℕ → Type 0) (test : (k : ℕ) → Decided (P k)) where
   abbrev pub NoneBelow : ℕ → Type 0

@@ -12,7 +12,7 @@ use Rattle.dn_model.specs.Files.{named, named_after}
 use Rattle.dn_model.specs.Valid.{IsLinked, HasOneName}
 use Rattle.dn_model.specs.Faults.{HasLogs, HasLinks, bad_link}
 use Rattle.dn_model.specs.declared.fault.ImageFault.TheVariants.{BadLink}
-use Rattle.dn_log_reading.proofs.Decided.{Decided, le_decided, both_decided, implies_decided, not_decided, all_decided, lists_decided}
+use Rattle.law_log_read.proofs.Decided.{Decided, le_decided, both_decided, implies_decided, not_decided, all_decided, lists_decided}
 use Rattle.dn_image_reading.proofs.Least.{least_below, some_or_none}
 use Rattle.dn_image_reading.proofs.Head.{HasFault}
 

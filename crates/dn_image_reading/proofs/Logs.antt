@@ -10,8 +10,8 @@ use Rattle.dn_model.specs.Valid.{IsLog}
 use Rattle.dn_model.specs.Faults.{HasInodes, HasLogs, bad_log}
 use Rattle.dn_model.specs.declared.fault.ImageFault.TheVariants.{BadLog}
 use Rattle.log_walk.proofs.OneEnd.{log_or_fault}
-use Rattle.dn_log_reading.proofs.Decided.{Decided, both_decided}
-use Rattle.dn_log_reading.proofs.LogRead.{log_read}
+use Rattle.law_log_read.proofs.Decided.{Decided, both_decided}
+use Rattle.law_log_read.proofs.LogRead.{log_read}
 use Rattle.dn_image_reading.proofs.Least.{least_below}
 use Rattle.dn_image_reading.proofs.Head.{HasFault}
 use Rattle.dn_image_reading.proofs.Inodes.{read_disk, Judged, log_of}

@@ -12,9 +12,9 @@ use Rattle.log_walk.specs.Slots.{first_slots}
 use Rattle.log_walk.specs.Walk.{fault_place, slots_before}
 use Rattle.log_walk.specs.declared.items.Placed.{Placed}
 use Rattle.log_walk.proofs.Outcome.{Outcome, outcome, empty_log}
-use Rattle.dn_log_reading.specs.Laws.{LogsAreReadOrFaulty}
-use Rattle.dn_log_reading.proofs.Pages.{Way, all_pages}
-use Rattle.dn_log_reading.proofs.Items.{AllItems, all_items}
+use Rattle.law_log_read.specs.Laws.{LogsAreReadOrFaulty}
+use Rattle.law_log_read.proofs.Pages.{Way, all_pages}
+use Rattle.law_log_read.proofs.Items.{AllItems, all_items}
 
 module _ (g : Geometry) (c : List ℕ) (ino : ℕ) where
   abbrev Judged : Type 0

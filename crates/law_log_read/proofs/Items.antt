@@ -16,9 +16,9 @@ use Rattle.log_walk.specs.declared.items.Placed.{Placed}
 use Rattle.log_walk.specs.declared.items.End.{End}
 use Rattle.log_walk.specs.declared.items.End.TheVariants.{Filled, Cut, Bad}
 use Rattle.log_walk.proofs.Filled.{none_fill, fronts_more}
-use Rattle.dn_log_reading.proofs.Decided.{Decided, le_decided, lt_decided, both_decided}
-use Rattle.dn_log_reading.proofs.FrontDecided.{fronts_decided}
-use Rattle.dn_log_reading.proofs.Pages.{data_decided}
+use Rattle.law_log_read.proofs.Decided.{Decided, le_decided, lt_decided, both_decided}
+use Rattle.law_log_read.proofs.FrontDecided.{fronts_decided}
+use Rattle.law_log_read.proofs.Pages.{data_decided}
 
 stand_decided : (g : Geometry) (ino : ℕ) (item : LogItem) → Decided (MayStand g ino item)
 stand_decided g zero (Write first count block size flag mask) = inr (λ none. none)

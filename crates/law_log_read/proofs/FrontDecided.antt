@@ -12,8 +12,8 @@ use Rattle.log_entry.specs.declared.item.LogItem.{LogItem}
 use Rattle.log_entry.specs.declared.item.LogItem.TheVariants.{Write, Size, Add, Forget}
 use Rattle.log_entry.proofs.Heads.{write_head, write_is, size_head, add_fits, forget_fits, unnamed, named, from_head, no_kind, none_agrees, none_at_all}
 use Rattle.log_entry.proofs.Fronts.{whole, part, nothing, no_slots}
-use Rattle.dn_log_reading.specs.Laws.{FrontsAreDecided}
-use Rattle.dn_log_reading.proofs.Decided.{Decided, le_decided, lt_decided, same_decided, both_decided, implies_decided, not_decided, each_decided, all_decided, lists_decided}
+use Rattle.law_log_read.specs.Laws.{FrontsAreDecided}
+use Rattle.law_log_read.proofs.Decided.{Decided, le_decided, lt_decided, same_decided, both_decided, implies_decided, not_decided, each_decided, all_decided, lists_decided}
 
 abbrev HasFlag : ℕ → Type 0
 HasFlag n = (flag : Flag) × (flag_number flag ≡ n)

@@ -8,7 +8,7 @@ use Rattle.page_alloc.specs.Free.{FreePages, GivesBack, with_page}
 use Rattle.page_alloc.proofs.FreeLaws.{length-with_page, Contains-with_page}
 use Rattle.log_walk.specs.Way.{IsWay}
 use Rattle.log_walk.proofs.Paged.{OnWay, starts_way, way_on, way_few, way_whole, way_stopped}
-use Rattle.dn_log_reading.proofs.Decided.{Decided, le_decided, lt_decided, same_decided, both_decided, contains_decided}
+use Rattle.law_log_read.proofs.Decided.{Decided, le_decided, lt_decided, same_decided, both_decided, contains_decided}
 
 pub data_decided : (g : Geometry) (page : ℕ) → Decided (InData g page)
 data_decided g page =

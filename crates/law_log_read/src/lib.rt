@@ -4,7 +4,7 @@
 //! that no device holds.
 #![tactic(auto)]
 
-ghost use Rattle.dn_log_reading.specs.Laws.{FrontsAreDecided, LogsAreReadOrFaulty};
+ghost use Rattle.law_log_read.specs.Laws.{FrontsAreDecided, LogsAreReadOrFaulty};
 
 /// Slots begin with the slots of an item, or an item's slots begin with them and are more, or neither.
 pub fn decided_fronts()
