@@ -11,7 +11,7 @@ use Rattle.dn_model.specs.Image.{StandsFor}
 use Rattle.dn_model.specs.Faults.{IsLeast, IsDouble, HasFree, FaultOf, double_mapped, bad_count, crowded}
 use Rattle.dn_model.specs.declared.fault.ImageFault.TheVariants.{DoubleMapped, BadCount, Crowded}
 use Rattle.law_unique.proofs.Counted.{free_one}
-use Rattle.dn_image_reading.proofs.Stands.{passing}
+use Rattle.law_image_read.proofs.Stands.{passing}
 use Rattle.dn_rule_reading.specs.Rules.{FreePages, are_few, are_two}
 use Rattle.dn_rule_reading.proofs.Pages.{mapped_in_data, single_from}
 use Rattle.dn_rule_reading.proofs.Frees.{free_pages_are_counted}

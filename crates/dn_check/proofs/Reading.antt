@@ -10,8 +10,8 @@ use Rattle.dn_model.specs.Valid.{IsLinked}
 use Rattle.dn_model.specs.Faults.{IsLeast, HasGate, IsBadInode, HasInodes, HasLogs, geometry_of, FaultOf, not_an_image, wrong_version, bad_geometry, bad_journal, bad_inode, bad_log, bad_link, bad_table, bad_pointer, double_mapped, bad_count, crowded}
 use Rattle.dn_model.specs.declared.fault.ImageFault.{ImageFault}
 use Rattle.dn_model.specs.declared.fault.ImageFault.TheVariants.{BadInode, BadLink}
-use Rattle.dn_image_reading.proofs.ImageRead.{read_to_links}
-use Rattle.dn_image_reading.proofs.Inodes.{read_disk, has_inodes}
+use Rattle.law_image_read.proofs.ImageRead.{read_to_links}
+use Rattle.law_image_read.proofs.Inodes.{read_disk, has_inodes}
 use Rattle.image_logs.specs.declared.logs.LogsFault.{LogsFault}
 use Rattle.image_logs.specs.declared.logs.LogsFault.TheVariants.{BadLog as BadLogRead, NoMemory as NoMemoryForLogs}
 use Rattle.image_logs.specs.declared.logs.LogsRead.{LogsRead}

@@ -1,7 +1,7 @@
 -- Any words have a first fault, or stand for a valid disk.
 use Rattle.std.proofs.Common.{inl, ⊎_elim}
 use Rattle.law_unique.proofs.OneFault.{fault_none}
-use Rattle.dn_image_reading.proofs.ImageRead.{read_to_links}
+use Rattle.law_image_read.proofs.ImageRead.{read_to_links}
 use Rattle.dn_rule_reading.specs.Rules.{ImagesAreJudged, NoFaultIsState}
 use Rattle.dn_rule_reading.proofs.Judged.{linked_images_are_judged}
 

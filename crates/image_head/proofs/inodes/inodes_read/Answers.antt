@@ -1,4 +1,4 @@
-use Rattle.dn_image_reading.proofs.Inodes.{read_disk, has_inodes}
+use Rattle.law_image_read.proofs.Inodes.{read_disk, has_inodes}
 use Rattle.image_head.proofs.Uses.{inodes_stay}
 use Rattle.image_head.proofs.inodes.inodes_read.Goals as goal
 

@@ -12,9 +12,9 @@ use Rattle.dn_model.specs.declared.fault.ImageFault.TheVariants.{BadLog}
 use Rattle.log_walk.proofs.OneEnd.{log_or_fault}
 use Rattle.law_log_read.proofs.Decided.{Decided, both_decided}
 use Rattle.law_log_read.proofs.LogRead.{log_read}
-use Rattle.dn_image_reading.proofs.Least.{least_below}
-use Rattle.dn_image_reading.proofs.Head.{HasFault}
-use Rattle.dn_image_reading.proofs.Inodes.{read_disk, Judged, log_of}
+use Rattle.law_image_read.proofs.Least.{least_below}
+use Rattle.law_image_read.proofs.Head.{HasFault}
+use Rattle.law_image_read.proofs.Inodes.{read_disk, Judged, log_of}
 
 used_decided : (u : Use) → Decided (IsUsed u)
 used_decided Free = inr (λ none. none)

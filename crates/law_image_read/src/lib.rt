@@ -4,7 +4,7 @@
 //! that no device holds.
 #![tactic(auto)]
 
-ghost use Rattle.dn_image_reading.specs.Laws.{AreReadToLinks, LinksStay, PassingStands};
+ghost use Rattle.law_image_read.specs.Laws.{AreReadToLinks, LinksStay, PassingStands};
 
 /// Words have the first fault of an image, by its head, its journal, its inodes, its logs or its links, or they
 /// pass these rules with a state whose inodes and logs they say. What passes them keeps to that with any

@@ -13,8 +13,8 @@ use Rattle.dn_model.specs.Valid.{IsLinked, HasOneName}
 use Rattle.dn_model.specs.Faults.{HasLogs, HasLinks, bad_link}
 use Rattle.dn_model.specs.declared.fault.ImageFault.TheVariants.{BadLink}
 use Rattle.law_log_read.proofs.Decided.{Decided, le_decided, both_decided, implies_decided, not_decided, all_decided, lists_decided}
-use Rattle.dn_image_reading.proofs.Least.{least_below, some_or_none}
-use Rattle.dn_image_reading.proofs.Head.{HasFault}
+use Rattle.law_image_read.proofs.Least.{least_below, some_or_none}
+use Rattle.law_image_read.proofs.Head.{HasFault}
 
 -- the names that items add
 abbrev added : List LogItem → List (List ℕ)

@@ -1,10 +1,10 @@
 -- An image is read up to the links of its inodes, or it has its first fault.
 use Rattle.std.proofs.Common.{inl, inr}
-use Rattle.dn_image_reading.specs.Laws.{AreReadToLinks}
-use Rattle.dn_image_reading.proofs.Head.{head_read}
-use Rattle.dn_image_reading.proofs.Inodes.{read_disk, inodes_read}
-use Rattle.dn_image_reading.proofs.Logs.{logs_read}
-use Rattle.dn_image_reading.proofs.Links.{links_read}
+use Rattle.law_image_read.specs.Laws.{AreReadToLinks}
+use Rattle.law_image_read.proofs.Head.{head_read}
+use Rattle.law_image_read.proofs.Inodes.{read_disk, inodes_read}
+use Rattle.law_image_read.proofs.Logs.{logs_read}
+use Rattle.law_image_read.proofs.Links.{links_read}
 
 pub read_to_links : AreReadToLinks
 read_to_links c = elim (head_read c) [

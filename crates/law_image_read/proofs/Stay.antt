@@ -6,7 +6,7 @@ use Rattle.dn_model.specs.Log.{LogSays}
 use Rattle.dn_model.specs.Files.{named, named_after}
 use Rattle.dn_model.specs.Valid.{IsCut, IsLog, IsLinked}
 use Rattle.dn_model.specs.Faults.{HasInodes, HasLogs, HasLinks}
-use Rattle.dn_image_reading.specs.Laws.{LinksStay}
+use Rattle.law_image_read.specs.Laws.{LinksStay}
 
 module _ (c : List ℕ) (d e : Disk) (same : e.geometry ≡ d.geometry) (alike : (ino : ℕ) → e.inode ino ≡ d.inode ino) where
   in_table : (ino : ℕ) → ino < e.geometry.inodes → ino < d.geometry.inodes

@@ -11,7 +11,7 @@ use Rattle.dn_model.specs.Counts.{IsFree, Near}
 use Rattle.dn_model.specs.Valid.{IsSingle, IsValid}
 use Rattle.dn_model.specs.Image.{StandsFor}
 use Rattle.dn_model.specs.Faults.{HasGeometry, HasInodes, HasPointers}
-use Rattle.dn_image_reading.specs.Laws.{PassingStands}
+use Rattle.law_image_read.specs.Laws.{PassingStands}
 
 module _ (c : List ℕ) (n : ℕ) (gate : IsGate n c) where
   rolled_low : (a : ℕ) → a < 512 → slice_index (rolled c) a ≡ slice_index c a

@@ -14,8 +14,8 @@ use Rattle.dn_model.specs.Faults.{HasGate, HasInodes, geometry_of, IsBadInode, b
 use Rattle.dn_model.specs.declared.fault.ImageFault.TheVariants.{BadInode}
 use Rattle.law_log_read.proofs.Decided.{Decided, lt_decided, both_decided, either_decided, not_decided}
 use Rattle.law_log_read.proofs.LogRead.{log_read}
-use Rattle.dn_image_reading.proofs.Least.{least_below}
-use Rattle.dn_image_reading.proofs.Head.{HasFault}
+use Rattle.law_image_read.proofs.Least.{least_below}
+use Rattle.law_image_read.proofs.Head.{HasFault}
 
 -- the use of an inode, by its state and its cut
 abbrev use_by : ℕ → ℕ → Use
