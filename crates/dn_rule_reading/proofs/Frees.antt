@@ -7,7 +7,7 @@ use Rattle.dn_model.specs.Disk.{Disk}
 use Rattle.dn_model.specs.Counts.{IsFree}
 use Rattle.dn_model.specs.Faults.{HasFree}
 use Rattle.law_unique.proofs.Listings.{here, later, none_listed, cons_cases}
-use Rattle.dn_table_reading.proofs.Decisions.{Decided}
+use Rattle.law_table_read.proofs.Decisions.{Decided}
 use Rattle.dn_rule_reading.specs.Rules.{FreePages, are_few, are_two, FreePagesAreCounted}
 use Rattle.dn_rule_reading.proofs.Pages.{decide_free}
 

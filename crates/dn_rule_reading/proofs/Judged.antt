@@ -15,9 +15,9 @@ use Rattle.dn_model.specs.Faults.{HasLinks, HasTable, HasPointers, IsDouble, Fau
 use Rattle.dn_model.specs.declared.fault.ImageFault.{ImageFault}
 use Rattle.dn_model.specs.declared.fault.ImageFault.TheVariants.{BadTable, BadPointer, DoubleMapped, BadCount, Crowded}
 use Rattle.law_table.proofs.Rows.{chain_listed, at_listed}
-use Rattle.dn_table_reading.specs.Tables.{HasChains}
-use Rattle.dn_table_reading.proofs.Decisions.{Decided, decide_lt, decide_le, decide_both, decide_either, decide_as, decide_not, least_or_none, all_or_first, decide_listed}
-use Rattle.dn_table_reading.proofs.Tables.{tables_read_or_faulty}
+use Rattle.law_table_read.specs.Tables.{HasChains}
+use Rattle.law_table_read.proofs.Decisions.{Decided, decide_lt, decide_le, decide_both, decide_either, decide_as, decide_not, least_or_none, all_or_first, decide_listed}
+use Rattle.law_table_read.proofs.Tables.{tables_read_or_faulty}
 use Rattle.dn_rule_reading.specs.Rules.{FreePages, are_few, are_two, LinkedImagesAreJudged}
 use Rattle.dn_rule_reading.proofs.Pages.{decide_double, double_in_data, single_from}
 use Rattle.dn_rule_reading.proofs.Frees.{free_pages_are_counted}

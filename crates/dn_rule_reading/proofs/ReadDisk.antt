@@ -16,7 +16,7 @@ use Rattle.dn_model.specs.Faults.{HasGeometry, HasInodes, HasLogs, HasLinks, Has
 use Rattle.law_unique.proofs.SameMeaning.{linked-same}
 use Rattle.law_unique.proofs.Stages.{rolled_low}
 use Rattle.law_unique.proofs.RolledSame.{rolled_gate}
-use Rattle.dn_table_reading.specs.Tables.{HasChains}
+use Rattle.law_table_read.specs.Tables.{HasChains}
 
 abbrev pub read_disk : List ℕ → Disk → (ℕ → List Row) → Disk
 read_disk r d chain = record {

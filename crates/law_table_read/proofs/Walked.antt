@@ -11,10 +11,10 @@ use Rattle.dn_model.specs.Valid.{IsRow, AreApart}
 use Rattle.dn_model.specs.Faults.{RowStands, ComesNext, direct_row, first_chained, after_row, IsDirectNext, IsIndirect, StartsAt, starts_direct, starts_chained, IsReached, TableFault, no_row, no_next}
 use Rattle.law_unique.proofs.SameChain.{row_one}
 use Rattle.law_unique.proofs.TableWalks.{slice_get-behind, Walk, IsFull}
-use Rattle.dn_table_reading.specs.Tables.{HoldsRow}
-use Rattle.dn_table_reading.proofs.Decisions.{Decided, decide_both, decide_le, decide_lt}
-use Rattle.dn_table_reading.proofs.RowRead.{rows_decided}
-use Rattle.dn_table_reading.proofs.Apart.{push_cases, decide_apart, slots_apart, few_rows}
+use Rattle.law_table_read.specs.Tables.{HoldsRow}
+use Rattle.law_table_read.proofs.Decisions.{Decided, decide_both, decide_le, decide_lt}
+use Rattle.law_table_read.proofs.RowRead.{rows_decided}
+use Rattle.law_table_read.proofs.Apart.{push_cases, decide_apart, slots_apart, few_rows}
 
 -- a list has a last element or none
 last_or_none : (xs : List Row) → (xs ≡ []) ⊎ ((front : List Row) × (last : Row) × (xs ≡ front ++ last ∷ []))

@@ -10,9 +10,9 @@ use Rattle.dn_model.specs.Valid.{IsRow, AreApart}
 use Rattle.dn_model.specs.Faults.{IsReached, TableFault}
 use Rattle.law_unique.proofs.SameParts.{rows_from-same}
 use Rattle.law_unique.proofs.TableWalks.{rows_from-split}
-use Rattle.dn_table_reading.specs.Tables.{TablesAreReadOrFaulty}
-use Rattle.dn_table_reading.proofs.ChainRead.{walk_reads}
-use Rattle.dn_table_reading.proofs.Walked.{Whole, walked, whole_walk}
+use Rattle.law_table_read.specs.Tables.{TablesAreReadOrFaulty}
+use Rattle.law_table_read.proofs.ChainRead.{walk_reads}
+use Rattle.law_table_read.proofs.Walked.{Whole, walked, whole_walk}
 
 -- these chains, but these rows for one prefix
 abbrev put : (ℕ → List Row) → ℕ → List Row → ℕ → List Row

@@ -4,7 +4,7 @@
 //! Each function states a law of the definitions of `dn_model`; it does nothing.
 #![tactic(auto)]
 
-ghost use Rattle.dn_table_reading.specs.Tables.{RowsAreReadOrNot, TablesAreReadOrFaulty};
+ghost use Rattle.law_table_read.specs.Tables.{RowsAreReadOrNot, TablesAreReadOrFaulty};
 
 /// The words of a slot hold a row that may stand at this place of a chain, or no row may stand there. Words are any
 /// numbers, also such that fit no field of a row.

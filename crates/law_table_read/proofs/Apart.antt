@@ -11,7 +11,7 @@ use Rattle.std.proofs.lemmas.List.{length-map, get_or-map}
 use Rattle.dn_model.specs.Table.{Row}
 use Rattle.dn_model.specs.Valid.{AreApart}
 use Rattle.law_unique.proofs.TableWalks.{slice_get-append_left, slice_get-behind}
-use Rattle.dn_table_reading.proofs.Decisions.{Decided, decide_both, decide_as, decide_not, decide_same, decide_all}
+use Rattle.law_table_read.proofs.Decisions.{Decided, decide_both, decide_as, decide_not, decide_same, decide_all}
 
 -- an element of a list with one more: an old one, or the new one
 pub push_cases : {X : Type 0} (xs : List X) (y : X) (k : ℕ) (x : X) → slice_get (xs ++ y ∷ []) k ≡ Some x → ((k < length xs) × (slice_get xs k ≡ Some x)) ⊎ ((k ≡ length xs) × (y ≡ x))

@@ -13,8 +13,8 @@ use Rattle.fingerprint.proofs.SlotLaws.{made-first, made-second, made-third, pri
 use Rattle.dn_model.specs.Table.{Row, row_word, prefix_of}
 use Rattle.dn_model.specs.Valid.{IsRow}
 use Rattle.dn_model.specs.Faults.{RowStands}
-use Rattle.dn_table_reading.specs.Tables.{HoldsRow, RowsAreReadOrNot}
-use Rattle.dn_table_reading.proofs.Decisions.{Decided, decide_lt, decide_le, decide_both, decide_either, decide_as}
+use Rattle.law_table_read.specs.Tables.{HoldsRow, RowsAreReadOrNot}
+use Rattle.law_table_read.proofs.Decisions.{Decided, decide_lt, decide_le, decide_both, decide_either, decide_as}
 
 abbrev IsByte : ℕ → Type 0
 IsByte b = b < 256
