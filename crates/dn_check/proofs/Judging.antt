@@ -12,9 +12,9 @@ use Rattle.dn_model.specs.Faults.{IsLeast, IsDouble, HasFree, FaultOf, double_ma
 use Rattle.dn_model.specs.declared.fault.ImageFault.TheVariants.{DoubleMapped, BadCount, Crowded}
 use Rattle.law_unique.proofs.Counted.{free_one}
 use Rattle.law_image_read.proofs.Stands.{passing}
-use Rattle.dn_rule_reading.specs.Rules.{FreePages, are_few, are_two}
-use Rattle.dn_rule_reading.proofs.Pages.{mapped_in_data, single_from}
-use Rattle.dn_rule_reading.proofs.Frees.{free_pages_are_counted}
+use Rattle.law_image_fault.specs.Rules.{FreePages, are_few, are_two}
+use Rattle.law_image_fault.proofs.Pages.{mapped_in_data, single_from}
+use Rattle.law_image_fault.proofs.Frees.{free_pages_are_counted}
 use Rattle.law_table.proofs.Rows.{all_listed, listed_here}
 use Rattle.fact_scan.specs.declared.row.Row.{Row}
 use Rattle.fact_scan.specs.Seen.{as_row}

@@ -13,7 +13,7 @@ use Rattle.dn_model.specs.Faults.{IsLeast, HasLinks, HasTable, HasPointers, Faul
 use Rattle.dn_model.specs.declared.fault.ImageFault.TheVariants.{BadPointer}
 use Rattle.law_table.proofs.Rows.{same_test, other_test, none_found, row_found}
 use Rattle.law_table_read.specs.Tables.{HasChains}
-use Rattle.dn_rule_reading.proofs.ReadDisk.{read_disk, has_table, pointers_read}
+use Rattle.law_image_fault.proofs.ReadDisk.{read_disk, has_table, pointers_read}
 use Rattle.fact_scan.specs.declared.row.Row.{Row}
 use Rattle.fact_scan.specs.declared.scan.ScanFault.{ScanFault}
 use Rattle.fact_scan.specs.declared.scan.ScanFault.TheVariants.{BadTable as BadRows, NoMemory as NoMemoryForRows}

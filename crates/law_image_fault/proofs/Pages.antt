@@ -19,7 +19,7 @@ use Rattle.law_unique.proofs.Counted.{counts_mappings}
 use Rattle.law_write.proofs.Unread.{IsSetBy, mapping_set_by}
 use Rattle.law_table_read.proofs.Decisions.{Decided, decide_lt, decide_le, decide_both, decide_either, decide_as, decide_not, decide_below, decide_contains}
 use Rattle.law_table_read.proofs.RowRead.{decide_data}
-use Rattle.dn_rule_reading.specs.Rules.{PagesAreDecided}
+use Rattle.law_image_fault.specs.Rules.{PagesAreDecided}
 
 decide_used : (u : Use) → Decided (IsUsed u)
 decide_used Free = inr (λ used. used)

@@ -8,8 +8,8 @@ use Rattle.dn_model.specs.Counts.{IsFree}
 use Rattle.dn_model.specs.Faults.{HasFree}
 use Rattle.law_unique.proofs.Listings.{here, later, none_listed, cons_cases}
 use Rattle.law_table_read.proofs.Decisions.{Decided}
-use Rattle.dn_rule_reading.specs.Rules.{FreePages, are_few, are_two, FreePagesAreCounted}
-use Rattle.dn_rule_reading.proofs.Pages.{decide_free}
+use Rattle.law_image_fault.specs.Rules.{FreePages, are_few, are_two, FreePagesAreCounted}
+use Rattle.law_image_fault.proofs.Pages.{decide_free}
 
 abbrev IsOther : ℕ → ℕ → Type 0
 IsOther p q = p ≢ q

@@ -18,10 +18,10 @@ use Rattle.law_table.proofs.Rows.{chain_listed, at_listed}
 use Rattle.law_table_read.specs.Tables.{HasChains}
 use Rattle.law_table_read.proofs.Decisions.{Decided, decide_lt, decide_le, decide_both, decide_either, decide_as, decide_not, least_or_none, all_or_first, decide_listed}
 use Rattle.law_table_read.proofs.Tables.{tables_read_or_faulty}
-use Rattle.dn_rule_reading.specs.Rules.{FreePages, are_few, are_two, LinkedImagesAreJudged}
-use Rattle.dn_rule_reading.proofs.Pages.{decide_double, double_in_data, single_from}
-use Rattle.dn_rule_reading.proofs.Frees.{free_pages_are_counted}
-use Rattle.dn_rule_reading.proofs.ReadDisk.{read_disk, has_table, pointers_read, stands}
+use Rattle.law_image_fault.specs.Rules.{FreePages, are_few, are_two, LinkedImagesAreJudged}
+use Rattle.law_image_fault.proofs.Pages.{decide_double, double_in_data, single_from}
+use Rattle.law_image_fault.proofs.Frees.{free_pages_are_counted}
+use Rattle.law_image_fault.proofs.ReadDisk.{read_disk, has_table, pointers_read, stands}
 
 -- a row of a table may stand where it stands
 listed_row : (c : List ℕ) (d : Disk) → HasTable c d → (row : Row) → Contains (rows d) row → (p : ℕ) × (k : ℕ) × IsRow d.geometry p k row

@@ -1,5 +1,5 @@
-use Rattle.dn_rule_reading.proofs.Images.{images_are_judged, no_fault_is_state}
-use Rattle.dn_rule_reading.proofs.fault_or_state.Goals as goal
+use Rattle.law_image_fault.proofs.Images.{images_are_judged, no_fault_is_state}
+use Rattle.law_image_fault.proofs.fault_or_state.Goals as goal
 
 pub returns-clause-judged : goal.returns-clause-judged
 returns-clause-judged c = images_are_judged

@@ -4,7 +4,7 @@
 //! Each function states a law of the definitions of `dn_model`; it does nothing.
 #![tactic(auto)]
 
-ghost use Rattle.dn_rule_reading.specs.Rules.{FreePagesAreCounted, PagesAreDecided, LinkedImagesAreJudged, ImagesAreJudged, NoFaultIsState};
+ghost use Rattle.law_image_fault.specs.Rules.{FreePagesAreCounted, PagesAreDecided, LinkedImagesAreJudged, ImagesAreJudged, NoFaultIsState};
 
 /// It is decided of each page whether it is used twice against the rules, and whether it is free.
 pub fn pages_decided()

@@ -2,8 +2,8 @@
 use Rattle.std.proofs.Common.{inl, ⊎_elim}
 use Rattle.law_unique.proofs.OneFault.{fault_none}
 use Rattle.law_image_read.proofs.ImageRead.{read_to_links}
-use Rattle.dn_rule_reading.specs.Rules.{ImagesAreJudged, NoFaultIsState}
-use Rattle.dn_rule_reading.proofs.Judged.{linked_images_are_judged}
+use Rattle.law_image_fault.specs.Rules.{ImagesAreJudged, NoFaultIsState}
+use Rattle.law_image_fault.proofs.Judged.{linked_images_are_judged}
 
 pub images_are_judged : ImagesAreJudged
 images_are_judged c = ⊎_elim (λ fault. inl fault) (λ read. linked_images_are_judged c read.0 read.1) (read_to_links c)
