@@ -33,9 +33,9 @@ use Rattle.law_names.specs.Operations.{creation, removal, MayCreate, MayRemove}
 use Rattle.law_names.proofs.Links.{with_name-here}
 use Rattle.dn_model.specs.Empty.{empty_inode, empty_disk}
 use Rattle.recovery.proofs.EmptyDisk.{count-none, unread}
-use Rattle.dn_worked_changes.specs.Life.{Life, IsLife, Lives, HoldsBytes, first_text, second_text, first_file, on_page, empty, created, appended, overwritten, removed, pages_of_life}
-use Rattle.dn_worked_changes.proofs.Laws.{Laws}
-use Rattle.dn_worked_changes.proofs.PageWrite.{MayPutPage, is_write, put_valid, put_own, put_bytes, put_files, put_free, put_frees, put_length, put_maps, put_named}
+use Rattle.law_example.specs.Life.{Life, IsLife, Lives, HoldsBytes, first_text, second_text, first_file, on_page, empty, created, appended, overwritten, removed, pages_of_life}
+use Rattle.law_example.proofs.Laws.{Laws}
+use Rattle.law_example.proofs.PageWrite.{MayPutPage, is_write, put_valid, put_own, put_bytes, put_files, put_free, put_frees, put_length, put_maps, put_named}
 
 single : (x p : ℕ) → Contains (x ∷ []) p → x ≡ p
 single x p has = ⊎_elim (λ (e : x ≡ p). e) (λ (none : Contains [] p). absurd (omega (arith, none.1))) (listed_cases x [] p has)

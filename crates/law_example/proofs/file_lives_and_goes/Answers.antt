@@ -1,5 +1,5 @@
-use Rattle.dn_worked_changes.proofs.Living.{lives}
-use Rattle.dn_worked_changes.proofs.file_lives_and_goes.Goals as goal
+use Rattle.law_example.proofs.Living.{lives}
+use Rattle.law_example.proofs.file_lives_and_goes.Goals as goal
 
 pub returns : goal.returns
 returns c = lives (record {

@@ -24,8 +24,8 @@ use Rattle.law_write.specs.WriteLaws.{TakesAndFrees, IsWriteOf}
 use Rattle.law_write.proofs.Unread.{unused_unread}
 use Rattle.law_write.proofs.WithLog.{with_log-other, with_log-word}
 use Rattle.law_write.proofs.WriteBytes.{length-bytes}
-use Rattle.dn_worked_changes.specs.Life.{on_page, HoldsBytes}
-use Rattle.dn_worked_changes.proofs.Laws.{Laws}
+use Rattle.law_example.specs.Life.{on_page, HoldsBytes}
+use Rattle.law_example.proofs.Laws.{Laws}
 
 -- a byte of a text that was written at the start
 written_in : (old text : List ℕ) (k : ℕ) → k < length text → slice_index (written old 0 text) k ≡ slice_index text k

@@ -1,7 +1,7 @@
 //! A worked use of the laws of single changes: the life of one file on an empty disk.
 #![tactic(auto)]
 
-ghost use Rattle.dn_worked_changes.specs.Life.{FilesLive};
+ghost use Rattle.law_example.specs.Life.{FilesLive};
 
 use law_write::writes;
 use law_names::names;
