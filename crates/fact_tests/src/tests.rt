@@ -7,7 +7,7 @@ ghost use Rattle.fact_scan.specs.Seen.{as_row};
 ghost use Rattle.fact_table.specs.Chained.{HasNoRow};
 ghost use Rattle.fact_table.specs.Table.{IsTable, HasTable, IsAtSlot};
 ghost use Rattle.fact_calls.specs.Made.{CanCall};
-ghost use Rattle.fact_trials.specs.Trial.{MayBy};
+ghost use Rattle.fact_tests.specs.Trial.{MayBy};
 
 use fact_calls::{TableCall, make};
 use fact_slot::Steps;

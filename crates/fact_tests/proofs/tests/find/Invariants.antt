@@ -1,4 +1,4 @@
-use Rattle.fact_trials.proofs.tests.find.Given as goal
+use Rattle.fact_tests.proofs.tests.find.Given as goal
 
 abbrev pub ghosts-find_over : goal.ghosts-find_over
 ghosts-find_over g a = record { name = a.blank.name; parts = a.blank.parts }

@@ -1,8 +1,8 @@
 use Rattle.std.proofs.Common.{◌≤◌, ◌<◌, subst, arith}
 use Rattle.pm_layout.specs.declared.Geometry.{Geometry}
 use Rattle.pm_layout.specs.Geometry.{first_data}
-use Rattle.fact_trials.proofs.Inserts.{of_none, of_is_none, twenty_bytes}
-use Rattle.fact_trials.proofs.tests.may_insert.Goals as goal
+use Rattle.fact_tests.proofs.Inserts.{of_none, of_is_none, twenty_bytes}
+use Rattle.fact_tests.proofs.tests.may_insert.Goals as goal
 
 pub returns : goal.returns
 returns g c = λ none. record {
