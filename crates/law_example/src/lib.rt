@@ -3,9 +3,9 @@
 
 ghost use Rattle.law_example.specs.Life.{FilesLive};
 
-use law_write::writes;
 use law_names::names;
 use law_table_on_disk::counted;
+use law_write::writes;
 use recovery::laws;
 
 /// On an empty disk a file is created, a text is written to it, another is written over it, and the file is removed:
