@@ -55,7 +55,7 @@ pub ready-stores : (Q W : ℕ → Type 0) (who : ℕ) (s t : State) (fresh : ℕ
 ready-stores Q W who s t fresh only keeps is_kept apart ready = record {
   within = λ a v new. omega (arith, ready.within a v new, only.words);
   reads = λ a v new. only.read a (apart a v new) ∙ ready.reads a v new;
-  flushed = λ a v new. keeps.flushed who a is_kept (apart a v new) (ready.flushed a v new);
+  flushed = λ a v new. keeps.flushed who a is_kept (apart a v new) (ready.within a v new) (ready.flushed a v new);
 }
 
 pub stands-weaken : (s : State) (f g : ℕ → ℕ → Type 0) → ((a v : ℕ) → g a v → f a v) → Stands f s → Stands g s

@@ -3,13 +3,13 @@ use Rattle.std.proofs.Common.{◌≡◌, ◌≢◌, ◌⊎◌, inl, inr, ℕ, �
 use Rattle.std.specs.Prelude.{slice_index, Result, Ok, Err, OnOk}
 use Rattle.pm_device.specs.Past.{Stored, Flushed, Fenced}
 use Rattle.pm_device.specs.State.{State, Stores, Flushes, Fences, Agree}
-use Rattle.pm_device.specs.Settled.{EachLeft, IsRead, IsSettled, LeavesOnly, LeavesNow, StoresOnly, KeepsFlushed, Anyone, Others}
+use Rattle.pm_device.specs.Settled.{EachLeft, IsRead, IsSettled, LeavesOnly, LeavesNow, StoresOnly, KeepsFlushed, Anyone, Others, SettlesAll}
 use Rattle.pm_device.specs.Commit.{IsDone, LeavesOneWord}
 use Rattle.pm_device.specs.Words.{IsIn}
 use Rattle.pm_device.proofs.Calls.{each_left-store_in, each_left-weaken, each_left-flush, each_left-fence, settled-store_out, settled-flush, settled-fence, flushed-fence, read-store_out, image_has, flush_flushes}
 use Rattle.pm_device.proofs.Only.{stores_only-store, stores_only-flush, stores_only-fence, stores_only-then, stores_only-weaken}
-use Rattle.pm_device.proofs.Flushed.{keeps-store, keeps-flush, keeps-fence, keeps-then, keeps-weaken}
-use Rattle.pm_device.proofs.StoredRun.{flushed-store_out, flushed-flush}
+use Rattle.pm_device.proofs.Flushed.{flushed-store_out, flushed-flush, keeps-store, keeps-flush, keeps-fence, keeps-then, keeps-weaken}
+use Rattle.pm_device.proofs.AllFlushed.{settles_word}
 use Rattle.pm_device.proofs.Moments.{started, goes_on}
 
 -- a store of one word, a flush and a fence
@@ -86,7 +86,7 @@ module _ (who at value : ℕ) (s u v x : State) (ok : Bool) (is : Sets who at va
     now = is.last.now ∙ is.flushes.now ∙ is.stores.now;
     word = flushed-fence v x at who ok went is.last (flush_flushes u v at who (at / 8) 1 is.agree_u is.flushes (omega arith) (omega arith) (omega (arith, long_u, is.inside)));
     flushed = λ a lt flushed ne. flushed-fence v x a who ok went is.last
-        (flushed-flush u v a who (at / 8) 1 is.flushes who is.agree_u (omega (arith, long_u)) (flushed-store_out s u a who at (value ∷ []) is.stores (apart a ne) flushed));
+        (flushed-flush u v who a who (at / 8) 1 is.flushes (flushed-store_out s u who a at (value ∷ []) is.stores (apart a ne) flushed));
   }
 
   abbrev At : ℕ → Type 0
@@ -102,6 +102,9 @@ module _ (who at value : ℕ) (s u v x : State) (ok : Bool) (is : Sets who at va
       let Q = Others who in
       let one : KeepsFlushed Q At s u = keeps-weaken Anyone Q (IsIn at 1) At s u (λ q other. tt) (λ a h. omega (arith, h.0, h.1)) (keeps-store s u at (value ∷ []) is.stores) in
       keeps-then Q At s v x (keeps-then Q At s u v one (keeps-flush Q At u v who (at / 8) 1 is.flushes)) (keeps-fence At v x who ok is.last)
+
+  pub settles_all : ok ≡ true → SettlesAll who s x
+  settles_all went = settles_word who at value s x others (done went)
 
 pub on_ok_map : {T E : Type 0} (r : Result T E) (P Q : Type 0) → (P → Q) → OnOk r P → OnOk r Q
 on_ok_map (Ok x) P Q f holds = f holds
