@@ -1,5 +1,5 @@
 -- Calls that flush, or settle, all that they store.
-use Rattle.std.proofs.Common.{◌≡◌, ◌≢◌, inl, inr, ⊎_elim, ℕ, ◌+◌, ◌-◌, ◌<◌, ◌≤◌, List, length, refl, sym, ◌∙◌, ap, subst, arith}
+use Rattle.std.proofs.Common.{◌≡◌, inl, inr, ⊎_elim, ℕ, ◌+◌, ◌-◌, ◌<◌, ◌≤◌, List, length, refl, sym, ◌∙◌, ap, subst, arith}
 use Rattle.std.proofs.lemmas.Bool.{cases_eq}
 use Rattle.pm_device.specs.State.{State, IsSame}
 use Rattle.pm_device.specs.Settled.{IsSettled, IsFlushed, KeepsFlushed, Anyone, Others, FlushesAll, SettlesAll}
@@ -8,7 +8,7 @@ use Rattle.pm_device.specs.Words.{IsIn}
 use Rattle.pm_device.specs.Lines.{StoresRun}
 use Rattle.pm_device.proofs.Calls.{settled_is_flushed}
 use Rattle.pm_device.proofs.Decided.{flushed_or_not, settled_or_not}
-use Rattle.pm_device.proofs.Flushed.{settled_same, flushed_same}
+use Rattle.pm_device.proofs.Flushed.{flushed_same}
 
 -- words of W were stored and are flushed
 pub flushes_words : (W : ℕ → Type 0) (who : ℕ) (s t : State) → KeepsFlushed Anyone W s t

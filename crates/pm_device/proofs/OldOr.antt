@@ -1,19 +1,20 @@
 -- What a crash leaves of words while fresh values are stored to them: an old value or a fresh one.
-use Rattle.std.proofs.Common.{◌≡◌, ◌≢◌, ◌⊎◌, inl, inr, ⊎_elim, ℕ, ◌+◌, ◌-◌, ◌<◌, ◌≤◌, List, [], ◌∷◌, ◌++◌, length, refl, sym, ◌∙◌, ap, subst}
+use Rattle.std.proofs.Common.{◌≡◌, ◌⊎◌, inl, inr, ⊎_elim, ℕ, ◌-◌, ◌<◌, ◌≤◌, List, [], ◌∷◌, ◌++◌, length, refl, sym, ◌∙◌, ap, subst}
 use Rattle.std.proofs.Common.{arith, length-append}
 use Rattle.std.specs.Prelude.{slice_index, Option, Some, None}
 use Rattle.std.proofs.lemmas.List.{get_or_append_left, get_or_at}
 use Rattle.std.proofs.lemmas.Bool.{cases_lt}
-use Rattle.pm_device.specs.Past.{Call, Stored, Word, Past, MayHold, Left, step, moment}
+use Rattle.pm_device.specs.Past.{Call, Stored, Word, Past, MayHold, step, moment}
 use Rattle.pm_device.specs.State.{State, Stores, IsSame, after, Agree}
-use Rattle.pm_device.specs.Settled.{Each, EachLeft, OfWord, IsSettled, MayLeave, LeavesOnly, LeavesNow, StoresOnly, Nowhere, IsOldOr, LeavesOldOr, word_now}
+use Rattle.pm_device.specs.Settled.{Each, EachLeft, OfWord, IsSettled, MayLeave, LeavesOnly, LeavesNow, StoresOnly, Nowhere, IsOldOr, LeavesOldOr}
+use Rattle.pm_device.specs.Settled.{word_now}
 use Rattle.pm_device.specs.Commit.{LeavesOneWord}
 use Rattle.pm_device.specs.Reading.{Stands}
 use Rattle.pm_device.specs.Words.{IsIn, cases_in, covers_in, covers_out}
 use Rattle.pm_device.specs.Pages.{SaysRun}
 use Rattle.pm_device.specs.Runs.{length-put_run}
 use Rattle.pm_device.proofs.Calls.{word_now-after, each_left-weaken, image_has}
-use Rattle.pm_device.proofs.Moments.{extends_same, extends_more, started, goes_on}
+use Rattle.pm_device.proofs.Moments.{started, goes_on}
 use Rattle.pm_device.proofs.OneWord.{settled_value}
 use Rattle.pm_device.proofs.Only.{left-extends, extends_then, stores_only-same}
 

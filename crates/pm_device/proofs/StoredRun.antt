@@ -1,8 +1,8 @@
 -- A run of words that is stored and flushed.
-use Rattle.std.proofs.Common.{◌≡◌, ℕ, ◌+◌, ◌-◌, ◌*◌, ◌<◌, ◌≤◌, List, length, ◌∙◌, ap, arith}
+use Rattle.std.proofs.Common.{◌≡◌, ℕ, ◌+◌, ◌-◌, ◌*◌, ◌≤◌, List, length, ◌∙◌, ap, arith}
 use Rattle.std.specs.Prelude.{slice_index}
 use Rattle.pm_device.specs.State.{State, Stores, Flushes, Agree}
-use Rattle.pm_device.specs.Settled.{StoresOnly, KeepsFlushed, Anyone, Nowhere, LeavesOldOr}
+use Rattle.pm_device.specs.Settled.{StoresOnly, Anyone, Nowhere, LeavesOldOr}
 use Rattle.pm_device.specs.Words.{IsIn}
 use Rattle.pm_device.specs.Pages.{SaysRun}
 use Rattle.pm_device.specs.Lines.{StoresRun}

@@ -1,4 +1,4 @@
-use Rattle.std.proofs.Common.{ℕ, ◌/◌, List, length, ◌∙◌, ap, arith, length-set}
+use Rattle.std.proofs.Common.{ℕ, List, length, ◌∙◌, ap, arith, length-set}
 use Rattle.std.specs.Prelude.{is_ok}
 use Rattle.pm_device.proofs.Committed.{on_ok}
 use Rattle.pm_device.proofs.SetWord.{Sets, leaves, done, settles_all, only, others}
@@ -13,7 +13,9 @@ flush-requires-clause-inside g c =
     omega (arith, c.requires.inside, long)
 
 -- the three calls
-sets : (g : _) (c : goal.After-fence g) → Sets c.args.who c.args.at c.args.value (g.D.Pm.state c.args.device.now) (g.D.Pm.state c.store.new.self) (g.D.Pm.state c.flush.new.self) (g.D.Pm.state c.fence.new.self) (is_ok c.fence.result)
+sets : (g : _) (c : goal.After-fence g)
+    → Sets c.args.who c.args.at c.args.value (g.D.Pm.state c.args.device.now)
+    (g.D.Pm.state c.store.new.self) (g.D.Pm.state c.flush.new.self) (g.D.Pm.state c.fence.new.self) (is_ok c.fence.result)
 sets g c = let agree = g.met.D.Pm.agree in record {
   inside = omega (arith, c.requires.inside);
   stores = c.store.ensures.stores;
