@@ -1,6 +1,8 @@
 // What an event answers, and what it tells of counts.
 use dn_model::Reply;
 
+pub use dn_model::CountChange;
+
 /// The answer of an event.
 #[derive(Debug, Drop)]
 pub enum Outcome {
@@ -29,13 +31,4 @@ pub enum Outcome {
     NoMemory,
     /// A fence of the device failed, now or before.
     Stopped,
-}
-
-/// A count word that changed.
-#[derive(Clone, Copy, Debug, PartialEq, Eq)]
-pub struct CountChange {
-    /// The slot of the row.
-    pub slot: u64,
-    /// The new count word.
-    pub word: u64,
 }
