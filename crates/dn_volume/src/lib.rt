@@ -11,8 +11,8 @@ pub mod outcome;
 pub mod rest;
 pub mod volume;
 
-pub use dn_model::{CLIENTS, DAEMON, MOST_RELEASES, RECLAIM};
 pub use background::{DyingPlace, Reclaiming, Sharing, SharingStep};
+pub use dn_model::{CLIENTS, DAEMON, MOST_RELEASES, RECLAIM};
 pub use flight::{Change, DataChange, Flight, NameChange, Turn};
 pub use outcome::{CountChange, Outcome};
 pub use volume::{InodeState, InodeUse, Parts, Room, Volume};

@@ -1,7 +1,6 @@
 // What an event answers, and what it tells of counts.
-use dn_model::Reply;
-
 pub use dn_model::CountChange;
+use dn_model::Reply;
 
 /// The answer of an event.
 #[derive(Debug, Drop)]
