@@ -1,5 +1,5 @@
 -- What the tests' entries are to other numbers.
-use Rattle.std.proofs.Common.{◌≡◌, ◌≢◌, ℕ, ◌+◌, List, ◌∷◌, ◌++◌, [], map, replicate, sym, refl, ap, ◌∙◌, subst, ne_eqb, zero, suc, arith, All, append-nil}
+use Rattle.std.proofs.Common.{◌≡◌, ◌≢◌, ℕ, ◌+◌, ◌<◌, get_or, List, ◌∷◌, ◌++◌, [], map, replicate, sym, refl, ap, ◌∙◌, subst, ne_eqb, zero, suc, arith, All, append-nil}
 use Rattle.std.proofs.lemmas.List.{replicate-append-replicate, map-append}
 use Rattle.count_board.specs.declared.told.Mark.{Mark}
 use Rattle.count_board.specs.declared.view.Account.{Account}
@@ -7,12 +7,15 @@ use Rattle.count_board.specs.declared.view.Seen.{Seen}
 use Rattle.count_board.specs.declared.view.Seen.TheVariants.{Count, Front, Turn}
 use Rattle.count_board.specs.Reads.{counts_of, ReadsFit}
 use Rattle.count_board.specs.Ends.{Settles, AllSettle, Ends}
-use Rattle.count_board.specs.Passes.{account}
+use Rattle.count_board.specs.Passes.{account, IsAway, Leads}
 use Rattle.count_board.specs.declared.pass.Pass.{Pass}
+use Rattle.count_board.specs.declared.board.Board.{Board}
+use Rattle.count_board.specs.Boards.{IsPassOf, AreItsPasses}
 use Rattle.count_board.proofs.Fitting.{counts_of-append, counts_fit}
 use Rattle.board_tests.specs.declared.tally.Tally.{Tally}
 use Rattle.count_board.specs.Told.{Told, entries_by}
-use Rattle.board_tests.specs.Trial.{by, counts, HasDone, Stands}
+use Rattle.board_tests.specs.Kinds.{by}
+use Rattle.board_tests.specs.Trial.{counts, HasDone, Stands, IsFirst, IsSecond}
 
 pub none_by : (n k : ℕ) → k ≢ n → entries_by k (by n ∷ []) ≡ []
 none_by n k ne = rw (ne_eqb n k (λ e. ne (sym e))) refl
@@ -53,14 +56,27 @@ both_settle : (words : Tally → List ℕ) (told : Tally → Told) (fact : Tally
 both_settle words told fact base x n items p q e is = let each : AllSettle words told fact base x (account p ∷ account q ∷ []) = subst (λ (l : List (Pass Tally)). AllSettle words told fact base x (map account l)) is e.each in
     (each.0, each.1.0)
 
-pub first_stands : (words : Tally → List ℕ) (told : Tally → Told) (fact : Tally → Tally → Type 0) (base x : Tally) (n : ℕ) (items : List (Pass Tally)) (p q : Pass Tally) (number number' made : ℕ) (read : List ℕ)
+pub head_stands : (words : Tally → List ℕ) (told : Tally → Told) (fact : Tally → Tally → Type 0) (base x : Tally) (n : ℕ) (items : List (Pass Tally)) (p q : Pass Tally) (number number' made : ℕ) (read : List ℕ)
     → Ends words told fact base x n (map account items) → items ≡ p ∷ q ∷ [] → words base ≡ 0 ∷ 0 ∷ [] → number' ≡ number → HasDone number' made read (account p)
     → Stands number made read (told x).entries (told x).trace
-first_stands words told fact base x n items p q number number' made read e is zeros same d =
+head_stands words told fact base x n items p q number number' made read e is zeros same d =
     stands told words fact base x (account p) number made read zeros (both_settle words told fact base x n items p q e is).0 (subst (λ (k : ℕ). HasDone k made read (account p)) same d)
 
-pub second_stands : (words : Tally → List ℕ) (told : Tally → Told) (fact : Tally → Tally → Type 0) (base x : Tally) (n : ℕ) (items : List (Pass Tally)) (p q : Pass Tally) (number number' made : ℕ) (read : List ℕ)
+pub next_stands : (words : Tally → List ℕ) (told : Tally → Told) (fact : Tally → Tally → Type 0) (base x : Tally) (n : ℕ) (items : List (Pass Tally)) (p q : Pass Tally) (number number' made : ℕ) (read : List ℕ)
     → Ends words told fact base x n (map account items) → items ≡ p ∷ q ∷ [] → words base ≡ 0 ∷ 0 ∷ [] → number' ≡ number → HasDone number' made read (account q)
     → Stands number made read (told x).entries (told x).trace
-second_stands words told fact base x n items p q number number' made read e is zeros same d =
+next_stands words told fact base x n items p q number number' made read e is zeros same d =
     stands told words fact base x (account q) number made read zeros (both_settle words told fact base x n items p q e is).1 (subst (λ (k : ℕ). HasDone k made read (account q)) same d)
+
+-- both passes, the second one first
+pub all_two : (b : Board Tally) (items : List (Pass Tally)) (first second : Pass Tally) → items ≡ second ∷ first ∷ [] → IsFirst b first → IsSecond b second
+    → AreItsPasses b items
+all_two b items first second is f s = subst (AreItsPasses b) (sym is) record { each = at; first = (1, (omega arith, λ d. f.3)) }
+  where
+    at : (k : ℕ) (d : Pass Tally) → k < 2 → IsPassOf b (get_or (second ∷ first ∷ []) k d) × IsAway (get_or (second ∷ first ∷ []) k d) × Leads 2 (get_or (second ∷ first ∷ []) k d)
+    at zero d lt = (s.0, s.1, λ one. absurd (not_one one))
+      where
+        not_one : (account second).number ≡ 1 → ⊥
+        not_one one = let two = s.2 in omega arith
+    at (suc zero) d lt = (f.0, f.1, λ _. f.2)
+    at (suc (suc k)) d lt = absurd (omega arith)

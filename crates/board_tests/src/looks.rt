@@ -1,11 +1,11 @@
 //! A count word that one thread publishes and another sees, with no turn.
-ghost use Rattle.std.specs.Prelude.{◌≡◌, ◌<◌};
+ghost use Rattle.std.specs.Prelude.{◌<◌};
 ghost use Rattle.std.specs.Thread.{IsSync};
-ghost use Rattle.count_board.specs.Passes.{known, account, IsAway};
-ghost use Rattle.count_board.specs.Boards.{slots_of, IsPassOf};
+ghost use Rattle.count_board.specs.Boards.{slots_of};
+ghost use Rattle.board_tests.specs.Trial.{IsAwayOf, IsAgain};
 
 use crate::tally::Tally;
-use crate::turns::{bump, parted};
+use crate::turns::{bump, parted, together};
 use count_board::{Board, Pass};
 use std::alloc::{AllocError, Global};
 use std::sync::Wait;
@@ -14,9 +14,9 @@ use std::thread::{Threads, join};
 
 /// Looks at the word of slot 1 so many times at most, until it isn't 0.
 pub fn look_for(board: &Board<Tally>, pass: &mut Pass<Tally>, looks: u32) -> bool
-    requires own { IsPassOf board.now pass.old }
+    requires away { IsAwayOf board.now pass.old }
     requires inside { 1 < slots_of board.now }
-    ensures own { IsPassOf board.now pass.new }
+    ensures { IsAgain board.now pass.old pass.new }
 {
     for _ in 0..looks {
         if board.read_count(pass, 1).word() != 0 {
@@ -27,7 +27,17 @@ pub fn look_for(board: &Board<Tally>, pass: &mut Pass<Tally>, looks: u32) -> boo
     false
 }
 
+/// A pass after its looks, and whether it saw a word other than 0.
+#[derive(Drop)]
+pub struct Looked {
+    pub pass: Pass<Tally>,
+    pub seen: bool,
+}
+
 /// Whether a thread sees, in so many looks, the word that another one publishes.
+///
+/// # Errors
+/// `AllocError` where memory for the board is wanting.
 pub fn is_seen<R: Threads + Wait + Sync>(
     rt: &R,
     alloc: Global,
@@ -43,17 +53,25 @@ pub fn is_seen<R: Threads + Wait + Sync>(
         Err((error, _)) => return Err(error),
     };
     let board_ref = &board;
-    let (mut first, mut second, _) = parted(board_ref, passes);
-    let (_, seen) = join(
+    let (mut first, mut second, place) = parted(board_ref, passes);
+    let (worked, looked) = join(
         rt,
-        || -> u64
-            requires { IsSync R.row × IsPassOf board_ref.now first × IsAway first × (1 < slots_of board_ref.now) }
-            ensures { ◌≡◌ 0 0 }
-        { bump(rt, board_ref, &mut first, 1) },
-        || -> bool
-            requires { IsPassOf board_ref.now second × (1 < slots_of board_ref.now) }
-            ensures { ◌≡◌ 0 0 }
-        { look_for(board_ref, &mut second, looks) },
+        || -> Pass<Tally>
+            requires { IsSync R.row × IsAwayOf board_ref.now first × (1 < slots_of board_ref.now) }
+            ensures { IsAgain board_ref.entry.now first result }
+        {
+            bump(rt, board_ref, &mut first, 1);
+            first
+        },
+        || -> Looked
+            requires { IsAwayOf board_ref.now second × (1 < slots_of board_ref.now) }
+            ensures { IsAgain board_ref.entry.now second result.pass }
+        {
+            let seen = look_for(board_ref, &mut second, looks);
+            Looked { pass: second, seen }
+        },
     );
-    Ok(seen)
+    let passes = together(board_ref, worked, looked.pass, place);
+    board.close(passes);
+    Ok(looked.seen)
 }

@@ -1,10 +1,12 @@
 //! Turns with the value, by two threads.
-ghost use Rattle.std.specs.Prelude.{◌≡◌, ◌+◌, ◌<◌, ◌≤◌, IfOk, length, vec_capacity, ◌++◌, ◌∷◌, [], replicate};
+ghost use Rattle.std.specs.Prelude.{◌≡◌, ◌<◌, ◌≤◌, IfOk, vec_capacity, ◌∷◌, []};
 ghost use Rattle.std.specs.Thread.{IsSync};
-ghost use Rattle.count_board.specs.Passes.{account, known, IsAway};
-ghost use Rattle.count_board.specs.Boards.{slots_of, IsPassOf, AreNewPasses, AreItsPasses};
+ghost use Rattle.count_board.specs.Passes.{account};
+ghost use Rattle.count_board.specs.Boards.{slots_of, AreNewPasses, AreItsPasses};
 ghost use Rattle.count_board.specs.Reads.{counts_of};
-ghost use Rattle.board_tests.specs.Trial.{by, HasDone, Stands};
+ghost use Rattle.board_tests.specs.Kinds.{IsEven};
+ghost use Rattle.board_tests.specs.Trial.{IsAwayOf, IsAgain, AddsCalls, MayWork, Does};
+ghost use Rattle.board_tests.specs.Trial.{IsFirst, IsSecond, StandsIn};
 ghost use Rattle.count_board.specs.Kept.{new_account};
 
 use crate::tally::Tally;
@@ -15,15 +17,11 @@ use std::thread::{Threads, join};
 
 /// One turn, with one event where there is memory for it. It answers how many entries were made.
 pub fn bump<R: Wait>(rt: &R, board: &Board<Tally>, pass: &mut Pass<Tally>, slot: u64) -> u64
-    requires own { IsPassOf board.now pass.old }
-    requires away { IsAway pass.old }
+    requires away { IsAwayOf board.now pass.old }
     requires inside { slot < slots_of board.now }
-    ensures own { IsPassOf board.now pass.new }
-    ensures away { IsAway pass.new }
-    ensures lead { (known pass.new).lead ≡ (known pass.old).lead }
-    ensures calls { (account pass.new).calls ≡ (account pass.old).calls ++ replicate result (by (account pass.old).number) }
+    ensures again { IsAgain board.now pass.old pass.new }
+    ensures calls { AddsCalls result (account pass.old) (account pass.new) }
     ensures one { result ≤ 1 }
-    ensures number { (account pass.new).number ≡ (account pass.old).number }
     ensures counts { counts_of (account pass.new).seen ≡ counts_of (account pass.old).seen }
 {
     let mut value = board.take_turn(rt, pass);
@@ -41,7 +39,9 @@ pub fn bump<R: Wait>(rt: &R, board: &Board<Tally>, pass: &mut Pass<Tally>, slot:
 #[derive(Drop)]
 pub struct Worked {
     pub pass: Pass<Tally>,
+    /// How many entries it made.
     pub made: u64,
+    /// The words that it read of slot 1, in order.
     pub words: Vec<u64>,
 }
 
@@ -53,14 +53,9 @@ pub fn work<R: Wait>(
     mut pass: Pass<Tally>,
     turns: u32,
 ) -> Worked
-    requires own { IsPassOf board.now pass }
-    requires away { IsAway pass }
-    requires inside { 1 < slots_of board.now }
-    requires fresh { ((account pass).calls ≡ []) × (counts_of (account pass).seen ≡ []) }
-    ensures own { IsPassOf board.now result.pass }
-    ensures away { IsAway result.pass }
-    ensures lead { (known result.pass).lead ≡ (known pass).lead }
-    ensures done { HasDone (account pass).number result.made result.words.items (account result.pass) }
+    requires { MayWork board.now pass }
+    ensures again { IsAgain board.now pass result.pass }
+    ensures done { Does pass result.made result.words.items result.pass }
 {
     let mut words = Vec::new(alloc);
     let mut made = 0;
@@ -77,13 +72,13 @@ pub fn work<R: Wait>(
 }
 
 // The two passes of a new board, and the place for them.
-fn parted(
+pub(crate) fn parted(
     board: &Board<Tally>,
     mut passes: Vec<Pass<Tally>>,
 ) -> (Pass<Tally>, Pass<Tally>, Vec<Pass<Tally>>)
     requires { AreNewPasses board.now 2 passes.items }
-    ensures first { IsPassOf board.now result.0 × IsAway result.0 × ((known result.0).lead ≡ 2) }
-    ensures second { IsPassOf board.now result.1 × IsAway result.1 × ((known result.1).lead ≡ 0) }
+    ensures first { IsFirst board.now result.0 }
+    ensures second { IsSecond board.now result.1 }
     ensures fresh { (account result.0 ≡ new_account 1) × (account result.1 ≡ new_account 2) }
     ensures place { (result.2.items ≡ []) × (2 ≤ vec_capacity result.2) }
 {
@@ -92,20 +87,21 @@ fn parted(
     (first, second, passes)
 }
 
-fn together(
+// Both passes, the second one first.
+pub(crate) fn together(
     board: &Board<Tally>,
     first: Pass<Tally>,
     second: Pass<Tally>,
     mut passes: Vec<Pass<Tally>>,
 ) -> Vec<Pass<Tally>>
-    requires first { IsPassOf board.now first × IsAway first × ((known first).lead ≡ 2) }
-    requires second { IsPassOf board.now second × IsAway second × ((known second).lead ≡ 0) }
+    requires first { IsFirst board.now first }
+    requires second { IsSecond board.now second }
     requires place { (passes.items ≡ []) × (2 ≤ vec_capacity passes) }
     ensures all { AreItsPasses board.now result.items }
-    ensures items { result.items ≡ first ∷ second ∷ [] }
+    ensures items { result.items ≡ second ∷ first ∷ [] }
 {
-    passes.push_reserved(first);
     passes.push_reserved(second);
+    passes.push_reserved(first);
     passes
 }
 
@@ -119,15 +115,19 @@ pub struct Both {
     pub second_words: Vec<u64>,
 }
 
-/// Two threads take turns; then the value comes back. It has just the entries that they made, and what they read fits its changes.
+/// Two threads take so many turns each; then the value comes back. It has just the entries that they
+/// made, and what they read fits its changes.
+///
+/// # Errors
+/// `AllocError` where memory for the board is wanting.
 pub fn count_both<R: Threads + Wait + Sync>(
     rt: &R,
     alloc: Global,
     turns: u32,
 ) -> Result<Both, AllocError>
-    ensures value { IfOk result (λ b. (length b.value.entries.items ≡ b.value.made) × (length b.value.changes.items ≡ b.value.made)) }
-    ensures first { IfOk result (λ b. Stands 1 b.first_made b.first_words.items b.value.entries.items b.value.changes.items) }
-    ensures second { IfOk result (λ b. Stands 2 b.second_made b.second_words.items b.value.entries.items b.value.changes.items) }
+    ensures value { IfOk result (λ b. IsEven b.value) }
+    ensures first { IfOk result (λ b. StandsIn 1 b.first_made b.first_words.items b.value) }
+    ensures second { IfOk result (λ b. StandsIn 2 b.second_made b.second_words.items b.value) }
 {
     let value = Tally {
         entries: Vec::new(alloc),
@@ -143,14 +143,14 @@ pub fn count_both<R: Threads + Wait + Sync>(
     let (a, b) = join(
         rt,
         || -> Worked
-            requires { IsSync R.row × IsPassOf board_ref.now first × IsAway first × (1 < slots_of board_ref.now) × ((account first).calls ≡ []) × (counts_of (account first).seen ≡ []) }
-            ensures own { IsPassOf board_ref.entry.now result.pass × IsAway result.pass × ((known result.pass).lead ≡ (known first).lead) }
-            ensures done { HasDone (account first).number result.made result.words.items (account result.pass) }
+            requires { IsSync R.row × MayWork board_ref.now first }
+            ensures again { IsAgain board_ref.entry.now first result.pass }
+            ensures done { Does first result.made result.words.items result.pass }
         { work(rt, alloc, board_ref, first, turns) },
         || -> Worked
-            requires { IsSync R.row × IsPassOf board_ref.now second × IsAway second × (1 < slots_of board_ref.now) × ((account second).calls ≡ []) × (counts_of (account second).seen ≡ []) }
-            ensures own { IsPassOf board_ref.entry.now result.pass × IsAway result.pass × ((known result.pass).lead ≡ (known second).lead) }
-            ensures done { HasDone (account second).number result.made result.words.items (account result.pass) }
+            requires { IsSync R.row × MayWork board_ref.now second }
+            ensures again { IsAgain board_ref.entry.now second result.pass }
+            ensures done { Does second result.made result.words.items result.pass }
         { work(rt, alloc, board_ref, second, turns) },
     );
     let passes = together(board_ref, a.pass, b.pass, place);

@@ -1,6 +1,6 @@
 use Rattle.std.proofs.Common.{subst, sym}
 use Rattle.count_board.specs.Passes.{AreAll}
-use Rattle.board_tests.proofs.Members.{dealt_all}
+use Rattle.count_board.proofs.Members.{dealt_all}
 use Rattle.board_tests.proofs.many.sixteen_turns.Goals as goal
 
 pub turn_for_each-requires-clause-passes : goal.turn_for_each-requires-clause-passes

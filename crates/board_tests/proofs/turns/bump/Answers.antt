@@ -1,5 +1,5 @@
 use Rattle.std.proofs.Common.{arith, ◌≡◌, ◌+◌, ◌<◌, ◌∷◌, [], ℕ, length, refl, sym, ap, ◌∙◌, inl, inr, le_refl, length-append, append-nil}
-use Rattle.board_tests.specs.Trial.{by}
+use Rattle.board_tests.specs.Kinds.{by}
 use Rattle.count_board.specs.Boards.{slots_of}
 use Rattle.board_tests.proofs.Trials.{none_by, all_none, all_one, counts_of-turn}
 use Rattle.count_board.specs.Reads.{counts_of}
@@ -7,7 +7,7 @@ use Rattle.board_tests.proofs.turns.bump.Goals as goal
 
 pub give_turn-requires-clause-ready : goal.give_turn-requires-clause-ready
 give_turn-requires-clause-ready g c = let x = c.take_turn-value.result in let y = c.add.new.self in let took = c.take_turn-value.ensures in let n : ℕ = c.number.result in
-    let added = c.add.ensures.added c.if-add.true in let was = took.2.holds _ c.requires.own.1 in let was0 = was.0 in let was1 = was.1 in let made = added.2 in
+    let added = c.add.ensures.added c.if-add.true in let was = took.2.holds _ c.requires.away.0.1 in let was0 = was.0 in let was1 = was.1 in let made = added.2 in
     let long : length y.entries.items ≡ length x.entries.items + 1 = ap length added.0 ∙ length-append x.entries.items (by n ∷ []) in
     let wide : length y.changes.items ≡ length x.changes.items + 1 = ap length added.1 ∙ length-append x.changes.items (record { slot = c.args.slot; word = 7 } ∷ []) in record {
       taken = x;
@@ -27,7 +27,7 @@ give_turn-requires-clause-ready g c = let x = c.take_turn-value.result in let y 
 
 pub give_turn-requires-else-add-clause-ready : goal.give_turn-requires-else-add-clause-ready
 give_turn-requires-else-add-clause-ready g c = let x = c.take_turn-value.result in let y = c.add.new.self in let took = c.take_turn-value.ensures in
-    let same = c.add.ensures.unchanged c.if-add.false in let was = took.2.holds _ c.requires.own.1 in let made = same.2 in record {
+    let same = c.add.ensures.unchanged c.if-add.false in let was = took.2.holds _ c.requires.away.0.1 in let made = same.2 in record {
       taken = x;
       turn = (took.0, ap (λ v. v.stage) took.1.1);
       goes_on = record {

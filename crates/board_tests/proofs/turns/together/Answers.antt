@@ -1,16 +1,9 @@
-use Rattle.std.proofs.Common.{◌++◌, ◌∷◌, [], ap, ◌∙◌}
+use Rattle.std.proofs.Common.{◌≡◌, ℕ, ◌<◌, zero, suc, ◌++◌, ◌∷◌, [], List, length, get_or, arith, sym, ap, ◌∙◌, subst}
+use Rattle.board_tests.proofs.Trials.{all_two}
 use Rattle.board_tests.proofs.turns.together.Goals as goal
 
 pub returns : goal.returns
-returns c = let items = c.push_reserved-2.ensures.items ∙ ap (λ l. l ++ c.args.second ∷ []) (c.push_reserved.ensures.items ∙ ap (λ l. l ++ c.args.first ∷ []) c.requires.place.0) in record {
-  all = record {
-    first = c.args.first;
-    rest = c.args.second ∷ [];
-    passes_are = items;
-    own = c.requires.first.0;
-    away = c.requires.first.1;
-    lead = c.requires.first.2;
-    others = ((c.requires.second.0, c.requires.second.1, c.requires.second.2), tt);
-  };
+returns c = let items = c.push_reserved-2.ensures.items ∙ ap (λ l. l ++ c.args.first ∷ []) (c.push_reserved.ensures.items ∙ ap (λ l. l ++ c.args.second ∷ []) c.requires.place.0) in record {
+  all = all_two c.args.board.now _ c.args.first c.args.second items c.requires.first c.requires.second;
   items = items;
 }
