@@ -26,7 +26,8 @@ IsEven t = (length t.entries.items ≡ t.made) × (length t.changes.items ≡ t.
 
 -- after one more event
 abbrev pub IsOneMore : ℕ → CountChange → Tally → Tally → Type 0
-IsOneMore who change t t' = (t'.entries.items ≡ t.entries.items ++ by who ∷ []) × (t'.changes.items ≡ t.changes.items ++ change ∷ []) × (t'.made ≡ t.made + 1)
+IsOneMore who change t t' = (t'.entries.items ≡ t.entries.items ++ by who ∷ []) × (t'.changes.items ≡ t.changes.items ++ change ∷ [])
+    × (t'.made ≡ t.made + 1)
 
 -- the same entries and changes
 abbrev pub IsSame : Tally → Tally → Type 0

@@ -6,10 +6,13 @@ use Rattle.count_board.specs.Reads.{counts_of}
 use Rattle.board_tests.proofs.turns.bump.Goals as goal
 
 pub give_turn-requires-clause-ready : goal.give_turn-requires-clause-ready
-give_turn-requires-clause-ready g c = let x = c.take_turn-value.result in let y = c.add.new.self in let took = c.take_turn-value.ensures in let n : ℕ = c.number.result in
-    let added = c.add.ensures.added c.if-add.true in let was = took.2.holds _ c.requires.away.0.1 in let was0 = was.0 in let was1 = was.1 in let made = added.2 in
+give_turn-requires-clause-ready g c = let x = c.take_turn-value.result in let y = c.add.new.self in let took = c.take_turn-value.ensures in
+    let n : ℕ = c.number.result in
+    let added = c.add.ensures.added c.if-add.true in let was = took.2.holds _ c.requires.away.0.1 in let was0 = was.0 in let was1 = was.1 in
+    let made = added.2 in
     let long : length y.entries.items ≡ length x.entries.items + 1 = ap length added.0 ∙ length-append x.entries.items (by n ∷ []) in
-    let wide : length y.changes.items ≡ length x.changes.items + 1 = ap length added.1 ∙ length-append x.changes.items (record { slot = c.args.slot; word = 7 } ∷ []) in record {
+    let wide : length y.changes.items ≡ length x.changes.items + 1 = ap length added.1
+    ∙ length-append x.changes.items (record { slot = c.args.slot; word = 7 } ∷ []) in record {
       taken = x;
       turn = (took.0, ap (λ v. v.stage) took.1.1);
       goes_on = record {
@@ -48,5 +51,6 @@ returns-then-add-clause-counts g c = let took = c.take_turn-value.ensures in let
     ap (λ v. counts_of v.own.seen) gave.1 ∙ (counts_of-turn mid.seat.me.0.own.seen _ _ ∙ ap (λ v. counts_of v.own.seen) took.1.1)
 
 pub returns-else-add-clause-counts : goal.returns-else-add-clause-counts
-returns-else-add-clause-counts g c = let took = c.take_turn-value.ensures in let mid = c.take_turn-value.new.pass in let gave = c.give_turn-else-add.ensures in
+returns-else-add-clause-counts g c = let took = c.take_turn-value.ensures in let mid = c.take_turn-value.new.pass in let gave =
+    c.give_turn-else-add.ensures in
     ap (λ v. counts_of v.own.seen) gave.1 ∙ (counts_of-turn mid.seat.me.0.own.seen _ _ ∙ ap (λ v. counts_of v.own.seen) took.1.1)
