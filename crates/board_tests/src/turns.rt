@@ -45,7 +45,8 @@ pub struct Worked {
     pub words: Vec<u64>,
 }
 
-/// So many turns, each followed by a read of the front and of a count word, where there is memory for the words.
+/// So many turns, each followed by a read of the front and of a count word, where there is memory
+/// for the words.
 pub fn work<R: Wait>(
     rt: &R,
     alloc: Global,
@@ -115,8 +116,8 @@ pub struct Both {
     pub second_words: Vec<u64>,
 }
 
-/// Two threads take so many turns each; then the value comes back. It has just the entries that they
-/// made, and what they read fits its changes.
+/// Two threads take so many turns each; then the value comes back. It has just the entries that
+/// they made, and what they read fits its changes.
 ///
 /// # Errors
 /// `AllocError` where memory for the board is wanting.
