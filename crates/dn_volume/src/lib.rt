@@ -9,6 +9,7 @@ pub mod flight;
 pub mod laws;
 pub mod outcome;
 pub mod rest;
+pub mod units;
 pub mod volume;
 
 pub use background::{DyingPlace, Reclaiming, Sharing, SharingStep};
