@@ -19,8 +19,7 @@ use Rattle.inode_log.specs.Prepare.{IsToPrepare, CanPrepare, IsPreparedBy}
 use Rattle.law_write.specs.Writing.{Writes, IsStored, IsBlockWord}
 use Rattle.law_write.proofs.Unread.{prepared_unsaid, prepared_not_in}
 use Rattle.law_write.proofs.WriteEvent.{length-left, stands_for_read, stored_ready, written_images, written_stands}
-use Rattle.file_commit.specs.Commit.{IsItemWord}
-use Rattle.file_commit.specs.Append.{IsReadyToAppend, AppendsOnly}
+use Rattle.file_commit.specs.Append.{IsReadyToAppend, IsItemWord, AppendsOnly}
 
 module _ (g : Geometry) (who ino : ℕ) (fresh : List ℕ) (slots : List (List ℕ)) (d new : Disk) (event : Writes ino d new) (s : State) (is : IsReadyToAppend g who ino fresh slots d new event s) where
   used : IsUsed (d.inode ino).use_of

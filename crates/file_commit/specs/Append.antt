@@ -2,13 +2,14 @@
 use Rattle.std.specs.Prelude.{◌≡◌, ◌≢◌, ◌⊎◌, ℕ, ◌<◌, List, length}
 use Rattle.pm_device.specs.State.{State}
 use Rattle.pm_device.specs.Settled.{IsSettled, IsFlushed, LeavesOnly, StoresOnly}
-use Rattle.pm_device.specs.Reading.{Stands, IsReady}
+use Rattle.pm_device.specs.Reading.{Said, Stands, IsReady}
 use Rattle.pm_layout.specs.declared.Geometry.{Geometry}
+use Rattle.pm_layout.specs.Geometry.{inode_word}
 use Rattle.log_entry.specs.Spelling.{spelled}
+use Rattle.dn_model.specs.Growth.{Prepared}
 use Rattle.dn_model.specs.Disk.{Disk, DiskSays}
 use Rattle.dn_model.specs.Image.{StandsFor}
 use Rattle.law_write.specs.Writing.{Writes, WritesWell, IsBlockWord}
-use Rattle.file_commit.specs.Commit.{IsItemWord}
 
 -- The device stands for the old disk, and the event leads to the new one. The words of its pages stand, and are settled
 -- by this actor's next fence; the slots spell its items.
@@ -33,6 +34,10 @@ AppendsBetween g who ino fresh slots s t = (old new : Disk) (w : Writes ino old 
 -- in the end the device stands for the disk of after
 abbrev pub AppendsNew : Geometry → ℕ → ℕ → List ℕ → List (List ℕ) → State → State → Type 0
 AppendsNew g who ino fresh slots s t = (old new : Disk) (w : Writes ino old new) → IsReadyToAppend g who ino fresh slots old new w s → Stands (DiskSays new) t
+
+-- a word past the log's tail that is prepared, or the tail
+abbrev pub IsItemWord : ℕ → Disk → Disk → ℕ → Type 0
+IsItemWord ino old new a = Said (Prepared ino (old.inode ino).log (new.inode ino).log) a ⊎ (a ≡ inode_word ino 2)
 
 -- only words of the items and the tail are stored to, and what others had flushed elsewhere is flushed still
 pub record AppendsOnly (who ino : ℕ) (old new : Disk) (s t : State) : Type 0 where

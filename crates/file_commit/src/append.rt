@@ -4,11 +4,13 @@ ghost use Rattle.pm_device.specs.State.{Rose};
 ghost use Rattle.pm_layout.specs.Geometry.{IsAccepted};
 ghost use Rattle.file_commit.specs.Append.{CanAppend, AppendsBetween, AppendsNew, AppendsThere, SettlesItems};
 
-use crate::commit::COMMIT_UNITS;
 use inode_log::commit_log;
 use inode_log::prepare::{PREPARE_UNITS, prepare};
 use pm_device::{Failed, Pm};
 use pm_layout::Geometry;
+
+/// The units of the device that `append_items` uses beside `PREPARE_UNITS` for each slot and each fresh page.
+pub const COMMIT_UNITS: u64 = 4;
 
 /// Appends the slots of items to the log of a file, on these fresh pages where its last page has no room, and makes them
 /// part of the log by one store of its tail (NOVA, FAST 2016).
