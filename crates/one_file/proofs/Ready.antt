@@ -12,7 +12,7 @@ use Rattle.pm_device.specs.State.{State}
 use Rattle.pm_device.specs.Reading.{Stands}
 use Rattle.pm_layout.specs.declared.Geometry.{Geometry}
 use Rattle.pm_layout.specs.Geometry.{directs, inode_word}
-use Rattle.page_alloc.specs.Free.{FreePages}
+use Rattle.page_alloc.specs.Free.{FreePages, IsInOrder}
 use Rattle.file_index.specs.Index.{Index}
 use Rattle.file_index.specs.declared.page_map.Mapping.{Mapping}
 use Rattle.log_entry.specs.Spelling.{pages_of, spelled}
@@ -33,11 +33,12 @@ use Rattle.file_content.specs.Runs.{seen, all_seen}
 use Rattle.file_content.specs.declared.runs.Run.{Run}
 use Rattle.file_write.specs.Take.{TakesForWrite}
 use Rattle.file_write.specs.Plan.{IsPlan}
-use Rattle.file_write.specs.Held.{IsHeld}
-use Rattle.file_write.specs.Store.{IsReadyToStore, KeepsRead}
+use Rattle.one_file.specs.Written.{IsHeld}
+use Rattle.one_file.specs.Store.{IsReadyToStore, KeepsRead}
 use Rattle.file_write.specs.declared.plan.WritePlan.{WritePlan}
 use Rattle.file_write.proofs.Planned.{touched-inside, runs-few}
-use Rattle.file_write.proofs.Stored.{touched_is}
+use Rattle.file_write.proofs.Taking.{takes-for_write}
+use Rattle.one_file.proofs.Stored.{touched_is}
 
 -- without chains there are no rows
 pub no_rows-rows : (d : Disk) → ((p : ℕ) → d.chain p ≡ []) → rows d ≡ []
@@ -65,8 +66,11 @@ log-room g log fresh runs paged some few is = by_test (nat_lt (room log) runs) r
         omega (arith, length-append log.pages fresh, is, le, paged.fits, some)
 
 module _ (g : Geometry) (ino size : ℕ) (index : FinMap nat_cmp Mapping) (set mid : FreePages) (at : ℕ) (text : List ℕ) (d : Disk) (s : State) (plan : WritePlan)
-    (held : IsHeld g ino size index set d s) (is : IsPlan size at (length text) (room (d.inode ino).log) set mid plan)
+    (held : IsHeld g ino size index set d s) (is : IsPlan size at (length text) (room (d.inode ino).log) set mid plan) (order : IsInOrder set) (enough : 2 ≤ length mid.free)
     (some : 1 ≤ length text) (few : length text ≤ 65536) (fits : at + length text ≤ 16777216) where
+  pub takes : TakesForWrite set mid plan.fresh.items plan.spare.items plan.blocks.items
+  takes = takes-for_write set mid plan.fresh.items plan.spare.items plan.blocks.items order is.takes enough
+
   used : IsUsed (d.inode ino).use_of
   used = subst IsUsed (sym held.file.live) tt
 
@@ -106,10 +110,10 @@ module _ (g : Geometry) (ino size : ℕ) (index : FinMap nat_cmp Mapping) (set m
 
   is-left : (p : ℕ) → Contains mid.free p → IsLeft d plan.fresh.items (all_seen plan.runs.items) p
   is-left p there =
-      let was = (is.takes.rest p).0 there in
+      let was = (takes.rest p).0 there in
       record {
         free = (held.free p).0 was.0;
-        no_block = λ i lt e. was.2 (subst (Contains plan.blocks.items) e (block-in i lt));
+        no_block = λ i lt e. was.3 (subst (Contains plan.blocks.items) e (block-in i lt));
         not_fresh = was.1;
       }
 
@@ -123,15 +127,15 @@ module _ (g : Geometry) (ino size : ℕ) (index : FinMap nat_cmp Mapping) (set m
     chained = is.cut.chained;
     in_size = omega (arith, in-size, is.cut.places);
     small = new-size;
-    blocks = λ i lt. unused-of (block_at (all_seen plan.runs.items) i) (is.takes.blocks_free (block_at (all_seen plan.runs.items) i) (block-in i lt));
-    blocks_apart = λ i j il jl e. is.takes.blocks_apart i j (at-block i il) (at-block j jl) (sym (is.cut.blocks i (at-block i il)) ∙ e ∙ is.cut.blocks j (at-block j jl));
-    fresh_unused = λ p c. unused-of p (is.takes.fresh_free p c);
-    fresh_apart = is.takes.fresh_apart;
-    apart = λ i lt c. is.takes.between (block_at (all_seen plan.runs.items) i) (block-in i lt) c;
+    blocks = λ i lt. unused-of (block_at (all_seen plan.runs.items) i) (takes.blocks_free (block_at (all_seen plan.runs.items) i) (block-in i lt));
+    blocks_apart = λ i j il jl e. takes.blocks_apart i j (at-block i il) (at-block j jl) (sym (is.cut.blocks i (at-block i il)) ∙ e ∙ is.cut.blocks j (at-block j jl));
+    fresh_unused = λ p c. unused-of p (takes.fresh_free p c);
+    fresh_apart = takes.fresh_apart;
+    apart = λ i lt c. takes.between (block_at (all_seen plan.runs.items) i) (block-in i lt) c;
     room = subst (λ (n : ℕ). length ((d.inode ino).log.pages ++ plan.fresh.items) ≡ (count (d.inode ino).log + n + 62) / 63) (sym (length-map plan.runs.items seen))
         (log-room d.geometry (d.inode ino).log plan.fresh.items (length plan.runs.items) paged some-runs few-runs is.log_page);
     words = keeps;
-    left = let t = is.takes.left in (t.0, t.1, t.2, is-left t.0 t.3, is-left t.1 t.4);
+    left = let t = takes.left in (t.0, t.1, t.2, is-left t.0 t.3, is-left t.1 t.4);
   }
 
   few-fresh : length plan.fresh.items ≤ 1

@@ -9,7 +9,7 @@ use Rattle.std.proofs.lemmas.List.Folds.{list_any_at, list_any_none}
 use Rattle.std.proofs.lemmas.List.{get_or_default}
 use Rattle.std.proofs.lemmas.Bool.{cases_lt}
 use Rattle.pm_device.specs.State.{State, Agree}
-use Rattle.pm_device.specs.Settled.{StoresOnly, LeavesOnly, IsSettled}
+use Rattle.pm_device.specs.Settled.{StoresOnly, LeavesOnly, IsFlushed}
 use Rattle.pm_device.specs.Reading.{Stands}
 use Rattle.pm_device.specs.Pages.{IsInPage}
 use Rattle.pm_device.proofs.OneWord.{stands-stores}
@@ -27,7 +27,7 @@ use Rattle.dn_model.specs.Apply.{after_op}
 use Rattle.dn_model.specs.History.{touched}
 use Rattle.dn_model.specs.declared.op.Op.TheVariants.{Write}
 use Rattle.law_write.specs.Events.{IsReadPage, IsUnused}
-use Rattle.law_write.specs.Writing.{Writes, WritesWell, WritesBytes}
+use Rattle.law_write.specs.Writing.{Writes, WritesWell, WritesBytes, IsBlockWord}
 use Rattle.law_write.specs.Runs.{Run as DiskRun, places_in, block_at}
 use Rattle.law_write.specs.MayWrite.{MayWrite, written_disk}
 use Rattle.law_write.proofs.Unread.{unused_unsaid, unused_unread}
@@ -37,12 +37,12 @@ use Rattle.law_write.proofs.WriteEvent.{length-left, stands_for_read}
 use Rattle.law_write.proofs.WriteFiles.{files-written}
 use Rattle.law_write.proofs.WriteOwn.{own-written}
 use Rattle.law_write.proofs.WrittenDisk.{written-writes, written-well_without_rows}
-use Rattle.file_commit.specs.Commit.{IsReadyToCommit, CanCommit}
-use Rattle.file_content.specs.Content.{IsFileOf, IsFilled, AreBlocksIn, merged_byte}
+use Rattle.file_commit.specs.Append.{IsReadyToAppend}
+use Rattle.file_content.specs.Content.{IsFileOf, IsFilledBy, AreBlocksIn, merged_byte}
 use Rattle.file_content.specs.Pages.{IsInPages, AreApart, AreFilled}
 use Rattle.file_content.specs.Runs.{all_seen}
-use Rattle.file_write.specs.Held.{IsWritten, IsOldOrWritten, is_old, is_new, LeavesWrite}
-use Rattle.file_write.specs.Store.{IsReadyToStore, CanStore, HasStored, KeepsRead, planned_disk}
+use Rattle.one_file.specs.Written.{IsWritten, IsOldOrWritten, is_old, is_new, LeavesWrite}
+use Rattle.one_file.specs.Store.{IsReadyToStore, CanStore, HasStored, KeepsRead, planned_disk}
 use Rattle.file_write.specs.declared.plan.WritePlan.{WritePlan}
 
 -- the words of these pages as they are read now, and those of other pages as they were
@@ -127,7 +127,7 @@ module _ (g : Geometry) (ino size : ℕ) (map : FinMap nat_cmp Mapping) (at : �
     }
 
     -- once they are filled
-    module _ (filled : AreFilled g map size plan.first at text blocks (length blocks) s f) where
+    module _ (who : ℕ) (filled : AreFilled g who map size plan.first at text blocks (length blocks) s f) where
       abbrev pub word : ℕ → ℕ → ℕ
       word = words_now d blocks f.now
 
@@ -146,21 +146,30 @@ module _ (g : Geometry) (ino size : ℕ) (map : FinMap nat_cmp Mapping) (at : �
       pub well : WritesWell ino d new event
       well = written-well_without_rows d ino plan.fresh.items plan.first plan.size runs word may is.no_rows
 
-      page_of : (i : ℕ) → i < length blocks → IsFilled f (slice_index blocks i) (bytes d ino) (plan.first + i) at text
+      page_of : (i : ℕ) → i < length blocks → IsFilledBy who f (slice_index blocks i) (λ k. merged_byte (bytes d ino) at text (4096 * (plan.first + i) + k))
       page_of i lt = filled.filled d ino is.file is.valid is.geometry is.stands unused i lt
 
       back : (i : ℕ) → i < places_in runs → i < length blocks
       back i lt = omega (arith, is.covers, lt)
 
-      pub ready : IsReadyToCommit g ino plan.fresh.items plan.slots.items d plan.first plan.size runs word f
-      ready = record {
+      pub ready : length s.now ≡ 512 * g.pages → IsReadyToAppend g who ino plan.fresh.items plan.slots.items d new event f
+      ready long = record {
         geometry = is.geometry;
-        may = may;
-        near = well.near;
+        well = well;
         stands = stands_f;
-        reads = λ i k lt small. subst (λ (p : ℕ). slice_index f.now (512 * p + k) ≡ word p k) (sym (is.blocks i (back i lt))) (sym (words-here d blocks f.now i k (back i lt)));
-        durable = λ i k lt small. subst (λ (p : ℕ). IsSettled f (512 * p + k)) (sym (is.blocks i (back i lt))) ((page_of i (back i lt)).settled k small);
+        ready = record {
+          within = λ a v b.
+              let lt : block_at runs b.i < g.pages = subst (λ (p : ℕ). p < g.pages) (sym (is.blocks b.i (back b.i b.below))) (blocks-inside b.i (back b.i b.below)) in
+              omega (arith, b.place, b.in_page, lt, only.words, long);
+          reads = λ a v b.
+              ap (slice_index f.now) b.place
+              ∙ subst (λ (p : ℕ). slice_index f.now (512 * p + b.k) ≡ word p b.k) (sym (is.blocks b.i (back b.i b.below))) (sym (words-here d blocks f.now b.i b.k (back b.i b.below)))
+              ∙ sym (with_log-word d ino _ word (block_at runs b.i) b.k) ∙ sym b.value;
+          flushed = λ a v b. subst (IsFlushed who f) (sym b.place)
+              (subst (λ (p : ℕ). IsFlushed who f (512 * p + b.k)) (sym (is.blocks b.i (back b.i b.below))) ((page_of b.i (back b.i b.below)).flushed b.k b.in_page));
+        };
         slots_are = is.slots;
+        fresh_are = refl;
       }
 
       byte_is : (i k : ℕ) → i < places_in runs → k < 4096 → byte_of new (block_at runs i) k ≡ merged_byte (bytes d ino) at text (4096 * (plan.first + i) + k)
@@ -168,7 +177,7 @@ module _ (g : Geometry) (ino size : ℕ) (map : FinMap nat_cmp Mapping) (at : �
           let b = is.blocks i (back i lt) in
           ap (λ (p : ℕ). byte_of new p k) b
           ∙ ap (λ (w : ℕ). w / 256 ^ (k % 8) % 256) (with_log-word d ino _ word (slice_index blocks i) (k / 8) ∙ words-here d blocks f.now i (k / 8) (back i lt))
-          ∙ (page_of i (back i lt)).bytes k small
+          ∙ (page_of i (back i lt)).bytes_are k small
 
       long-bytes : length (bytes d ino) ≡ size
       long-bytes = length-bytes d ino ∙ is.file.size_is

@@ -11,7 +11,7 @@ use Rattle.file_index.specs.declared.page_map.Mapping.{Mapping}
 use Rattle.dn_model.specs.Log.{IsPaged, count, tail_at, at_tail}
 use Rattle.dn_model.specs.Disk.{Disk, IsUsed, of_logs}
 use Rattle.dn_model.proofs.Regions.{inode_word_low}
-use Rattle.file_write.specs.Held.{IsHeld}
+use Rattle.one_file.specs.Written.{IsHeld}
 
 module _ (g : Geometry) (ino size : ℕ) (index : FinMap nat_cmp Mapping) (set : FreePages) (d : Disk) (s : State) (held : IsHeld g ino size index set d s) where
   used : IsUsed (d.inode ino).use_of

@@ -15,7 +15,7 @@ use Rattle.law_write.specs.Runs.{run_items, places_in, block_at}
 use Rattle.law_write.specs.MayWrite.{MayWrite, written_disk}
 use Rattle.file_content.specs.Content.{IsFileOf}
 use Rattle.file_content.specs.Runs.{all_seen}
-use Rattle.file_write.specs.Held.{IsWritten}
+use Rattle.one_file.specs.Written.{IsWritten}
 use Rattle.file_write.specs.declared.plan.WritePlan.{WritePlan}
 
 -- pages that the disk reads have their words

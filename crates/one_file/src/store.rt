@@ -3,13 +3,13 @@ ghost use Rattle.std.specs.Prelude.{◌≡◌, ◌+◌, ◌*◌, ◌<◌, ◌≤
 ghost use Rattle.pm_device.specs.State.{Rose};
 ghost use Rattle.pm_layout.specs.Geometry.{IsAccepted};
 ghost use Rattle.dn_model.specs.Disk.{Disk};
-ghost use Rattle.file_write.specs.Held.{LeavesWrite};
-ghost use Rattle.file_write.specs.Store.{CanStore, IsReadyToStore, HasStored};
+ghost use Rattle.one_file.specs.Written.{LeavesWrite};
+ghost use Rattle.one_file.specs.Store.{CanStore, IsReadyToStore, HasStored};
 
-use crate::plan::WritePlan;
-use file_commit::commit_runs;
+use file_commit::append_items;
 use file_content::fill_places;
 use file_index::PageMap;
+use file_write::plan::WritePlan;
 use pm_device::{Failed, Pm};
 use pm_layout::Geometry;
 
@@ -17,7 +17,8 @@ use pm_layout::Geometry;
 pub const WRITE_UNITS: u64 = 10000;
 
 /// Fills the pages of a planned write, each with the old bytes of its place and the text put in from byte `at` on, and
-/// makes them part of the file. It takes no memory.
+/// makes them part of the file. It takes no memory. Where no fence fails there are two: that of the pages and the items,
+/// and that of the tail.
 ///
 /// # Errors
 /// `Failed` where a fence of the device failed. A stop then leaves an image of before the write, or of after it.
@@ -55,6 +56,6 @@ pub(crate) fn store_write<D: Pm>(
         at,
         text,
         &plan.blocks,
-    )?;
-    commit_runs(device, g, who, ino, &plan.slots, &plan.fresh)
+    );
+    append_items(device, g, who, ino, &plan.slots, &plan.fresh)
 }

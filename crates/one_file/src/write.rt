@@ -3,14 +3,14 @@ ghost use Rattle.std.specs.Prelude.{◌≡◌, ◌+◌, ◌*◌, ◌<◌, ◌≤
 ghost use Rattle.pm_device.specs.State.{Rose};
 ghost use Rattle.pm_layout.specs.Geometry.{IsAccepted};
 ghost use Rattle.dn_model.specs.Disk.{Disk};
-ghost use Rattle.file_write.specs.Held.{IsHeld, CanWrite, HasWritten, LeavesWrite, LacksPages};
-ghost use Rattle.file_write.specs.Finish.{CanFinish, Finishes};
+ghost use Rattle.one_file.specs.Written.{IsHeld, CanWrite, HasWritten, LeavesWrite, LacksPages};
+ghost use Rattle.one_file.specs.Finish.{CanFinish, Finishes};
 
-use crate::plan::{RESERVE, WritePlan, pages_needed, plan_write};
 use crate::store::{WRITE_UNITS, store_write};
-use crate::take::{places_of, room_of};
 use file_content::remap::{give_back_overwritten, map_runs};
 use file_index::PageMap;
+use file_write::plan::{RESERVE, WritePlan, pages_needed, plan_write};
+use file_write::take::{give_back_spare, places_of, room_of};
 use page_alloc::FreeSet;
 use pm_device::Pm;
 use pm_layout::Geometry;
@@ -39,12 +39,14 @@ pub enum WriteFault {
     Stopped,
 }
 
-// What is kept in memory after a write that was stored: the pages that it overwrites are free, and its places are mapped.
+// What is kept in memory after a write that was stored: the pages that it overwrites and its spare one are free, and its
+// places are mapped.
 fn finish_write(free: &mut FreeSet, map: &mut PageMap, tail: u64, plan: &WritePlan)
     requires { CanFinish tail plan.now map.old free.old }
     ensures { Finishes tail plan.now map.old free.old map.new free.new }
 {
     give_back_overwritten(free, map, plan.first, plan.blocks.len() as u64);
+    give_back_spare(free, &plan.spare);
     map_runs(map, &plan.runs, tail, &plan.fresh);
 }
 
@@ -53,7 +55,7 @@ fn finish_write(free: &mut FreeSet, map: &mut PageMap, tail: u64, plan: &WritePl
 ///
 /// # Errors
 /// `NoSpace` exactly where the free pages are fewer than those that the write needs and the reserve of 4. Then nothing
-/// has changed. `NoMemory` where memory is wanting; then nothing was stored. `Stopped` where a fence of the device failed:
+/// has changed. `NoMemory` where memory is wanting; then nothing has changed either. `Stopped` where a fence of the device failed:
 /// a stop then leaves an image of before the write, or of after it.
 pub fn write_file<D: Pm>(
     alloc: Global,
@@ -76,7 +78,7 @@ pub fn write_file<D: Pm>(
     ensures written { IfOk result (λ grown. (d : Disk) → IsHeld g.now ino size map.old.map free.old d (D.state device.old) → HasWritten g.now ino grown map.new.map free.new at text.now d (D.state device.old) (D.state device.new)) }
     ensures no_space { (needed count : ℕ) → result ≡ Err (WriteFault.NoSpace needed count) → (d : Disk) → IsHeld g.now ino size map.old.map free.old d (D.state device.old) → LacksPages d ino at (length text.now) needed count free.old }
     ensures unchanged { (needed count : ℕ) → result ≡ Err (WriteFault.NoSpace needed count) → (D.state device.new ≡ D.state device.old) × (map.new ≡ map.old) × (free.new ≡ free.old) }
-    ensures no_memory { result ≡ Err WriteFault.NoMemory → D.state device.new ≡ D.state device.old }
+    ensures no_memory { result ≡ Err WriteFault.NoMemory → (D.state device.new ≡ D.state device.old) × (map.new.map ≡ map.old.map) × (free.new ≡ free.old) }
     ensures images { result ≡ Err WriteFault.Stopped → (d : Disk) → IsHeld g.now ino size map.old.map free.old d (D.state device.old) → LeavesWrite d ino at text.now (D.state device.old) (D.state device.new) }
     ensures stopped { result ≡ Err WriteFault.Stopped → Rose (D.state device.old).faults (D.state device.new).faults }
     ensures faults { (D.state device.old).faults ≤ (D.state device.new).faults }

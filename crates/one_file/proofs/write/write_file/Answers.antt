@@ -8,13 +8,13 @@ use Rattle.file_index.specs.declared.page_map.Mapping.{Mapping}
 use Rattle.dn_model.specs.Disk.{Disk}
 use Rattle.dn_model.specs.History.{room, touched, extra}
 use Rattle.file_write.specs.Plan.{IsPlan}
-use Rattle.file_write.specs.Held.{IsHeld, HasWritten, LacksPages, LeavesWrite}
-use Rattle.file_write.specs.declared.write.WriteFault.{WriteFault}
-use Rattle.file_write.specs.declared.write.WriteFault.TheVariants.{NoSpace}
-use Rattle.file_write.proofs.Log.{log-paged, tail-is, tail-inside}
-use Rattle.file_write.proofs.Ready.{ready-to-store}
-use Rattle.file_write.proofs.Finished.{can-finish, has-written, lacks}
-use Rattle.file_write.proofs.write.write_file.Goals as goal
+use Rattle.one_file.specs.Written.{IsHeld, HasWritten, LacksPages, LeavesWrite}
+use Rattle.one_file.specs.declared.write.WriteFault.{WriteFault}
+use Rattle.one_file.specs.declared.write.WriteFault.TheVariants.{NoSpace}
+use Rattle.one_file.proofs.Log.{log-paged, tail-is, tail-inside}
+use Rattle.one_file.proofs.Ready.{ready-to-store}
+use Rattle.one_file.proofs.Finished.{can-finish, has-written, lacks, left-two}
+use Rattle.one_file.proofs.write.write_file.Goals as goal
 
 abbrev the_error : WriteFault → Result ℕ WriteFault
 the_error fault = Err fault
@@ -42,35 +42,43 @@ store_write-requires-clause-can g c =
     let can = c.requires.can in let d = can.disk in
     let tail = tail-is _ _ _ _ _ d _ can.held c.load-tail.result (c.load-tail.ensures ∙ ap (slice_index (g.D.Pm.state c.args.device.now).now) c.inode_word.ensures) in
     let room_is = c.room_of-room.ensures.room d.geometry (d.inode c.args.ino).log (log-paged _ _ _ _ _ d _ can.held) tail in
-    let plan = subst (λ (r : ℕ). IsPlan c.args.size c.args.at (length c.args.text.now) r c.args.free.now c.plan_write.new.free c.in-Ok-plan_write.plan) room_is c.in-Ok-plan_write.ensures in
+    let plan = subst (λ (r : ℕ). IsPlan c.args.size c.args.at (length c.args.text.now) r c.args.free.now c.plan_write.new.free c.in-Ok-plan_write.plan) room_is c.in-Ok-plan_write.ensures.plan in
     let held = subst (λ (m : FinMap nat_cmp Mapping). IsHeld c.args.g.now c.args.ino c.args.size m c.args.free.now d (g.D.Pm.state c.args.device.now)) (sym c.in-Ok.ensures.map) can.held in
-    record { disk = d; is = ready-to-store _ _ _ _ _ _ c.args.at c.args.text.now d _ _ held plan c.requires.some c.requires.few c.requires.fits }
+    record {
+      disk = d;
+      is = ready-to-store _ _ _ _ _ _ c.args.at c.args.text.now d _ _ held plan c.count.ensures.in_order (left-two c.args.size c.args.at (length c.args.text.now) c.room_of-room.result c.places_of-places.result c.pages_needed-needed.result c.count.result c.args.free.now c.plan_write.new.free c.in-Ok-plan_write.plan
+          c.in-Ok-plan_write.ensures.plan c.places_of-places.ensures c.pages_needed-needed.ensures c.if-count-needed.false c.count.ensures.count) c.requires.some c.requires.few c.requires.fits;
+    }
 
 pub returns-in_default-store_write-clause-images :
     goal.returns-in_default-store_write-clause-images
 returns-in_default-store_write-clause-images g c = λ is d held0.
     let tail = tail-is _ _ _ _ _ d _ held0 c.load-tail.result (c.load-tail.ensures ∙ ap (slice_index (g.D.Pm.state c.args.device.now).now) c.inode_word.ensures) in
     let room_is = c.room_of-room.ensures.room d.geometry (d.inode c.args.ino).log (log-paged _ _ _ _ _ d _ held0) tail in
-    let plan = subst (λ (r : ℕ). IsPlan c.args.size c.args.at (length c.args.text.now) r c.args.free.now c.plan_write.new.free c.in-Ok-plan_write.plan) room_is c.in-Ok-plan_write.ensures in
+    let plan = subst (λ (r : ℕ). IsPlan c.args.size c.args.at (length c.args.text.now) r c.args.free.now c.plan_write.new.free c.in-Ok-plan_write.plan) room_is c.in-Ok-plan_write.ensures.plan in
     let held = subst (λ (m : FinMap nat_cmp Mapping). IsHeld c.args.g.now c.args.ino c.args.size m c.args.free.now d (g.D.Pm.state c.args.device.now)) (sym c.in-Ok.ensures.map) held0 in
-    c.store_write.ensures.images d (ready-to-store _ _ _ _ _ _ c.args.at c.args.text.now d _ _ held plan c.requires.some c.requires.few c.requires.fits)
+    c.store_write.ensures.images d (ready-to-store _ _ _ _ _ _ c.args.at c.args.text.now d _ _ held plan c.count.ensures.in_order (left-two c.args.size c.args.at (length c.args.text.now) c.room_of-room.result c.places_of-places.result c.pages_needed-needed.result c.count.result c.args.free.now c.plan_write.new.free c.in-Ok-plan_write.plan
+    c.in-Ok-plan_write.ensures.plan c.places_of-places.ensures c.pages_needed-needed.ensures c.if-count-needed.false c.count.ensures.count) c.requires.some c.requires.few c.requires.fits)
 
 pub finish_write-requires : goal.finish_write-requires
 finish_write-requires g c =
     let can = c.requires.can in let d = can.disk in
     let tail = tail-is _ _ _ _ _ d _ can.held c.load-tail.result (c.load-tail.ensures ∙ ap (slice_index (g.D.Pm.state c.args.device.now).now) c.inode_word.ensures) in
     let room_is = c.room_of-room.ensures.room d.geometry (d.inode c.args.ino).log (log-paged _ _ _ _ _ d _ can.held) tail in
-    let plan = subst (λ (r : ℕ). IsPlan c.args.size c.args.at (length c.args.text.now) r c.args.free.now c.plan_write.new.free c.in-Ok-plan_write.plan) room_is c.in-Ok-plan_write.ensures in
+    let plan = subst (λ (r : ℕ). IsPlan c.args.size c.args.at (length c.args.text.now) r c.args.free.now c.plan_write.new.free c.in-Ok-plan_write.plan) room_is c.in-Ok-plan_write.ensures.plan in
     let held = subst (λ (m : FinMap nat_cmp Mapping). IsHeld c.args.g.now c.args.ino c.args.size m c.args.free.now d (g.D.Pm.state c.args.device.now)) (sym c.in-Ok.ensures.map) can.held in
-    can-finish _ _ _ c.reserve.new.self _ c.plan_write.new.free c.args.at c.args.text.now d (g.D.Pm.state c.args.device.now) c.in-Ok-plan_write.plan held plan c.requires.some c.requires.few c.requires.fits c.load-tail.result tail
+    can-finish _ _ _ c.reserve.new.self _ c.plan_write.new.free c.args.at c.args.text.now d (g.D.Pm.state c.args.device.now) c.in-Ok-plan_write.plan held plan c.count.ensures.in_order (left-two c.args.size c.args.at (length c.args.text.now) c.room_of-room.result c.places_of-places.result c.pages_needed-needed.result c.count.result c.args.free.now c.plan_write.new.free c.in-Ok-plan_write.plan
+    c.in-Ok-plan_write.ensures.plan c.places_of-places.ensures c.pages_needed-needed.ensures c.if-count-needed.false c.count.ensures.count) c.requires.some c.requires.few c.requires.fits c.load-tail.result tail
     (omega (arith, plan.places, c.places_of-places.ensures, c.in-Ok.ensures.ok))
 
 pub returns-clause-written : goal.returns-clause-written
 returns-clause-written g c = λ d held0.
     let tail = tail-is _ _ _ _ _ d _ held0 c.load-tail.result (c.load-tail.ensures ∙ ap (slice_index (g.D.Pm.state c.args.device.now).now) c.inode_word.ensures) in
     let room_is = c.room_of-room.ensures.room d.geometry (d.inode c.args.ino).log (log-paged _ _ _ _ _ d _ held0) tail in
-    let plan = subst (λ (r : ℕ). IsPlan c.args.size c.args.at (length c.args.text.now) r c.args.free.now c.plan_write.new.free c.in-Ok-plan_write.plan) room_is c.in-Ok-plan_write.ensures in
+    let plan = subst (λ (r : ℕ). IsPlan c.args.size c.args.at (length c.args.text.now) r c.args.free.now c.plan_write.new.free c.in-Ok-plan_write.plan) room_is c.in-Ok-plan_write.ensures.plan in
     let held = subst (λ (m : FinMap nat_cmp Mapping). IsHeld c.args.g.now c.args.ino c.args.size m c.args.free.now d (g.D.Pm.state c.args.device.now)) (sym c.in-Ok.ensures.map) held0 in
-    let ready = ready-to-store _ _ _ _ _ _ c.args.at c.args.text.now d _ _ held plan c.requires.some c.requires.few c.requires.fits in
-    has-written _ _ _ c.reserve.new.self _ c.plan_write.new.free c.args.at c.args.text.now d (g.D.Pm.state c.args.device.now) c.in-Ok-plan_write.plan held plan c.requires.some c.requires.few c.requires.fits
+    let ready = ready-to-store _ _ _ _ _ _ c.args.at c.args.text.now d _ _ held plan c.count.ensures.in_order (left-two c.args.size c.args.at (length c.args.text.now) c.room_of-room.result c.places_of-places.result c.pages_needed-needed.result c.count.result c.args.free.now c.plan_write.new.free c.in-Ok-plan_write.plan
+    c.in-Ok-plan_write.ensures.plan c.places_of-places.ensures c.pages_needed-needed.ensures c.if-count-needed.false c.count.ensures.count) c.requires.some c.requires.few c.requires.fits in
+    has-written _ _ _ c.reserve.new.self _ c.plan_write.new.free c.args.at c.args.text.now d (g.D.Pm.state c.args.device.now) c.in-Ok-plan_write.plan held plan c.count.ensures.in_order (left-two c.args.size c.args.at (length c.args.text.now) c.room_of-room.result c.places_of-places.result c.pages_needed-needed.result c.count.result c.args.free.now c.plan_write.new.free c.in-Ok-plan_write.plan
+    c.in-Ok-plan_write.ensures.plan c.places_of-places.ensures c.pages_needed-needed.ensures c.if-count-needed.false c.count.ensures.count) c.requires.some c.requires.few c.requires.fits
     (g.D.Pm.state c.store_write.new.device) c.load-tail.result c.finish_write.new.map c.finish_write.new.free c.store_write.ensures.size (c.in-Ok-store_write.ensures.stored d ready) tail c.finish_write.ensures (c.store_write.ensures.images d ready)
