@@ -7,14 +7,14 @@ use Rattle.dn_model.specs.Files.{files}
 use Rattle.dn_model.specs.Faults.{HasFree}
 use Rattle.dn_model.specs.Own.{Print}
 use Rattle.dn_model.specs.Apply.{IsGranted}
-use Rattle.dn_model.specs.History.{Step, needed, reserve}
+use Rattle.dn_model.specs.History.{Step, needed, reserve, IsShortOfInodes}
 use Rattle.dn_model.specs.Course.{Course}
 use Rattle.dn_model.specs.OnCourse.{IsOnCourse}
 use Rattle.dn_model.specs.declared.op.Op.{Op}
 use Rattle.dn_model.specs.declared.op.Entry.{Entry}
 use Rattle.dn_model.specs.declared.op.Reply.{Reply}
 use Rattle.dn_model.specs.declared.op.Reply.TheVariants.{Refused}
-use Rattle.dn_model.specs.declared.op.Refusal.TheVariants.{NoSpace}
+use Rattle.dn_model.specs.declared.op.Refusal.TheVariants.{NoInode, NoSpace}
 
 -- the operation needs so many pages of this disk, which with the reserve are more than the free ones
 pub record LacksSpace (d : Disk) (op : Op) (need free : ℕ) : Type 0 where
@@ -24,10 +24,11 @@ pub record LacksSpace (d : Disk) (op : Op) (need free : ℕ) : Type 0 where
   pub count : HasFree d free
 
 -- From this disk the operation has this reply, and leaves that disk: the reply and the files are those of the
--- map from names to bytes, but where space is short.
+-- map from names to bytes, but where space or an inode is wanting.
 pub record IsStep (d : Disk) (op : Op) (reply : Reply) (d' : Disk) : Type 0 where
   pub step : Step (files d) op reply (files d')
   pub short : (need free : ℕ) → reply ≡ Refused (NoSpace need free) → LacksSpace d op need free
+  pub all_live : reply ≡ Refused NoInode → IsShortOfInodes d op
 
 -- one operation after another, of client 1
 pub data Runs : Disk → List Entry → Disk → Type 0 where

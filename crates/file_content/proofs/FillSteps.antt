@@ -25,10 +25,10 @@ use Rattle.file_content.specs.FillLoop.{FillsTo}
 use Rattle.file_content.proofs.Filling.{filled-whole}
 
 -- a page stays filled while another one is stored to
-pub filled-stores : (who : ℕ) (s t : State) (block page : ℕ) (byte : ℕ → ℕ) → block ≢ page → StoresOnly (IsInPage page) s t → KeepsFlushed Anyone (IsInPage page) s t → IsFilledBy who s block byte → IsFilledBy who t block byte
-filled-stores who s t block page byte differ only keeps filled = record {
+pub filled-stores : (who : ℕ) (s t : State) (block page : ℕ) (byte : ℕ → ℕ) → block ≢ page → 512 * block + 512 ≤ length s.now → StoresOnly (IsInPage page) s t → KeepsFlushed Anyone (IsInPage page) s t → IsFilledBy who s block byte → IsFilledBy who t block byte
+filled-stores who s t block page byte differ inside only keeps filled = record {
   bytes_are = λ k lt. ap (λ (w : ℕ). word_byte w (k % 8)) (only.read (512 * block + k / 8) (out (k / 8) (omega (arith, lt)))) ∙ filled.bytes_are k lt;
-  flushed = λ k lt. keeps.flushed who (512 * block + k) tt (out k lt) (filled.flushed k lt);
+  flushed = λ k lt. keeps.flushed who (512 * block + k) tt (out k lt) (omega (arith, lt, inside)) (filled.flushed k lt);
 }
   where
     out : (k : ℕ) → k < 512 → IsInPage page (512 * block + k) → ⊥
@@ -43,7 +43,7 @@ module _ (g : Geometry) (who : ℕ) (map : FinMap nat_cmp Mapping) (size first a
   still_stands d valid unused s t only stands =
       stands-stores (IsInPages pages) s t only (DiskSays d) (λ a v says here. unused_unsaid d valid (slice_index pages here.i) (unused here.i here.below) a v here.in_page says) stands
 
-  module _ (n : ℕ) (s t u : State) (lt : n < length pages) (to : FillsTo g who map size first at text pages n s t) (only : StoresOnly (IsInPage (slice_index pages n)) t u) where
+  module _ (n : ℕ) (s t u : State) (lt : n < length pages) (to : FillsTo g who map size first at text pages n s t) (only : StoresOnly (IsInPage (slice_index pages n)) t u) (long : length s.now ≡ 512 * g.pages) where
     wider : (a : ℕ) → IsInPage (slice_index pages n) a → IsInPages pages a
     wider a here = record { i = n; below = lt; in_page = here }
 
@@ -54,7 +54,8 @@ module _ (g : Geometry) (who : ℕ) (map : FinMap nat_cmp Mapping) (size first a
       pages_are = record {
         filled = λ d ino is valid same stands unused i below. elim (cases_lt i n) [
           | inl low ↦ filled-stores who t u (slice_index pages i) (slice_index pages n) (λ k. merged_byte (bytes d ino) at text (4096 * (first + i) + k))
-              (λ e. omega (arith, low, apart i n (omega (arith, low, lt)) lt e)) only keeps (to.pages_are.filled d ino is valid same stands unused i low)
+              (λ e. omega (arith, low, apart i n (omega (arith, low, lt)) lt e))
+              (omega (arith, (unused i (omega (arith, low, lt))).free.data_page.high, ap (λ (h : Geometry). h.pages) same, long, to.only.words)) only keeps (to.pages_are.filled d ino is valid same stands unused i low)
           | inr high ↦
               let here : n ≡ i = omega (arith, below, high) in
               subst (λ (j : ℕ). IsFilledBy who u (slice_index pages j) (λ k. merged_byte (bytes d ino) at text (4096 * (first + j) + k))) here

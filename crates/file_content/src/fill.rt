@@ -1,6 +1,6 @@
 // New pages of a file are filled.
 ghost use Rattle.std.specs.Prelude.{◌≡◌, ◌+◌, ◌*◌, ◌<◌, ◌≤◌, length, All};
-ghost use Rattle.pm_device.specs.Settled.{StoresOnly, KeepsFlushed, Anyone};
+ghost use Rattle.pm_device.specs.Settled.{StoresOnly, KeepsFlushed, Anyone, FlushesAll};
 ghost use Rattle.pm_device.specs.Pages.{IsInPage};
 ghost use Rattle.pm_layout.specs.Geometry.{IsAccepted};
 ghost use Rattle.file_content.specs.Content.{AreBlocksIn};
@@ -61,6 +61,7 @@ pub fn fill_place<D: Pm>(
     ensures filled { FillsPlace g.now who map.now.map size place at text.now block (D.state device.old) (D.state device.new) }
     ensures only { StoresOnly (IsInPage block) (D.state device.old) (D.state device.new) }
     ensures keeps { KeepsFlushed Anyone (IsInPage block) (D.state device.old) (D.state device.new) }
+    ensures flushes { FlushesAll who (D.state device.old) (D.state device.new) }
     ensures spare { (D.state device.old).spare ≤ (D.state device.new).spare + FILL_UNITS }
     ensures faults { (D.state device.old).faults ≤ (D.state device.new).faults }
 {

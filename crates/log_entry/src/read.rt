@@ -8,7 +8,7 @@ ghost use Rattle.log_entry.specs.Reading.{Agrees, byte_of, name_byte, name_bytes
 ghost use Rattle.log_entry.specs.declared.item.LogItem.{LogItem};
 
 use crate::item::{Flag, LogItem, is_spelled};
-use crate::name::{LONGEST_NAME, Name};
+use crate::name::{MOST_NAME, Name};
 use crate::write::{ADD, FORGET, SIZE, WRITE, slot_of, slots_of};
 use std::alloc::{AllocError, Global};
 
@@ -141,7 +141,7 @@ fn read_name(alloc: Global, slots: &[[u64; 8]]) -> Result<Option<Name>, AllocErr
     ensures none { IfOk result (λ found. IfNone found (IsLegal (name_bytes slots.now) → ⊥)) }
 {
     let length = slots[0][2];
-    if length > LONGEST_NAME as u64 {
+    if length > MOST_NAME as u64 {
         return Ok(None);
     }
     let bytes = read_bytes(alloc, slots, length)?;
