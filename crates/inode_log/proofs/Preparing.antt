@@ -5,10 +5,12 @@ use Rattle.std.proofs.lemmas.Bool.{cases_lt}
 use Rattle.std.proofs.lemmas.List.{get_or-append-add, get_or_default}
 use Rattle.std.proofs.lemmas.List.Concat.{flat_map-append}
 use Rattle.pm_device.specs.State.{State, Agree}
-use Rattle.pm_device.specs.Settled.{StoresOnly, IsFlushed}
+use Rattle.pm_device.specs.Settled.{StoresOnly, IsFlushed, KeepsFlushed, Anyone, FlushesAll}
 use Rattle.pm_device.specs.Words.{IsIn}
 use Rattle.pm_device.specs.Reading.{Said, IsReady}
 use Rattle.pm_device.specs.Lines.{StoresRun}
+use Rattle.pm_device.proofs.AllFlushed.{flushes_words}
+use Rattle.pm_device.proofs.Flushed.{keeps-none, keeps-then, keeps-weaken}
 use Rattle.pm_device.proofs.Only.{stores_only-then, stores_only-weaken, stores_only-none}
 use Rattle.pm_layout.specs.declared.Geometry.{Geometry}
 use Rattle.pm_layout.specs.Geometry.{InData, IsAccepted, inode_word}
@@ -30,7 +32,7 @@ module _ (who at : ℕ) (values : List ℕ) (F G : ℕ → ℕ → Type 0) (s t 
   ready-more = record {
     within = λ a v told. ⊎_elim (λ (old : F a v). omega (arith, ready.within a v old, stores.only.words)) (λ (new : New a v). omega (arith, new.1, new.2, inside, stores.only.words)) (cases a v told);
     reads = λ a v told. ⊎_elim (λ (old : F a v). stores.only.read a (apart a v old) ∙ ready.reads a v old) (λ (new : New a v). ap (slice_index t.now) new.2 ∙ stores.reads new.0 new.1 ∙ sym new.3) (cases a v told);
-    flushed = λ a v told. ⊎_elim (λ (old : F a v). stores.keeps who a (apart a v old) (ready.within a v old) (ready.flushed a v old)) (λ (new : New a v). subst (λ (b : ℕ). IsFlushed who t b) (sym new.2) (stores.flushed new.0 new.1)) (cases a v told);
+    flushed = λ a v told. ⊎_elim (λ (old : F a v). stores.keeps.flushed who a tt (apart a v old) (ready.within a v old) (ready.flushed a v old)) (λ (new : New a v). subst (λ (b : ℕ). IsFlushed who t b) (sym new.2) (stores.flushed new.0 new.1)) (cases a v told);
   }
 
 -- the tail's place
@@ -102,6 +104,12 @@ module _ (g : Geometry) (ino : ℕ) (slots : List (List ℕ)) (fresh : List ℕ)
       ∙ ap (λ (ss : List ℕ). slice_index ss j) (sym is_slot)
 
   module _ (who : ℕ) (s t : State) where
+    -- a run of what is prepared drops nothing that was flushed elsewhere
+    keeps_wider : (at : ℕ) (values : List ℕ) (s t : State) → KeepsFlushed Anyone (Said (Prepared ino old new)) s0 s → StoresRun who at values s t
+        → ((a : ℕ) → IsIn at (length values) a → Said (Prepared ino old new) a) → KeepsFlushed Anyone (Said (Prepared ino old new)) s0 t
+    keeps_wider at values s t so_far stores wider = keeps-then Anyone (Said (Prepared ino old new)) s0 s t so_far
+        (keeps-weaken Anyone Anyone (IsIn at (length values)) (Said (Prepared ino old new)) s t (λ q any. any) wider stores.keeps)
+
     -- the page of the next slot is the first one
     pub linked_first : (m tail used page : ℕ) → m ≡ 0 → m < count new → page ≡ slice_index fresh used → used + length old.pages ≡ (m + 62) / 63 → length s.now ≡ 512 * g.pages
         → IsPreparedTo who ino old new s0 m tail used s → StoresRun who (inode_word ino 1) (page ∷ []) s t → HasRoomAt who ino old new s0 m (64 * page) (used + 1) t
@@ -117,8 +125,8 @@ module _ (g : Geometry) (ino : ℕ) (slots : List (List ℕ)) (fresh : List ℕ)
           only = stores_only-then (Said (Prepared ino old new)) s0 s t so_far.only wide;
           ready = ready-more who (inode_word ino 1) (page ∷ []) (PreparedBelow ino old new m m) (PreparedBelow ino old new (m + 1) m) s t so_far.ready stores
               (omega (arith, inode_word_low g ino 1 in_table (omega arith), accepted.room)) (λ a v told inside. nothing a v told) cases;
-          keeps = λ q a out lt' flushed. stores.keeps q a (λ inside. out (record { value = slice_index new.pages 0; told = new_head none (omega arith) (omega (arith, inside.0, inside.1)) refl }))
-              (omega (arith, lt', so_far.only.words)) (so_far.keeps q a out lt' flushed);
+          keeps = keeps_wider (inode_word ino 1) (page ∷ []) s t so_far.keeps stores
+              (λ a inside. record { value = slice_index new.pages 0; told = new_head none (omega arith) (omega (arith, inside.0, inside.1)) refl });
         }
       where
         nothing : (a v : ℕ) → PreparedBelow ino old new m m a v → ⊥
@@ -144,7 +152,7 @@ module _ (g : Geometry) (ino : ℕ) (slots : List (List ℕ)) (fresh : List ℕ)
           only = stores_only-then (Said (Prepared ino old new)) s0 s t so_far.only wide;
           ready = ready-more who (footer_word new.pages (n / 63)) (page ∷ []) (PreparedBelow ino old new m m) (PreparedBelow ino old new (m + 1) m) s t so_far.ready stores
               (omega (arith, (in_data_at n (omega arith)).high)) apart cases;
-          keeps = λ q a out lt' flushed. stores.keeps q a (λ inside. out (told a inside)) (omega (arith, lt', so_far.only.words)) (so_far.keeps q a out lt' flushed);
+          keeps = keeps_wider (footer_word new.pages (n / 63)) (page ∷ []) s t so_far.keeps stores told;
         }
       where
         index : n / 63 + 1 ≡ m / 63
@@ -213,7 +221,7 @@ module _ (g : Geometry) (ino : ℕ) (slots : List (List ℕ)) (fresh : List ℕ)
       only = stores_only-then (Said (Prepared ino old new)) s0 s t so_far.only (stores_only-weaken (IsIn (8 * line) (length slot)) (Said (Prepared ino old new)) s t told stores.only);
       ready = ready-more who (8 * line) slot (PreparedBelow ino old new (m + 1) m) (PreparedBelow ino old new (m + 1) (m + 1)) s t so_far.ready stores
           (omega (arith, whole, so_far.line_is, (in_data_at m lt).high)) apart cases;
-      keeps = λ q a out lt' flushed. stores.keeps q a (λ inside. out (told a inside)) (omega (arith, lt', so_far.only.words)) (so_far.keeps q a out lt' flushed);
+      keeps = keeps_wider (8 * line) slot s t so_far.keeps stores told;
     }
       where
         told : (a : ℕ) → IsIn (8 * line) (length slot) a → Said (Prepared ino old new) a
@@ -246,7 +254,7 @@ module _ (g : Geometry) (ino : ℕ) (slots : List (List ℕ)) (fresh : List ℕ)
     used_are = omega (arith, is.paged.fits);
     only = stores_only-none (Said (Prepared ino old new)) s0 agree;
     ready = record { within = λ a v told. absurd (none_below a v told); reads = λ a v told. absurd (none_below a v told); flushed = λ a v told. absurd (none_below a v told) };
-    keeps = λ q a out lt flushed. flushed;
+    keeps = keeps-none Anyone (Said (Prepared ino old new)) s0;
   }
     where
       tail_old : (m : ℕ) → count old ≡ m → tail_at old.pages m ≡ tail_at new.pages m
@@ -266,6 +274,11 @@ module _ (g : Geometry) (ino : ℕ) (slots : List (List ℕ)) (fresh : List ℕ)
     where
       there : (a v : ℕ) → Prepared ino old new a v → PreparedBelow ino old new m m a v
       there a v told = subst (λ (n : ℕ). PreparedBelow ino old new n n a v) (sym all) (all_below a v told)
+
+-- all that is prepared is flushed
+pub prepared_flushes : (who ino : ℕ) (old new : Log) (s t : State) → IsPreparedBy who ino old new s t → FlushesAll who s t
+prepared_flushes who ino old new s t prepared =
+    flushes_words (Said (Prepared ino old new)) who s t prepared.keeps (λ a lt said. prepared.ready.flushed a said.value said.told)
 
 -- fresh pages suffice
 module _ (g : Geometry) (ino : ℕ) (slots : List (List ℕ)) (fresh : List ℕ) (old new : Log) (s0 : State) (is : IsToPrepare g ino slots fresh old new s0) where

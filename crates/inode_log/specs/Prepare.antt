@@ -1,9 +1,8 @@
 -- What is stored past a log's tail before the tail moves.
 use Rattle.std.specs.Prelude.{◌≡◌, ◌⊎◌, ℕ, ◌+◌, ◌*◌, ◌/◌, ◌%◌, ◌<◌, ◌≤◌, List, length, slice_index}
 use Rattle.pm_device.specs.State.{State}
-use Rattle.pm_device.specs.Settled.{StoresOnly}
+use Rattle.pm_device.specs.Settled.{StoresOnly, KeepsFlushed, Anyone}
 use Rattle.pm_device.specs.Reading.{Said, IsReady}
-use Rattle.pm_device.specs.Lines.{KeepsFlushed}
 use Rattle.pm_layout.specs.declared.Geometry.{Geometry}
 use Rattle.pm_layout.specs.Geometry.{inode_word}
 use Rattle.log_entry.specs.Spelling.{spelled}
@@ -28,7 +27,7 @@ pub record CanPrepare (g : Geometry) (ino : ℕ) (slots : List (List ℕ)) (fres
 pub record IsPreparedBy (who ino : ℕ) (old new : Log) (s t : State) : Type 0 where
   pub only : StoresOnly (Said (Prepared ino old new)) s t
   pub ready : IsReady who (Prepared ino old new) t
-  pub keeps : KeepsFlushed (Said (Prepared ino old new)) s t
+  pub keeps : KeepsFlushed Anyone (Said (Prepared ino old new)) s t
 
 abbrev pub Prepares : Geometry → ℕ → ℕ → List (List ℕ) → List ℕ → State → State → Type 0
 Prepares g who ino slots fresh s t = (old new : Log) → IsToPrepare g ino slots fresh old new s → IsPreparedBy who ino old new s t
@@ -49,7 +48,7 @@ pub record IsPreparedTo (who ino : ℕ) (old new : Log) (s0 : State) (m tail use
   pub used_are : used + length old.pages ≡ (m + 62) / 63
   pub only : StoresOnly (Said (Prepared ino old new)) s0 s
   pub ready : IsReady who (PreparedBelow ino old new m m) s
-  pub keeps : KeepsFlushed (Said (Prepared ino old new)) s0 s
+  pub keeps : KeepsFlushed Anyone (Said (Prepared ino old new)) s0 s
 
 -- and the page of the next slot is linked, whose line this is
 pub record HasRoomAt (who ino : ℕ) (old new : Log) (s0 : State) (m line used : ℕ) (s : State) : Type 0 where
@@ -58,7 +57,7 @@ pub record HasRoomAt (who ino : ℕ) (old new : Log) (s0 : State) (m line used :
   pub used_are : used + length old.pages ≡ m / 63 + 1
   pub only : StoresOnly (Said (Prepared ino old new)) s0 s
   pub ready : IsReady who (PreparedBelow ino old new (m + 1) m) s
-  pub keeps : KeepsFlushed (Said (Prepared ino old new)) s0 s
+  pub keeps : KeepsFlushed Anyone (Said (Prepared ino old new)) s0 s
 
 abbrev pub MakesRoom : Geometry → ℕ → ℕ → List (List ℕ) → List ℕ → ℕ → ℕ → ℕ → ℕ → State → State → Type 0
 MakesRoom g who ino slots fresh tail used line used' s t = (old new : Log) (s0 : State) (m : ℕ) → IsToPrepare g ino slots fresh old new s0 → m < count new

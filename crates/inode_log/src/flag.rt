@@ -1,6 +1,6 @@
 // The flag and the mask of a Write change.
 ghost use Rattle.std.specs.Prelude.{◌≡◌, ◌+◌, ◌*◌, ◌/◌, ◌<◌, ◌≤◌, length, OnOk, IsErr};
-ghost use Rattle.pm_device.specs.Settled.{IsSettled, StoresOnly, LeavesOnly, KeepsFlushed, Others};
+ghost use Rattle.pm_device.specs.Settled.{IsSettled, StoresOnly, LeavesOnly, KeepsFlushed, Others, SettlesAll};
 ghost use Rattle.pm_device.specs.Commit.{IsDone, LeavesOneWord};
 ghost use Rattle.pm_device.specs.State.{Rose};
 ghost use Rattle.pm_layout.specs.Geometry.{IsAccepted, InData};
@@ -43,6 +43,7 @@ pub fn set_flag<D: Pm>(
     ensures done { OnOk result (IsDone who (flag_word slot) (flag_number flag) (D.state device.old) (D.state device.new)) }
     ensures any_moment { IsSettled (D.state device.old) (flag_word slot) → OldOrNewItem g.now (with_flag flag) slot (D.state device.old) (D.state device.new) }
     ensures stands { OnOk result (NewItemStands g.now (with_flag flag) slot (D.state device.old) (D.state device.new)) }
+    ensures settles { OnOk result (SettlesAll who (D.state device.old) (D.state device.new)) }
     ensures other_logs { KeepsLogs g.now slot (D.state device.old) (D.state device.new) }
     ensures only { StoresOnly (λ a. a ≡ flag_word slot) (D.state device.old) (D.state device.new) }
     ensures others { KeepsFlushed (Others who) (λ a. a ≡ flag_word slot) (D.state device.old) (D.state device.new) }
@@ -76,6 +77,7 @@ pub fn set_mask<D: Pm>(
     ensures done { OnOk result (IsDone who (mask_word slot) mask (D.state device.old) (D.state device.new)) }
     ensures any_moment { IsSettled (D.state device.old) (mask_word slot) → OldOrNewItem g.now (with_mask mask) slot (D.state device.old) (D.state device.new) }
     ensures stands { OnOk result (NewItemStands g.now (with_mask mask) slot (D.state device.old) (D.state device.new)) }
+    ensures settles { OnOk result (SettlesAll who (D.state device.old) (D.state device.new)) }
     ensures other_logs { KeepsLogs g.now slot (D.state device.old) (D.state device.new) }
     ensures only { StoresOnly (λ a. a ≡ mask_word slot) (D.state device.old) (D.state device.new) }
     ensures others { KeepsFlushed (Others who) (λ a. a ≡ mask_word slot) (D.state device.old) (D.state device.new) }

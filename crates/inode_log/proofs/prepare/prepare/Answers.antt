@@ -2,8 +2,11 @@ use Rattle.std.proofs.Common.{◌≡◌, ℕ, ◌+◌, ◌-◌, ◌*◌, ◌<◌
 use Rattle.std.specs.Prelude.{slice_index}
 use Rattle.pm_layout.specs.Geometry.{inode_word}
 use Rattle.dn_model.specs.Log.{Log, count, tail_at}
+use Rattle.pm_device.specs.Reading.{Said}
+use Rattle.dn_model.specs.Growth.{Prepared}
+use Rattle.inode_log.proofs.OthersStand.{prepared_there, others_stand}
 use Rattle.inode_log.specs.Prepare.{IsFull, IsToPrepare, IsPreparedTo, HasRoomAt}
-use Rattle.inode_log.proofs.Preparing.{count_new, fresh_within, tail_below, enough_fresh, full_at, nothing_prepared, all_prepared, slot_stored, used_within, used_after}
+use Rattle.inode_log.proofs.Preparing.{count_new, fresh_within, tail_below, enough_fresh, full_at, nothing_prepared, all_prepared, prepared_flushes, slot_stored, used_within, used_after}
 use Rattle.inode_log.proofs.prepare.prepare.Goals as goal
 
 pub loop-slot-init : goal.loop-slot-init
@@ -104,6 +107,18 @@ pub returns-clause-prepared : goal.returns-clause-prepared
 returns-clause-prepared g c old new is =
     let within = count_new c.args.g.now c.args.ino c.args.slots.now c.args.fresh.now old new _ is c.requires.accepted c.requires.ino in
     all_prepared c.args.g.now c.args.ino c.args.slots.now c.args.fresh.now old new _ is c.requires.accepted c.requires.ino c.args.who (count old + c.loop-slot.slot-index) c.loop-slot.tail c.loop-slot.used _ (omega (arith, c.loop-slot-test.false, c.loop-slot.auto.slot-index-end)) (c.loop-slot.invariant.so_far old new is)
+
+pub returns-clause-flushes : goal.returns-clause-flushes
+returns-clause-flushes g c =
+    let can = c.requires.can in
+    prepared_flushes c.args.who c.args.ino can.old can.new _ _ (returns-clause-prepared g c can.old can.new can.is)
+
+pub returns-clause-other_logs : goal.returns-clause-other_logs
+returns-clause-other_logs g c old new is =
+    let S = g.D.Pm.state in
+    others_stand c.args.g.now c.args.ino new.pages c.requires.ino is.paged'.in_data (S c.args.device.now) (S c.loop-slot.device)
+    (Said (Prepared c.args.ino old new)) (returns-clause-prepared g c old new is).only
+    (λ a said. prepared_there c.args.g.now c.args.ino old new is.paged' a said.value said.told)
 
 pub returns-clause-spare : goal.returns-clause-spare
 returns-clause-spare g c =
