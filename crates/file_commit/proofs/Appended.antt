@@ -21,6 +21,7 @@ use Rattle.law_write.proofs.Unread.{prepared_unsaid, prepared_not_in}
 use Rattle.law_write.proofs.WriteEvent.{length-left, stands_for_read, stored_ready, written_images, written_stands}
 use Rattle.file_commit.specs.Commit.{IsItemWord}
 use Rattle.file_commit.specs.Append.{IsReadyToAppend, AppendsOnly}
+use Rattle.file_commit.proofs.ItemWords.{items_kept}
 
 module _ (g : Geometry) (who ino : ℕ) (fresh : List ℕ) (slots : List (List ℕ)) (d new : Disk) (event : Writes ino d new) (s : State) (is : IsReadyToAppend g who ino fresh slots d new event s) where
   used : IsUsed (d.inode ino).use_of
@@ -77,7 +78,7 @@ module _ (g : Geometry) (who ino : ℕ) (fresh : List ℕ) (slots : List (List �
         reads = λ a v told. ⊎_elim (λ (q : P a v). prepared.ready.reads a v q)
             (λ (b : IsBlockWord ino d new event a v). prepared.only.read a (out a v b) ∙ is.ready.reads a v b) told;
         flushed = λ a v told. ⊎_elim (λ (q : P a v). prepared.ready.flushed a v q)
-            (λ (b : IsBlockWord ino d new event a v). prepared.keeps who a (out a v b) (is.ready.within a v b) (is.ready.flushed a v b)) told;
+            (λ (b : IsBlockWord ino d new event a v). prepared.keeps.flushed who a tt (out a v b) (is.ready.within a v b) (is.ready.flushed a v b)) told;
       }
 
       module _ (tail : ℕ) (t : State) (tail_is : tail ≡ tail_at (new.inode ino).log.pages (count (new.inode ino).log)) (only : StoresOnly (λ a. a ≡ inode_word ino 2) p t) where
@@ -98,5 +99,5 @@ module _ (g : Geometry) (who ino : ℕ) (fresh : List ℕ) (slots : List (List �
           only = stores_only-then (IsItemWord ino d new) s p t
               (stores_only-weaken (Said P) (IsItemWord ino d new) s p (λ a said. inl said) prepared.only)
               (stores_only-weaken (λ a. a ≡ inode_word ino 2) (IsItemWord ino d new) p t (λ a here. inr here) only);
-          others = λ q a other not lt flushed. keeps.flushed q a other (λ here. not (inr here)) (prepared.keeps q a (λ said. not (inl said)) lt flushed);
+          others = items_kept who ino d new s p t prepared keeps;
         }

@@ -3,7 +3,7 @@ use Rattle.std.proofs.Common.{◌≡◌, ◌⊎◌, inl, inr, ⊎_elim, ℕ, ◌
 use Rattle.std.specs.Prelude.{slice_index, Contains}
 use Rattle.std.proofs.lemmas.List.Elements.{Contains-append_cases}
 use Rattle.pm_device.specs.State.{State, Agree}
-use Rattle.pm_device.specs.Settled.{StoresOnly, LeavesOnly, IsSettled, IsFlushed}
+use Rattle.pm_device.specs.Settled.{StoresOnly, LeavesOnly, IsSettled, IsFlushed, KeepsFlushed, Others}
 use Rattle.pm_device.specs.Reading.{Said, Stands, IsReady}
 use Rattle.pm_device.specs.Commit.{IsCommitted, IsDone}
 use Rattle.pm_device.proofs.Calls.{settled_is_flushed}
@@ -25,6 +25,7 @@ use Rattle.law_write.proofs.WithLog.{with_log-word}
 use Rattle.law_write.proofs.WriteEvent.{length-left, stands_for_read, stored_ready, written_images, written_stands}
 use Rattle.law_write.proofs.WrittenDisk.{written-writes, written-well}
 use Rattle.file_commit.specs.Commit.{IsReadyToCommit, IsItemWord}
+use Rattle.file_commit.proofs.ItemWords.{items_kept}
 
 module _ (g : Geometry) (ino : ℕ) (fresh : List ℕ) (slots : List (List ℕ)) (d : Disk) (first size : ℕ) (runs : List Run) (word : ℕ → ℕ → ℕ) (s : State)
     (is : IsReadyToCommit g ino fresh slots d first size runs word s) where
@@ -113,3 +114,6 @@ module _ (g : Geometry) (ino : ℕ) (fresh : List ℕ) (slots : List (List ℕ))
         stores = stores_only-then (IsItemWord ino d new) s p t
             (stores_only-weaken (Said P) (IsItemWord ino d new) s p (λ a said. inl said) prepared.only)
             (stores_only-weaken (λ a. a ≡ inode_word ino 2) (IsItemWord ino d new) p t (λ a here. inr here) only)
+
+        pub kept : KeepsFlushed (Others who) (λ a. a ≡ inode_word ino 2) p t → KeepsFlushed (Others who) (IsItemWord ino d new) s t
+        kept moved = items_kept who ino d new s p t prepared moved

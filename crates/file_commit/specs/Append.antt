@@ -1,7 +1,7 @@
 -- Items become part of a file's log, once the words that they need stand.
-use Rattle.std.specs.Prelude.{◌≡◌, ◌≢◌, ◌⊎◌, ℕ, ◌<◌, List, length}
+use Rattle.std.specs.Prelude.{◌≡◌, ◌⊎◌, ℕ, List}
 use Rattle.pm_device.specs.State.{State}
-use Rattle.pm_device.specs.Settled.{IsSettled, IsFlushed, LeavesOnly, StoresOnly}
+use Rattle.pm_device.specs.Settled.{LeavesOnly, StoresOnly, KeepsFlushed, Others}
 use Rattle.pm_device.specs.Reading.{Stands, IsReady}
 use Rattle.pm_layout.specs.declared.Geometry.{Geometry}
 use Rattle.log_entry.specs.Spelling.{spelled}
@@ -37,13 +37,7 @@ AppendsNew g who ino fresh slots s t = (old new : Disk) (w : Writes ino old new)
 -- only words of the items and the tail are stored to, and what others had flushed elsewhere is flushed still
 pub record AppendsOnly (who ino : ℕ) (old new : Disk) (s t : State) : Type 0 where
   pub only : StoresOnly (IsItemWord ino old new) s t
-  pub others : (q a : ℕ) → q ≢ who → (IsItemWord ino old new a → ⊥) → a < length s.now → IsFlushed q s a → IsFlushed q t a
+  pub others : KeepsFlushed (Others who) (IsItemWord ino old new) s t
 
 abbrev pub AppendsThere : Geometry → ℕ → ℕ → List ℕ → List (List ℕ) → State → State → Type 0
 AppendsThere g who ino fresh slots s t = (old new : Disk) (w : Writes ino old new) → IsReadyToAppend g who ino fresh slots old new w s → AppendsOnly who ino old new s t
-
--- what anybody had flushed is flushed still or settled, and what this actor had flushed is settled
-pub record SettlesItems (who : ℕ) (s t : State) : Type 0 where
-  pub words : length t.now ≡ length s.now
-  pub kept : (q a : ℕ) → a < length s.now → IsFlushed q s a → IsFlushed q t a ⊎ IsSettled t a
-  pub own : (a : ℕ) → a < length s.now → IsFlushed who s a → IsSettled t a

@@ -1,7 +1,7 @@
 -- Write items of filled pages become part of a file's log.
 use Rattle.std.specs.Prelude.{◌≡◌, ◌⊎◌, ℕ, ◌+◌, ◌*◌, ◌<◌, List, slice_index}
 use Rattle.pm_device.specs.State.{State}
-use Rattle.pm_device.specs.Settled.{IsSettled, LeavesOnly, StoresOnly}
+use Rattle.pm_device.specs.Settled.{IsSettled, LeavesOnly, StoresOnly, KeepsFlushed, Others}
 use Rattle.pm_device.specs.Reading.{Said, Stands}
 use Rattle.pm_layout.specs.declared.Geometry.{Geometry}
 use Rattle.pm_layout.specs.Geometry.{inode_word}
@@ -49,3 +49,9 @@ IsItemWord ino old new a = Said (Prepared ino (old.inode ino).log (new.inode ino
 abbrev pub StoresItems : Geometry → ℕ → List ℕ → List (List ℕ) → State → State → Type 0
 StoresItems g ino fresh slots s t = (d : Disk) (first size : ℕ) (runs : List Run) (word : ℕ → ℕ → ℕ) → IsReadyToCommit g ino fresh slots d first size runs word s
     → StoresOnly (IsItemWord ino d (written_disk d ino fresh size runs word)) s t
+
+-- what others had flushed elsewhere is flushed still
+abbrev pub KeepsOthers : Geometry → ℕ → ℕ → List ℕ → List (List ℕ) → State → State → Type 0
+KeepsOthers g who ino fresh slots s t = (d : Disk) (first size : ℕ) (runs : List Run) (word : ℕ → ℕ → ℕ)
+    → IsReadyToCommit g ino fresh slots d first size runs word s
+    → KeepsFlushed (Others who) (IsItemWord ino d (written_disk d ino fresh size runs word)) s t

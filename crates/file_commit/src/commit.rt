@@ -1,16 +1,18 @@
 // Items of filled pages are appended to a file's log.
 ghost use Rattle.std.specs.Prelude.{◌≡◌, ◌+◌, ◌*◌, ◌<◌, ◌≤◌, length, OnOk, IsErr};
 ghost use Rattle.pm_device.specs.State.{Rose};
+ghost use Rattle.pm_device.specs.Settled.{SettlesAll};
 ghost use Rattle.pm_layout.specs.Geometry.{IsAccepted};
-ghost use Rattle.file_commit.specs.Commit.{CanCommit, LeavesOldOrNew, StandsNew, StoresItems};
+ghost use Rattle.file_commit.specs.Commit.{CanCommit, LeavesOldOrNew, StandsNew, StoresItems, KeepsOthers};
 
-use inode_log::commit_log;
+use inode_log::log::{COMMIT_LOG_UNITS, commit_log};
 use inode_log::prepare::{PREPARE_UNITS, prepare};
 use pm_device::{Failed, Pm};
 use pm_layout::Geometry;
 
-/// The units of the device that `commit_runs` uses beside `PREPARE_UNITS` for each slot and each fresh page.
-pub const COMMIT_UNITS: u64 = 4;
+/// The units of the device that `commit_runs` and `append_items` use beside `PREPARE_UNITS` for each slot and each fresh
+/// page.
+pub const COMMIT_UNITS: u64 = COMMIT_LOG_UNITS;
 
 /// Appends the slots of Write items to the log of a file, on these fresh pages where its last page has no room, and
 /// makes them part of the log by one store of its tail (NOVA, FAST 2016).
@@ -36,6 +38,9 @@ pub fn commit_runs<D: Pm>(
     ensures any_moment { LeavesOldOrNew g.now ino fresh.now slots.now (D.state device.old) (D.state device.new) }
     ensures done { OnOk result (StandsNew g.now ino fresh.now slots.now (D.state device.old) (D.state device.new)) }
     ensures only { StoresItems g.now ino fresh.now slots.now (D.state device.old) (D.state device.new) }
+    ensures others { KeepsOthers g.now who ino fresh.now slots.now (D.state device.old) (D.state device.new) }
+    ensures settles { OnOk result (SettlesAll who (D.state device.old) (D.state device.new)) }
+    ensures spare { (D.state device.old).spare ≤ (D.state device.new).spare + PREPARE_UNITS * (length slots.now + length fresh.now) + COMMIT_UNITS }
     ensures faults { (D.state device.old).faults ≤ (D.state device.new).faults }
     ensures failed { IsErr result → Rose (D.state device.old).faults (D.state device.new).faults }
 {

@@ -1,5 +1,7 @@
 -- The pairs of the journal.
-use Rattle.std.specs.Prelude.{◌≡◌, ◌⊎◌, ℕ, ◌+◌, ◌*◌, ◌<◌, ◌≤◌, List, length, slice_index}
+use Rattle.std.specs.Prelude.{◌≡◌, ◌≢◌, ◌⊎◌, ℕ, ◌+◌, ◌*◌, ◌<◌, ◌≤◌, List, length, slice_index}
+use Rattle.pm_device.specs.State.{State}
+use Rattle.pm_device.specs.Settled.{SettlesAll}
 use Rattle.pm_device.specs.Words.{IsIn}
 use Rattle.pm_layout.specs.Geometry.{gate_word}
 use Rattle.dn_model.specs.Rolled.{pair_address, pair_value}
@@ -49,3 +51,7 @@ IsRolledAt pairs a = IsNamed pairs a ⊎ (a ≡ gate_word)
 pub record HasGateOf (w c : List ℕ) : Type 0 where
   pub gate : (slice_index c gate_word ≡ slice_index w gate_word) ⊎ (slice_index c gate_word ≡ 0)
   pub pairs : (a : ℕ) → 520 ≤ a → a < 528 → slice_index c a ≡ slice_index w a
+
+-- where the gate was open, all that is stored and all that this actor had flushed is settled
+abbrev pub SettlesOpen : ℕ → State → State → Type 0
+SettlesOpen who s t = slice_index s.now gate_word ≢ 0 → SettlesAll who s t

@@ -1,7 +1,7 @@
 use Rattle.std.proofs.Common.{◌∙◌}
+use Rattle.pm_device.proofs.AllFlushed.{flushes-settle}
 use Rattle.inode_log.proofs.Committed.{on_ok_map}
 use Rattle.file_commit.proofs.Appended.{to_prepare, can_prepare, tail_settled, images, stands_new, stores}
-use Rattle.file_commit.proofs.Settles.{settles}
 use Rattle.file_commit.proofs.append.append_items.Goals as goal
 
 pub prepare-tail-requires-clause-can : goal.prepare-tail-requires-clause-can
@@ -41,6 +41,6 @@ returns-clause-only g c =
 pub returns-clause-settles : goal.returns-clause-settles
 returns-clause-settles g c =
     let S = g.D.Pm.state in
-    let can = c.requires.can in
-    let prepared = c.prepare-tail.ensures.prepared _ _ (to_prepare _ _ _ _ _ _ _ _ _ can.is) in
-    on_ok_map c.commit_log.result _ _ (λ done. settles _ _ _ _ _ _ _ (S c.prepare-tail.new.device) (S c.commit_log.new.device) prepared c.commit_log.ensures.only c.commit_log.ensures.others done) c.commit_log.ensures.done
+    on_ok_map c.commit_log.result _ _
+    (flushes-settle c.args.who (S c.args.device.now) (S c.prepare-tail.new.device) (S c.commit_log.new.device) c.prepare-tail.ensures.flushes)
+    c.commit_log.ensures.settles

@@ -1,6 +1,7 @@
 use Rattle.std.proofs.Common.{◌∙◌}
+use Rattle.pm_device.proofs.AllFlushed.{flushes-settle}
 use Rattle.inode_log.proofs.Committed.{on_ok_map}
-use Rattle.file_commit.proofs.Items.{to_prepare, can_prepare, tail_settled, images, stands_new, stores}
+use Rattle.file_commit.proofs.Items.{to_prepare, can_prepare, tail_settled, images, stands_new, stores, kept}
 use Rattle.file_commit.proofs.commit.commit_runs.Goals as goal
 
 pub prepare-tail-requires-clause-can : goal.prepare-tail-requires-clause-can
@@ -36,3 +37,18 @@ returns-clause-only g c =
     let to = to_prepare _ _ _ _ d first size runs word _ is in
     stores _ _ _ _ d first size runs word _ is _ (S c.prepare-tail.new.device) (c.prepare-tail.ensures.prepared _ _ to) c.requires.size c.prepare-tail.result (S c.commit_log.new.device)
     (c.prepare-tail.ensures.tail _ _ to) c.commit_log.ensures.only
+
+pub returns-clause-others : goal.returns-clause-others
+returns-clause-others g c =
+    let S = g.D.Pm.state in
+    λ d first size runs word is.
+    let to = to_prepare _ _ _ _ d first size runs word _ is in
+    kept _ _ _ _ d first size runs word _ is _ (S c.prepare-tail.new.device) (c.prepare-tail.ensures.prepared _ _ to) c.requires.size c.prepare-tail.result
+    (S c.commit_log.new.device) (c.prepare-tail.ensures.tail _ _ to) c.commit_log.ensures.only c.commit_log.ensures.others
+
+pub returns-clause-settles : goal.returns-clause-settles
+returns-clause-settles g c =
+    let S = g.D.Pm.state in
+    on_ok_map c.commit_log.result _ _
+    (flushes-settle c.args.who (S c.args.device.now) (S c.prepare-tail.new.device) (S c.commit_log.new.device) c.prepare-tail.ensures.flushes)
+    c.commit_log.ensures.settles

@@ -1,4 +1,5 @@
 use Rattle.std.proofs.Common.{length, arith}
+use Rattle.pm_device.proofs.AllFlushed.{flushes-settle, settles-then}
 use Rattle.name_journal.proofs.Opened.{changes_inside}
 use Rattle.name_journal.proofs.Told.{on_ok_map}
 use Rattle.name_journal.proofs.Journaling.{stored_pairs, gate_settled, leaves_opening, only_opening, open_settled, only_all, leaves_all, all_done}
@@ -53,3 +54,11 @@ returns-clause-only g c =
     c.requires.closed c.requires.settled c.store_pairs.ensures.only c.store_pairs.ensures.ready c.store_pairs.ensures.keeps in
     let opened = c.commit.ensures.any_moment (gate_settled c.args.g.now.inodes c.args.who c.args.changes.now (S c.args.device.now) (S c.store_pairs.new.device) (S c.store_pairs.new.device) is) in
     only_all c.args.g.now.inodes c.args.who c.args.changes.now (S c.args.device.now) (S c.store_pairs.new.device) (S c.commit.new.device) is opened c.commit.ensures.only c.in_ok-commit.ensures.done (S c.store_values.new.device) (S c.commit-2.new.device) c.store_values.ensures.only c.store_values.ensures.ready c.commit-2.ensures.only
+
+pub returns-clause-settles : goal.returns-clause-settles
+returns-clause-settles g c =
+    let S = g.D.Pm.state in let who = c.args.who in
+    let opened = flushes-settle who (S c.args.device.now) (S c.store_pairs.new.device) (S c.commit.new.device)
+    c.store_pairs.ensures.flushes c.in_ok-commit.ensures.settles in
+    on_ok_map c.commit-2.result _ _ (λ settles. settles-then who _ _ (S c.commit-2.new.device) opened
+    (flushes-settle who _ (S c.store_values.new.device) _ c.store_values.ensures.flushes settles)) c.commit-2.ensures.settles

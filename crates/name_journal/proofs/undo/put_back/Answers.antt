@@ -1,3 +1,4 @@
+use Rattle.pm_device.proofs.AllFlushed.{flushes-settle}
 use Rattle.name_journal.proofs.Told.{on_ok_map}
 use Rattle.name_journal.proofs.RolledBack.{rolls_at_any_moment, gates_at_any_moment, rolls_now, rolls_still, rolls_only, rolls_others}
 use Rattle.name_journal.proofs.undo.put_back.Goals as goal
@@ -39,3 +40,10 @@ returns-clause-gates g c =
     let S = g.D.Pm.state in let agree = g.met.D.Pm.agree in
     gates_at_any_moment c.args.who c.args.pairs.now (S c.args.device.now) (S c.store_values.new.device) (S c.commit.new.device) (agree c.args.device.now) (agree c.store_values.new.device) c.requires.page c.requires.pairs
     c.store_values.ensures.only c.store_values.ensures.ready c.commit.ensures.any_moment
+
+pub returns-clause-settles : goal.returns-clause-settles
+returns-clause-settles g c =
+    let S = g.D.Pm.state in
+    on_ok_map c.commit.result _ _
+    (flushes-settle c.args.who (S c.args.device.now) (S c.store_values.new.device) (S c.commit.new.device) c.store_values.ensures.flushes)
+    c.commit.ensures.settles
