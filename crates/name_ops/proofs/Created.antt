@@ -38,7 +38,7 @@ use Rattle.law_names.proofs.AllWords.{all_or_none_stands}
 use Rattle.name_journal.specs.Changes.{IsTouched, address}
 use Rattle.dn_volume.specs.declared.flight.Flight.{Flight}
 use Rattle.dn_volume.specs.declared.flight.NameChange.{NameChange}
-use Rattle.dn_volume.specs.declared.outcome.CountChange.{CountChange}
+use Rattle.dn_model.specs.declared.op.CountChange.{CountChange}
 use Rattle.dn_volume.specs.declared.volume.InodeState.{InodeState}
 use Rattle.dn_volume.specs.declared.volume.Parts.{Parts}
 use Rattle.dn_volume.specs.Parties.{Flies, SameOthers, by_client, Takes, for_client, blocks_of}

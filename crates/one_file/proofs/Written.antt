@@ -53,7 +53,7 @@ module _ {D : Type 0} (state : D → State) (v : OneFile D) (d : Disk) (is : IsD
         root = ap (λ (i : Inode). i.log.items) (w.written.others 0 (omega arith)) ∙ is.root ∙ ap (λ (n : List ℕ). Add 1 n ∷ []) (sym same_name);
       };
       answered = λ print own. record {
-        step = record { step = done granted refl (same-files print own); short = λ need free e. cc };
+        step = record { step = done granted refl (same-files print own); short = λ need free e. cc; all_live = λ e. cc };
         own = w.written.own print own;
         images = images-of print own (files w.after) (same-files print own) (state v.device) (state v'.device) w.images;
       };
@@ -76,4 +76,5 @@ module _ {D : Type 0} (state : D → State) (v : OneFile D) (d : Disk) (is : IsD
       lacks = let same : need ≡ need' = cc in let same' : free ≡ free' = cc in omega (arith, same, same', lacks.lacks);
       count = let same' : free ≡ free' = cc in free_counted state v d is lacks.in_order free' (sym same' ∙ lacks.count_is);
     };
+    all_live = λ e. cc;
   }
