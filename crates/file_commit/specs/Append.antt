@@ -10,9 +10,11 @@ use Rattle.dn_model.specs.Image.{StandsFor}
 use Rattle.law_write.specs.Writing.{Writes, WritesWell, IsBlockWord}
 use Rattle.file_commit.specs.Commit.{IsItemWord}
 
--- The device stands for the old disk, and the event leads to the new one. The words of its pages stand, and are settled
+-- The device stands for the old disk, and the event leads to the new one. The words of its pages
+-- stand, and are settled
 -- by this actor's next fence; the slots spell its items.
-pub record IsReadyToAppend (g : Geometry) (who ino : ℕ) (fresh : List ℕ) (slots : List (List ℕ)) (old new : Disk) (w : Writes ino old new) (s : State) : Type 0 where
+pub record IsReadyToAppend (g : Geometry) (who ino : ℕ) (fresh : List ℕ) (slots : List (List ℕ))
+    (old new : Disk) (w : Writes ino old new) (s : State) : Type 0 where
   pub geometry : old.geometry ≡ g
   pub well : WritesWell ino old new w
   pub stands : Stands (DiskSays old) s
@@ -20,7 +22,8 @@ pub record IsReadyToAppend (g : Geometry) (who ino : ℕ) (fresh : List ℕ) (sl
   pub slots_are : spelled w.grown.more ≡ slots
   pub fresh_are : w.grown.fresh ≡ fresh
 
-pub record CanAppend (g : Geometry) (who ino : ℕ) (fresh : List ℕ) (slots : List (List ℕ)) (s : State) : Type 0 where
+pub record CanAppend (g : Geometry) (who ino : ℕ) (fresh : List ℕ) (slots : List (List ℕ))
+    (s : State) : Type 0 where
   pub old : Disk
   pub new : Disk
   pub event : Writes ino old new
@@ -28,16 +31,21 @@ pub record CanAppend (g : Geometry) (who ino : ℕ) (fresh : List ℕ) (slots : 
 
 -- on the way a stop leaves an image of before or of after
 abbrev pub AppendsBetween : Geometry → ℕ → ℕ → List ℕ → List (List ℕ) → State → State → Type 0
-AppendsBetween g who ino fresh slots s t = (old new : Disk) (w : Writes ino old new) → IsReadyToAppend g who ino fresh slots old new w s → LeavesOnly s t (λ c. StandsFor c old ⊎ StandsFor c new)
+AppendsBetween g who ino fresh slots s t = (old new : Disk) (w : Writes ino old new)
+    → IsReadyToAppend g who ino fresh slots old new w s
+    → LeavesOnly s t (λ c. StandsFor c old ⊎ StandsFor c new)
 
 -- in the end the device stands for the disk of after
 abbrev pub AppendsNew : Geometry → ℕ → ℕ → List ℕ → List (List ℕ) → State → State → Type 0
-AppendsNew g who ino fresh slots s t = (old new : Disk) (w : Writes ino old new) → IsReadyToAppend g who ino fresh slots old new w s → Stands (DiskSays new) t
+AppendsNew g who ino fresh slots s t = (old new : Disk) (w : Writes ino old new)
+    → IsReadyToAppend g who ino fresh slots old new w s → Stands (DiskSays new) t
 
--- only words of the items and the tail are stored to, and what others had flushed elsewhere is flushed still
+-- only words of the items and the tail are stored to, and what others had flushed elsewhere is
+-- flushed still
 pub record AppendsOnly (who ino : ℕ) (old new : Disk) (s t : State) : Type 0 where
   pub only : StoresOnly (IsItemWord ino old new) s t
   pub others : KeepsFlushed (Others who) (IsItemWord ino old new) s t
 
 abbrev pub AppendsThere : Geometry → ℕ → ℕ → List ℕ → List (List ℕ) → State → State → Type 0
-AppendsThere g who ino fresh slots s t = (old new : Disk) (w : Writes ino old new) → IsReadyToAppend g who ino fresh slots old new w s → AppendsOnly who ino old new s t
+AppendsThere g who ino fresh slots s t = (old new : Disk) (w : Writes ino old new)
+    → IsReadyToAppend g who ino fresh slots old new w s → AppendsOnly who ino old new s t

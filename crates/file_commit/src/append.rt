@@ -32,12 +32,17 @@ pub fn append_items<D: Pm>(
     requires size { length (D.state device.old).now ≡ 512 * g.now.pages }
     requires ino { ino < g.now.inodes }
     requires can { CanAppend g.now who ino fresh.now slots.now (D.state device.old) }
-    requires room { PREPARE_UNITS * (length slots.now + length fresh.now) + COMMIT_UNITS ≤ (D.state device.old).spare }
-    ensures any_moment { AppendsBetween g.now who ino fresh.now slots.now (D.state device.old) (D.state device.new) }
-    ensures done { OnOk result (AppendsNew g.now who ino fresh.now slots.now (D.state device.old) (D.state device.new)) }
-    ensures only { AppendsThere g.now who ino fresh.now slots.now (D.state device.old) (D.state device.new) }
+    requires room { PREPARE_UNITS * (length slots.now + length fresh.now) + COMMIT_UNITS ≤
+        (D.state device.old).spare }
+    ensures any_moment { AppendsBetween g.now who ino fresh.now slots.now (D.state device.old)
+        (D.state device.new) }
+    ensures done { OnOk result (AppendsNew g.now who ino fresh.now slots.now (D.state device.old)
+        (D.state device.new)) }
+    ensures only { AppendsThere g.now who ino fresh.now slots.now (D.state device.old)
+        (D.state device.new) }
     ensures settles { OnOk result (SettlesAll who (D.state device.old) (D.state device.new)) }
-    ensures spare { (D.state device.old).spare ≤ (D.state device.new).spare + PREPARE_UNITS * (length slots.now + length fresh.now) + COMMIT_UNITS }
+    ensures spare { (D.state device.old).spare ≤ (D.state device.new).spare + PREPARE_UNITS
+        * (length slots.now + length fresh.now) + COMMIT_UNITS }
     ensures faults { (D.state device.old).faults ≤ (D.state device.new).faults }
     ensures failed { IsErr result → Rose (D.state device.old).faults (D.state device.new).faults }
 {

@@ -49,13 +49,15 @@ prepared_there g ino old new paged a v (new_slot k j late lt word place value) =
 same_inode : (i j f h : ℕ) → f < 16 → h < 16 → inode_word i f ≡ inode_word j h → i ≡ j
 same_inode i j f h fs hs e = omega (arith, fs, hs, e)
 
-module _ (g : Geometry) (ino : ℕ) (pages : List ℕ) (in_table : ino < g.inodes) (in_data : (k : ℕ) → k < length pages → InData g (slice_index pages k)) (s t : State) where
+module _ (g : Geometry) (ino : ℕ) (pages : List ℕ) (in_table : ino < g.inodes) (in_data : (k : ℕ) → k < length pages → InData g (slice_index pages k))
+    (s t : State) where
   no_word : (other : ℕ) (log : Log) → IsOtherLog g ino pages other log s → (a : ℕ) → IsLogs other log.pages a → IsLogs ino pages a → ⊥
   no_word other log is a (inl one) (inl two) = is.different (same_inode other ino one.field two.field one.small two.small (sym one.place ∙ two.place))
   no_word other log is a (inl one) (inr two) =
       inode_not_data g other one.field (slice_index pages two.k) two.r is.in_table one.small (in_data two.k two.lt) (sym one.place ∙ two.place)
   no_word other log is a (inr one) (inl two) =
-      inode_not_data g ino two.field (slice_index log.pages one.k) one.r in_table two.small (is.paged.in_data one.k one.lt) (sym two.place ∙ one.place)
+      inode_not_data g ino two.field (slice_index log.pages one.k) one.r in_table two.small (is.paged.in_data one.k one.lt)
+      (sym two.place ∙ one.place)
   no_word other log is a (inr one) (inr two) =
       is.apart one.k two.k one.lt two.lt
       (same_page (slice_index log.pages one.k) (slice_index pages two.k) one.r two.r one.small two.small (sym one.place ∙ two.place))

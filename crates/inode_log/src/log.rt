@@ -31,14 +31,20 @@ pub fn commit_log<D: Pm>(
     requires size { length (D.state device.old).now ≡ 512 * g.now.pages }
     requires ino { ino < g.now.inodes }
     requires room { COMMIT_LOG_UNITS ≤ (D.state device.old).spare }
-    ensures committed { IsSettled (D.state device.old) (inode_word ino 2) → LeavesOnly (D.state device.old) (D.state device.new) (IsCommitted who (inode_word ino 2) tail (D.state device.old)) }
-    ensures done { OnOk result (IsDone who (inode_word ino 2) tail (D.state device.old) (D.state device.new)) }
-    ensures any_moment { IsSettled (D.state device.old) (inode_word ino 2) → OldOrNewLog g.now who ino tail (D.state device.old) (D.state device.new) }
-    ensures stands { OnOk result (NewLogStands g.now who ino tail (D.state device.old) (D.state device.new)) }
+    ensures committed { IsSettled (D.state device.old) (inode_word ino 2)
+        → LeavesOnly (D.state device.old) (D.state device.new)
+        (IsCommitted who (inode_word ino 2) tail (D.state device.old)) }
+    ensures done { OnOk result (IsDone who (inode_word ino 2) tail (D.state device.old)
+        (D.state device.new)) }
+    ensures any_moment { IsSettled (D.state device.old) (inode_word ino 2)
+        → OldOrNewLog g.now who ino tail (D.state device.old) (D.state device.new) }
+    ensures stands { OnOk result (NewLogStands g.now who ino tail (D.state device.old)
+        (D.state device.new)) }
     ensures settles { OnOk result (SettlesAll who (D.state device.old) (D.state device.new)) }
     ensures other_logs { KeepsOtherLogs g.now ino [] (D.state device.old) (D.state device.new) }
     ensures only { StoresOnly (λ a. a ≡ inode_word ino 2) (D.state device.old) (D.state device.new) }
-    ensures others { KeepsFlushed (Others who) (λ a. a ≡ inode_word ino 2) (D.state device.old) (D.state device.new) }
+    ensures others { KeepsFlushed (Others who) (λ a. a ≡ inode_word ino 2) (D.state device.old)
+        (D.state device.new) }
     ensures spare { (D.state device.old).spare ≤ (D.state device.new).spare + COMMIT_LOG_UNITS }
     ensures faults { (D.state device.old).faults ≤ (D.state device.new).faults }
     ensures failed { IsErr result → Rose (D.state device.old).faults (D.state device.new).faults }

@@ -28,8 +28,10 @@ fn link<D: Pm>(device: &mut D, g: &Geometry, who: u32, ino: u64, tail: u64, page
     requires ino { ino < g.now.inodes }
     requires tail { tail < 64 * g.now.pages }
     requires room { PREPARE_UNITS ≤ (D.state device.old).spare }
-    ensures first { tail ≡ 0 → StoresRun who (inode_word ino 1) (page ∷ []) (D.state device.old) (D.state device.new) }
-    ensures later { 0 < tail → StoresRun who (8 * tail) (page ∷ []) (D.state device.old) (D.state device.new) }
+    ensures first { tail ≡ 0 → StoresRun who (inode_word ino 1) (page ∷ []) (D.state device.old)
+        (D.state device.new) }
+    ensures later { 0 < tail → StoresRun who (8 * tail) (page ∷ []) (D.state device.old)
+        (D.state device.new) }
     ensures spare { (D.state device.old).spare ≤ (D.state device.new).spare + PREPARE_UNITS }
     ensures faults { (D.state device.old).faults ≤ (D.state device.new).faults }
 {
@@ -57,10 +59,12 @@ fn make_room<D: Pm>(
     requires pages { All (λ page. page < g.now.pages) fresh.now }
     requires enough { IsFull tail → used < length fresh.now }
     requires room { PREPARE_UNITS ≤ (D.state device.old).spare }
-    ensures links { (slots : List (List ℕ)) → MakesRoom g.now who ino slots fresh.now tail used result.0 result.1 (D.state device.old) (D.state device.new) }
+    ensures links { (slots : List (List ℕ)) → MakesRoom g.now who ino slots fresh.now tail used
+        result.0 result.1 (D.state device.old) (D.state device.new) }
     ensures line { result.0 < 64 * g.now.pages }
     ensures size { length (D.state device.new).now ≡ length (D.state device.old).now }
-    ensures spare { (D.state device.old).spare + PREPARE_UNITS * used ≤ (D.state device.new).spare + PREPARE_UNITS * result.1 }
+    ensures spare { (D.state device.old).spare + PREPARE_UNITS * used ≤ (D.state device.new).spare +
+        PREPARE_UNITS * result.1 }
     ensures faults { (D.state device.old).faults ≤ (D.state device.new).faults }
 {
     if is_full(tail) {
@@ -89,12 +93,16 @@ pub fn prepare<D: Pm>(
     requires size { length (D.state device.old).now ≡ 512 * g.now.pages }
     requires ino { ino < g.now.inodes }
     requires can { CanPrepare g.now ino slots.now fresh.now (D.state device.old) }
-    requires room { PREPARE_UNITS * (length slots.now + length fresh.now) ≤ (D.state device.old).spare }
+    requires room { PREPARE_UNITS * (length slots.now + length fresh.now) ≤
+        (D.state device.old).spare }
     ensures tail { IsNextTail g.now ino slots.now fresh.now (D.state device.old) result }
     ensures flushes { FlushesAll who (D.state device.old) (D.state device.new) }
-    ensures other_logs { PreparesAlone g.now ino slots.now fresh.now (D.state device.old) (D.state device.new) }
-    ensures prepared { Prepares g.now who ino slots.now fresh.now (D.state device.old) (D.state device.new) }
-    ensures spare { (D.state device.old).spare ≤ (D.state device.new).spare + PREPARE_UNITS * (length slots.now + length fresh.now) }
+    ensures other_logs { PreparesAlone g.now ino slots.now fresh.now (D.state device.old)
+        (D.state device.new) }
+    ensures prepared { Prepares g.now who ino slots.now fresh.now (D.state device.old)
+        (D.state device.new) }
+    ensures spare { (D.state device.old).spare ≤ (D.state device.new).spare + PREPARE_UNITS
+        * (length slots.now + length fresh.now) }
     ensures faults { (D.state device.old).faults ≤ (D.state device.new).faults }
 {
     let mut tail = read_field(device, g, ino, TAIL);

@@ -22,8 +22,10 @@ pub record HavePairs (changes : List Change) (c : List ℕ) (k : ℕ) (words : L
 
 -- what the journal says of these changes, where c has the old values
 pub data PairsOf (changes : List Change) (c : List ℕ) (a v : ℕ) : Type 0 where
-  of_address : (i : ℕ) → i < length changes → a ≡ 520 + 2 * i → v ≡ address changes i → PairsOf changes c a v
-  of_old : (i : ℕ) → i < length changes → a ≡ 521 + 2 * i → v ≡ slice_index c (address changes i) → PairsOf changes c a v
+  of_address : (i : ℕ) → i < length changes → a ≡ 520 + 2 * i → v ≡ address changes i
+      → PairsOf changes c a v
+  of_old : (i : ℕ) → i < length changes → a ≡ 521 + 2 * i → v ≡ slice_index c (address changes i)
+      → PairsOf changes c a v
 
 -- the words of their pairs
 abbrev pub IsInPairs : List Change → ℕ → Type 0
@@ -34,7 +36,8 @@ pub record CanRoll (c : List ℕ) : Type 0 where
   pub few : slice_index c gate_word ≤ 4
   pub high : (i : ℕ) → i < slice_index c gate_word → 1024 ≤ pair_address c i
   pub within : (i : ℕ) → i < slice_index c gate_word → pair_address c i < length c
-  pub apart : (i j : ℕ) → i < slice_index c gate_word → j < slice_index c gate_word → pair_address c i ≡ pair_address c j → i ≡ j
+  pub apart : (i j : ℕ) → i < slice_index c gate_word → j < slice_index c gate_word
+      → pair_address c i ≡ pair_address c j → i ≡ j
 
 -- these are the gate's pairs
 pub record AreOpen (c : List ℕ) (pairs : List Change) : Type 0 where

@@ -41,11 +41,13 @@ pub fn commit_all<D: Pm>(
     requires closed { slice_index (D.state device.old).now gate_word ≡ 0 }
     requires settled { IsSettled (D.state device.old) gate_word }
     requires room { COMMIT_ALL_UNITS ≤ (D.state device.old).spare }
-    ensures any_moment { LeavesOnly (D.state device.old) (D.state device.new) (AllOrNone g.now.inodes who changes.now (D.state device.old)) }
+    ensures any_moment { LeavesOnly (D.state device.old) (D.state device.new)
+        (AllOrNone g.now.inodes who changes.now (D.state device.old)) }
     ensures done { OnOk result (IsAllDone who changes.now (D.state device.old) (D.state device.new)) }
     ensures settles { OnOk result (SettlesAll who (D.state device.old) (D.state device.new)) }
     ensures only { StoresOnly (IsTouched changes.now) (D.state device.old) (D.state device.new) }
-    ensures others { KeepsFlushed (Others who) (IsTouched changes.now) (D.state device.old) (D.state device.new) }
+    ensures others { KeepsFlushed (Others who) (IsTouched changes.now) (D.state device.old)
+        (D.state device.new) }
     ensures spare { (D.state device.old).spare ≤ (D.state device.new).spare + COMMIT_ALL_UNITS }
     ensures faults { (D.state device.old).faults ≤ (D.state device.new).faults }
     ensures failed { IsErr result → Rose (D.state device.old).faults (D.state device.new).faults }

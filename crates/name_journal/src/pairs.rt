@@ -81,7 +81,8 @@ pub(crate) fn store_pairs<D: Pm>(device: &mut D, who: u32, changes: &[Change])
     requires room { PAIRS_UNITS ≤ (D.state device.old).spare }
     ensures only { StoresOnly (IsInPairs changes.now) (D.state device.old) (D.state device.new) }
     ensures ready { IsReady who (PairsOf changes.now (D.state device.old).now) (D.state device.new) }
-    ensures keeps { KeepsFlushed Anyone (IsInPairs changes.now) (D.state device.old) (D.state device.new) }
+    ensures keeps { KeepsFlushed Anyone (IsInPairs changes.now) (D.state device.old)
+        (D.state device.new) }
     ensures flushes { FlushesAll who (D.state device.old) (D.state device.new) }
     ensures spare { (D.state device.old).spare ≤ (D.state device.new).spare + PAIRS_UNITS }
     ensures faults { (D.state device.old).faults ≤ (D.state device.new).faults }

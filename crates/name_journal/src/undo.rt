@@ -37,12 +37,15 @@ fn put_back<D: Pm>(device: &mut D, who: u32, pairs: &[Change]) -> Result<(), Fai
     requires inside { AreInside pairs.now (length (D.state device.old).now) }
     requires room { ROLL_BACK_UNITS ≤ (D.state device.old).spare }
     ensures rolled { OnOk result ((D.state device.new).now ≡ rolled (D.state device.old).now) }
-    ensures any_moment { Still (D.state device.old) → LeavesOnly (D.state device.old) (D.state device.new) (λ c. rolled c ≡ rolled (D.state device.old).now) }
-    ensures gates { Still (D.state device.old) → LeavesOnly (D.state device.old) (D.state device.new) (HasGateOf (D.state device.old).now) }
+    ensures any_moment { Still (D.state device.old) → LeavesOnly (D.state device.old)
+        (D.state device.new) (λ c. rolled c ≡ rolled (D.state device.old).now) }
+    ensures gates { Still (D.state device.old) → LeavesOnly (D.state device.old)
+        (D.state device.new) (HasGateOf (D.state device.old).now) }
     ensures still { OnOk result (Still (D.state device.old) → Still (D.state device.new)) }
     ensures settles { OnOk result (SettlesAll who (D.state device.old) (D.state device.new)) }
     ensures only { StoresOnly (IsRolledAt pairs.now) (D.state device.old) (D.state device.new) }
-    ensures others { KeepsFlushed (Others who) (IsRolledAt pairs.now) (D.state device.old) (D.state device.new) }
+    ensures others { KeepsFlushed (Others who) (IsRolledAt pairs.now) (D.state device.old)
+        (D.state device.new) }
     ensures spare { (D.state device.old).spare ≤ (D.state device.new).spare + ROLL_BACK_UNITS }
     ensures faults { (D.state device.old).faults ≤ (D.state device.new).faults }
     ensures failed { IsErr result → Rose (D.state device.old).faults (D.state device.new).faults }
@@ -65,17 +68,25 @@ pub fn roll_back<D: Pm>(device: &mut D, g: &Geometry, who: u32) -> Result<(), Ro
     requires size { length (D.state device.old).now ≡ 512 * g.now.pages }
     requires room { ROLL_BACK_UNITS ≤ (D.state device.old).spare }
     ensures rolled { OnOk result ((D.state device.new).now ≡ rolled (D.state device.old).now) }
-    ensures any_moment { Still (D.state device.old) → LeavesOnly (D.state device.old) (D.state device.new) (λ c. rolled c ≡ rolled (D.state device.old).now) }
-    ensures gates { Still (D.state device.old) → LeavesOnly (D.state device.old) (D.state device.new) (HasGateOf (D.state device.old).now) }
+    ensures any_moment { Still (D.state device.old) → LeavesOnly (D.state device.old)
+        (D.state device.new) (λ c. rolled c ≡ rolled (D.state device.old).now) }
+    ensures gates { Still (D.state device.old) → LeavesOnly (D.state device.old)
+        (D.state device.new) (HasGateOf (D.state device.old).now) }
     ensures still { OnOk result (Still (D.state device.old) → Still (D.state device.new)) }
-    ensures closed { slice_index (D.state device.old).now gate_word ≡ 0 → IsSame (D.state device.old) (D.state device.new) }
-    ensures bad { (result ≡ Err RollFault.BadJournal) ↔ (IsGate g.now.inodes (D.state device.old).now → ⊥) }
-    ensures bad_stores_nothing { result ≡ Err RollFault.BadJournal → IsSame (D.state device.old) (D.state device.new) }
-    ensures failed { result ≡ Err RollFault.Failed → Rose (D.state device.old).faults (D.state device.new).faults }
+    ensures closed { slice_index (D.state device.old).now gate_word ≡ 0
+        → IsSame (D.state device.old) (D.state device.new) }
+    ensures bad { (result ≡ Err RollFault.BadJournal) ↔
+        (IsGate g.now.inodes (D.state device.old).now → ⊥) }
+    ensures bad_stores_nothing { result ≡ Err RollFault.BadJournal → IsSame (D.state device.old)
+        (D.state device.new) }
+    ensures failed { result ≡ Err RollFault.Failed → Rose (D.state device.old).faults
+        (D.state device.new).faults }
     ensures settles { OnOk result (SettlesOpen who (D.state device.old) (D.state device.new)) }
     ensures flushes { OnOk result (FlushesAll who (D.state device.old) (D.state device.new)) }
-    ensures only { StoresOnly (λ a. IsJournaled g.now.inodes a ⊎ (a ≡ gate_word)) (D.state device.old) (D.state device.new) }
-    ensures others { KeepsFlushed (Others who) (λ a. IsJournaled g.now.inodes a ⊎ (a ≡ gate_word)) (D.state device.old) (D.state device.new) }
+    ensures only { StoresOnly (λ a. IsJournaled g.now.inodes a ⊎ (a ≡ gate_word))
+        (D.state device.old) (D.state device.new) }
+    ensures others { KeepsFlushed (Others who) (λ a. IsJournaled g.now.inodes a ⊎ (a ≡ gate_word))
+        (D.state device.old) (D.state device.new) }
     ensures spare { (D.state device.old).spare ≤ (D.state device.new).spare + ROLL_BACK_UNITS }
     ensures faults { (D.state device.old).faults ≤ (D.state device.new).faults }
 {

@@ -20,9 +20,11 @@ pub(crate) fn store_values<D: Pm>(device: &mut D, who: u32, changes: &[Change])
     requires room { VALUE_UNITS * length changes.now ≤ (D.state device.old).spare }
     ensures only { StoresOnly (IsNamed changes.now) (D.state device.old) (D.state device.new) }
     ensures ready { IsReady who (NewValues changes.now (length changes.now)) (D.state device.new) }
-    ensures keeps { KeepsFlushed Anyone (IsNamed changes.now) (D.state device.old) (D.state device.new) }
+    ensures keeps { KeepsFlushed Anyone (IsNamed changes.now) (D.state device.old)
+        (D.state device.new) }
     ensures flushes { FlushesAll who (D.state device.old) (D.state device.new) }
-    ensures spare { (D.state device.old).spare ≤ (D.state device.new).spare + VALUE_UNITS * length changes.now }
+    ensures spare { (D.state device.old).spare ≤ (D.state device.new).spare + VALUE_UNITS * length
+        changes.now }
     ensures faults { (D.state device.old).faults ≤ (D.state device.new).faults }
 {
     for change in changes {

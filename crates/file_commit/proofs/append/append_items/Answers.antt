@@ -18,8 +18,10 @@ returns-clause-any_moment g c =
     let S = g.D.Pm.state in
     λ d new event is.
     let to = to_prepare _ _ _ _ _ d new event _ is in
-    images _ _ _ _ _ d new event _ is (S c.prepare-tail.new.device) (c.prepare-tail.ensures.prepared _ _ to) c.requires.size c.prepare-tail.result (S c.commit_log.new.device)
-    (c.prepare-tail.ensures.tail _ _ to) c.commit_log.ensures.only (g.met.D.Pm.agree c.prepare-tail.new.device) (g.met.D.Pm.agree c.commit_log.new.device)
+    images _ _ _ _ _ d new event _ is (S c.prepare-tail.new.device) (c.prepare-tail.ensures.prepared _ _ to) c.requires.size c.prepare-tail.result
+    (S c.commit_log.new.device)
+    (c.prepare-tail.ensures.tail _ _ to) c.commit_log.ensures.only (g.met.D.Pm.agree c.prepare-tail.new.device)
+    (g.met.D.Pm.agree c.commit_log.new.device)
     (c.commit_log.ensures.committed (tail_settled _ _ _ _ _ d new event _ is (S c.prepare-tail.new.device) (c.prepare-tail.ensures.prepared _ _ to)))
 
 pub returns-clause-done : goal.returns-clause-done
@@ -27,7 +29,8 @@ returns-clause-done g c =
     let S = g.D.Pm.state in
     on_ok_map c.commit_log.result _ _ (λ done. λ d new event is.
     let to = to_prepare _ _ _ _ _ d new event _ is in
-    stands_new _ _ _ _ _ d new event _ is (S c.prepare-tail.new.device) (c.prepare-tail.ensures.prepared _ _ to) c.requires.size c.prepare-tail.result (S c.commit_log.new.device)
+    stands_new _ _ _ _ _ d new event _ is (S c.prepare-tail.new.device) (c.prepare-tail.ensures.prepared _ _ to) c.requires.size c.prepare-tail.result
+    (S c.commit_log.new.device)
     (c.prepare-tail.ensures.tail _ _ to) c.commit_log.ensures.only done) c.commit_log.ensures.done
 
 pub returns-clause-only : goal.returns-clause-only
@@ -35,7 +38,8 @@ returns-clause-only g c =
     let S = g.D.Pm.state in
     λ d new event is.
     let to = to_prepare _ _ _ _ _ d new event _ is in
-    stores _ _ _ _ _ d new event _ is (S c.prepare-tail.new.device) (c.prepare-tail.ensures.prepared _ _ to) c.requires.size c.prepare-tail.result (S c.commit_log.new.device)
+    stores _ _ _ _ _ d new event _ is (S c.prepare-tail.new.device) (c.prepare-tail.ensures.prepared _ _ to) c.requires.size c.prepare-tail.result
+    (S c.commit_log.new.device)
     (c.prepare-tail.ensures.tail _ _ to) c.commit_log.ensures.only c.commit_log.ensures.others
 
 pub returns-clause-settles : goal.returns-clause-settles

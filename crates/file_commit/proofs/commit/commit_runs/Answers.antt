@@ -18,16 +18,20 @@ returns-clause-any_moment g c =
     let S = g.D.Pm.state in
     λ d first size runs word is.
     let to = to_prepare _ _ _ _ d first size runs word _ is in
-    images _ _ _ _ d first size runs word _ is _ (S c.prepare-tail.new.device) (c.prepare-tail.ensures.prepared _ _ to) c.requires.size c.prepare-tail.result (S c.commit_log.new.device)
-    (c.prepare-tail.ensures.tail _ _ to) c.commit_log.ensures.only (g.met.D.Pm.agree c.prepare-tail.new.device) (g.met.D.Pm.agree c.commit_log.new.device)
-    (c.commit_log.ensures.committed (tail_settled _ _ _ _ d first size runs word _ is _ (S c.prepare-tail.new.device) (c.prepare-tail.ensures.prepared _ _ to)))
+    images _ _ _ _ d first size runs word _ is _ (S c.prepare-tail.new.device) (c.prepare-tail.ensures.prepared _ _ to) c.requires.size
+    c.prepare-tail.result (S c.commit_log.new.device)
+    (c.prepare-tail.ensures.tail _ _ to) c.commit_log.ensures.only (g.met.D.Pm.agree c.prepare-tail.new.device)
+    (g.met.D.Pm.agree c.commit_log.new.device)
+    (c.commit_log.ensures.committed (tail_settled _ _ _ _ d first size runs word _ is _ (S c.prepare-tail.new.device)
+    (c.prepare-tail.ensures.prepared _ _ to)))
 
 pub returns-clause-done : goal.returns-clause-done
 returns-clause-done g c =
     let S = g.D.Pm.state in
     on_ok_map c.commit_log.result _ _ (λ done. λ d first size runs word is.
     let to = to_prepare _ _ _ _ d first size runs word _ is in
-    stands_new _ _ _ _ d first size runs word _ is _ (S c.prepare-tail.new.device) (c.prepare-tail.ensures.prepared _ _ to) c.requires.size c.prepare-tail.result (S c.commit_log.new.device)
+    stands_new _ _ _ _ d first size runs word _ is _ (S c.prepare-tail.new.device) (c.prepare-tail.ensures.prepared _ _ to) c.requires.size
+    c.prepare-tail.result (S c.commit_log.new.device)
     (c.prepare-tail.ensures.tail _ _ to) c.commit_log.ensures.only done) c.commit_log.ensures.done
 
 pub returns-clause-only : goal.returns-clause-only
@@ -35,7 +39,8 @@ returns-clause-only g c =
     let S = g.D.Pm.state in
     λ d first size runs word is.
     let to = to_prepare _ _ _ _ d first size runs word _ is in
-    stores _ _ _ _ d first size runs word _ is _ (S c.prepare-tail.new.device) (c.prepare-tail.ensures.prepared _ _ to) c.requires.size c.prepare-tail.result (S c.commit_log.new.device)
+    stores _ _ _ _ d first size runs word _ is _ (S c.prepare-tail.new.device) (c.prepare-tail.ensures.prepared _ _ to) c.requires.size
+    c.prepare-tail.result (S c.commit_log.new.device)
     (c.prepare-tail.ensures.tail _ _ to) c.commit_log.ensures.only
 
 pub returns-clause-others : goal.returns-clause-others
@@ -43,7 +48,8 @@ returns-clause-others g c =
     let S = g.D.Pm.state in
     λ d first size runs word is.
     let to = to_prepare _ _ _ _ d first size runs word _ is in
-    kept _ _ _ _ d first size runs word _ is _ (S c.prepare-tail.new.device) (c.prepare-tail.ensures.prepared _ _ to) c.requires.size c.prepare-tail.result
+    kept _ _ _ _ d first size runs word _ is _ (S c.prepare-tail.new.device) (c.prepare-tail.ensures.prepared _ _ to) c.requires.size
+    c.prepare-tail.result
     (S c.commit_log.new.device) (c.prepare-tail.ensures.tail _ _ to) c.commit_log.ensures.only c.commit_log.ensures.others
 
 pub returns-clause-settles : goal.returns-clause-settles
