@@ -20,8 +20,10 @@ pub fn entry_of<D: Pm>(device: &D, g: &Geometry, page: u64) -> Option<u64>
     requires accepted { IsAccepted g.now }
     requires size { length (D.state device.now).now ≡ 512 * g.now.pages }
     requires page { page < g.now.pages }
-    ensures none { IsNone result ↔ (slice_index (D.state device.now).now (pointer_word g.now page) ≡ 0) }
-    ensures slot { IfSome result (λ slot. slice_index (D.state device.now).now (pointer_word g.now page) ≡ slot + 1) }
+    ensures none { IsNone result ↔ (slice_index (D.state device.now).now (pointer_word g.now page) ≡
+        0) }
+    ensures slot { IfSome result (λ slot. slice_index (D.state device.now).now
+        (pointer_word g.now page) ≡ slot + 1) }
 {
     match device.load(g.pointer_word(page)) {
         0 => None,
@@ -36,7 +38,8 @@ pub fn set_entry<D: Pm>(device: &mut D, g: &Geometry, who: u32, page: u64, slot:
     requires page { page < g.now.pages }
     requires slot { slot < slots g.now }
     requires room { POINTER_UNITS ≤ (D.state device.old).spare }
-    ensures stores { StoresRun who (pointer_word g.now page) ((slot + 1) ∷ []) (D.state device.old) (D.state device.new) }
+    ensures stores { StoresRun who (pointer_word g.now page) ((slot + 1) ∷ []) (D.state device.old)
+        (D.state device.new) }
     ensures spare { (D.state device.old).spare ≤ (D.state device.new).spare + POINTER_UNITS }
     ensures faults { (D.state device.old).faults ≤ (D.state device.new).faults }
 {
@@ -49,7 +52,8 @@ pub fn clear_entry<D: Pm>(device: &mut D, g: &Geometry, who: u32, page: u64)
     requires size { length (D.state device.old).now ≡ 512 * g.now.pages }
     requires page { page < g.now.pages }
     requires room { POINTER_UNITS ≤ (D.state device.old).spare }
-    ensures stores { StoresRun who (pointer_word g.now page) (0 ∷ []) (D.state device.old) (D.state device.new) }
+    ensures stores { StoresRun who (pointer_word g.now page) (0 ∷ []) (D.state device.old)
+        (D.state device.new) }
     ensures spare { (D.state device.old).spare ≤ (D.state device.new).spare + POINTER_UNITS }
     ensures faults { (D.state device.old).faults ≤ (D.state device.new).faults }
 {

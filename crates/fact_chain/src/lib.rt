@@ -55,7 +55,8 @@ pub fn fill_chain<D: Pm>(device: &mut D, g: &Geometry, who: u32, slot: u64, row:
     requires indirect { directs g.now ≤ slot }
     requires slot { slot < slots g.now }
     requires room { FILL_UNITS ≤ (D.state device.old).spare }
-    ensures stores { StoresRun who (slot_word g.now slot 0) (slot_words row.now) (D.state device.old) (D.state device.new) }
+    ensures stores { StoresRun who (slot_word g.now slot 0) (slot_words row.now)
+        (D.state device.old) (D.state device.new) }
     ensures spare { (D.state device.old).spare ≤ (D.state device.new).spare + FILL_UNITS }
     ensures faults { (D.state device.old).faults ≤ (D.state device.new).faults }
 {
@@ -82,10 +83,15 @@ pub fn link<D: Pm>(
     requires indirect { directs g.now ≤ slot }
     requires slot { slot < slots g.now }
     requires room { LINK_UNITS ≤ (D.state device.old).spare }
-    ensures any_moment { IsSettled (D.state device.old) (slot_word g.now direct 5) → LeavesOnly (D.state device.old) (D.state device.new) (LeavesOneWord (slot_word g.now direct 5) slot (D.state device.old)) }
-    ensures done { OnOk result (IsDone who (slot_word g.now direct 5) slot (D.state device.old) (D.state device.new)) }
-    ensures only { StoresOnly (λ a. a ≡ slot_word g.now direct 5) (D.state device.old) (D.state device.new) }
-    ensures others { KeepsFlushed (Others who) (λ a. a ≡ slot_word g.now direct 5) (D.state device.old) (D.state device.new) }
+    ensures any_moment { IsSettled (D.state device.old) (slot_word g.now direct 5)
+        → LeavesOnly (D.state device.old) (D.state device.new)
+        (LeavesOneWord (slot_word g.now direct 5) slot (D.state device.old)) }
+    ensures done { OnOk result (IsDone who (slot_word g.now direct 5) slot (D.state device.old)
+        (D.state device.new)) }
+    ensures only { StoresOnly (λ a. a ≡ slot_word g.now direct 5) (D.state device.old)
+        (D.state device.new) }
+    ensures others { KeepsFlushed (Others who) (λ a. a ≡ slot_word g.now direct 5)
+        (D.state device.old) (D.state device.new) }
     ensures spare { (D.state device.old).spare ≤ (D.state device.new).spare + LINK_UNITS }
     ensures faults { (D.state device.old).faults ≤ (D.state device.new).faults }
     ensures failed { IsErr result → Rose (D.state device.old).faults (D.state device.new).faults }
@@ -113,10 +119,18 @@ pub fn unlink<D: Pm>(
     requires indirect { directs g.now ≤ slot }
     requires slot { slot < slots g.now }
     requires room { LINK_UNITS ≤ (D.state device.old).spare }
-    ensures any_moment { IsSettled (D.state device.old) (slot_word g.now before 5) → LeavesOnly (D.state device.old) (D.state device.new) (LeavesOneWord (slot_word g.now before 5) (slice_index (D.state device.old).now (slot_word g.now slot 5)) (D.state device.old)) }
-    ensures done { OnOk result (IsDone who (slot_word g.now before 5) (slice_index (D.state device.old).now (slot_word g.now slot 5)) (D.state device.old) (D.state device.new)) }
-    ensures only { StoresOnly (λ a. a ≡ slot_word g.now before 5) (D.state device.old) (D.state device.new) }
-    ensures others { KeepsFlushed (Others who) (λ a. a ≡ slot_word g.now before 5) (D.state device.old) (D.state device.new) }
+    ensures any_moment { IsSettled (D.state device.old) (slot_word g.now before 5)
+        → LeavesOnly (D.state device.old) (D.state device.new)
+        (LeavesOneWord (slot_word g.now before 5)
+        (slice_index (D.state device.old).now (slot_word g.now slot 5)) (D.state device.old)) }
+    ensures done { OnOk result
+        (IsDone who (slot_word g.now before 5)
+        (slice_index (D.state device.old).now (slot_word g.now slot 5)) (D.state device.old)
+        (D.state device.new)) }
+    ensures only { StoresOnly (λ a. a ≡ slot_word g.now before 5) (D.state device.old)
+        (D.state device.new) }
+    ensures others { KeepsFlushed (Others who) (λ a. a ≡ slot_word g.now before 5)
+        (D.state device.old) (D.state device.new) }
     ensures spare { (D.state device.old).spare ≤ (D.state device.new).spare + LINK_UNITS }
     ensures faults { (D.state device.old).faults ≤ (D.state device.new).faults }
     ensures failed { IsErr result → Rose (D.state device.old).faults (D.state device.new).faults }

@@ -55,7 +55,8 @@ pub fn fill_direct<D: Pm>(device: &mut D, g: &Geometry, who: u32, slot: u64, row
     requires size { length (D.state device.old).now ≡ 512 * g.now.pages }
     requires slot { slot < directs g.now }
     requires room { FILL_UNITS ≤ (D.state device.old).spare }
-    ensures stores { StoresRun who (slot_word g.now slot 1) (words_but_page row.now) (D.state device.old) (D.state device.new) }
+    ensures stores { StoresRun who (slot_word g.now slot 1) (words_but_page row.now)
+        (D.state device.old) (D.state device.new) }
     ensures spare { (D.state device.old).spare ≤ (D.state device.new).spare + FILL_UNITS }
     ensures faults { (D.state device.old).faults ≤ (D.state device.new).faults }
 {
@@ -81,10 +82,15 @@ pub fn open_direct<D: Pm>(
     requires slot { slot < directs g.now }
     requires page { page < g.now.pages }
     requires room { GATE_UNITS ≤ (D.state device.old).spare }
-    ensures any_moment { IsSettled (D.state device.old) (slot_word g.now slot 0) → LeavesOnly (D.state device.old) (D.state device.new) (LeavesOneWord (slot_word g.now slot 0) page (D.state device.old)) }
-    ensures done { OnOk result (IsDone who (slot_word g.now slot 0) page (D.state device.old) (D.state device.new)) }
-    ensures only { StoresOnly (λ a. a ≡ slot_word g.now slot 0) (D.state device.old) (D.state device.new) }
-    ensures others { KeepsFlushed (Others who) (λ a. a ≡ slot_word g.now slot 0) (D.state device.old) (D.state device.new) }
+    ensures any_moment { IsSettled (D.state device.old) (slot_word g.now slot 0)
+        → LeavesOnly (D.state device.old) (D.state device.new)
+        (LeavesOneWord (slot_word g.now slot 0) page (D.state device.old)) }
+    ensures done { OnOk result (IsDone who (slot_word g.now slot 0) page (D.state device.old)
+        (D.state device.new)) }
+    ensures only { StoresOnly (λ a. a ≡ slot_word g.now slot 0) (D.state device.old)
+        (D.state device.new) }
+    ensures others { KeepsFlushed (Others who) (λ a. a ≡ slot_word g.now slot 0)
+        (D.state device.old) (D.state device.new) }
     ensures spare { (D.state device.old).spare ≤ (D.state device.new).spare + GATE_UNITS }
     ensures faults { (D.state device.old).faults ≤ (D.state device.new).faults }
     ensures failed { IsErr result → Rose (D.state device.old).faults (D.state device.new).faults }
@@ -104,10 +110,15 @@ pub fn close_direct<D: Pm>(device: &mut D, g: &Geometry, who: u32, slot: u64) ->
     requires size { length (D.state device.old).now ≡ 512 * g.now.pages }
     requires slot { slot < directs g.now }
     requires room { GATE_UNITS ≤ (D.state device.old).spare }
-    ensures any_moment { IsSettled (D.state device.old) (slot_word g.now slot 0) → LeavesOnly (D.state device.old) (D.state device.new) (LeavesOneWord (slot_word g.now slot 0) 0 (D.state device.old)) }
-    ensures done { OnOk result (IsDone who (slot_word g.now slot 0) 0 (D.state device.old) (D.state device.new)) }
-    ensures only { StoresOnly (λ a. a ≡ slot_word g.now slot 0) (D.state device.old) (D.state device.new) }
-    ensures others { KeepsFlushed (Others who) (λ a. a ≡ slot_word g.now slot 0) (D.state device.old) (D.state device.new) }
+    ensures any_moment { IsSettled (D.state device.old) (slot_word g.now slot 0)
+        → LeavesOnly (D.state device.old) (D.state device.new)
+        (LeavesOneWord (slot_word g.now slot 0) 0 (D.state device.old)) }
+    ensures done { OnOk result (IsDone who (slot_word g.now slot 0) 0 (D.state device.old)
+        (D.state device.new)) }
+    ensures only { StoresOnly (λ a. a ≡ slot_word g.now slot 0) (D.state device.old)
+        (D.state device.new) }
+    ensures others { KeepsFlushed (Others who) (λ a. a ≡ slot_word g.now slot 0)
+        (D.state device.old) (D.state device.new) }
     ensures spare { (D.state device.old).spare ≤ (D.state device.new).spare + GATE_UNITS }
     ensures faults { (D.state device.old).faults ≤ (D.state device.new).faults }
     ensures failed { IsErr result → Rose (D.state device.old).faults (D.state device.new).faults }

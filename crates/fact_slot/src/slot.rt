@@ -127,7 +127,8 @@ pub fn store_fields<D: Pm>(
     requires some { 1 ≤ length words.now }
     requires in_slot { field + length words.now ≤ 8 }
     requires room { STORE_UNITS ≤ (D.state device.old).spare }
-    ensures stores { StoresRun who (slot_word g.now slot field) words.now (D.state device.old) (D.state device.new) }
+    ensures stores { StoresRun who (slot_word g.now slot field) words.now (D.state device.old)
+        (D.state device.new) }
     ensures spare { (D.state device.old).spare ≤ (D.state device.new).spare + STORE_UNITS }
     ensures faults { (D.state device.old).faults ≤ (D.state device.new).faults }
 {
@@ -155,10 +156,15 @@ pub fn set_field<D: Pm>(
     requires slot { slot < slots g.now }
     requires field { field < 8 }
     requires room { SET_UNITS ≤ (D.state device.old).spare }
-    ensures any_moment { IsSettled (D.state device.old) (slot_word g.now slot field) → LeavesOnly (D.state device.old) (D.state device.new) (LeavesOneWord (slot_word g.now slot field) value (D.state device.old)) }
-    ensures done { OnOk result (IsDone who (slot_word g.now slot field) value (D.state device.old) (D.state device.new)) }
-    ensures only { StoresOnly (λ a. a ≡ slot_word g.now slot field) (D.state device.old) (D.state device.new) }
-    ensures others { KeepsFlushed (Others who) (λ a. a ≡ slot_word g.now slot field) (D.state device.old) (D.state device.new) }
+    ensures any_moment { IsSettled (D.state device.old) (slot_word g.now slot field)
+        → LeavesOnly (D.state device.old) (D.state device.new)
+        (LeavesOneWord (slot_word g.now slot field) value (D.state device.old)) }
+    ensures done { OnOk result (IsDone who (slot_word g.now slot field) value (D.state device.old)
+        (D.state device.new)) }
+    ensures only { StoresOnly (λ a. a ≡ slot_word g.now slot field) (D.state device.old)
+        (D.state device.new) }
+    ensures others { KeepsFlushed (Others who) (λ a. a ≡ slot_word g.now slot field)
+        (D.state device.old) (D.state device.new) }
     ensures spare { (D.state device.old).spare ≤ (D.state device.new).spare + SET_UNITS }
     ensures faults { (D.state device.old).faults ≤ (D.state device.new).faults }
     ensures failed { IsErr result → Rose (D.state device.old).faults (D.state device.new).faults }

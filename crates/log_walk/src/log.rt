@@ -79,8 +79,11 @@ fn read_log<D: Pm>(
     requires ino { ino < g.now.inodes }
     requires tail { tail ≡ slice_index (D.state device.now).now (inode_word ino 2) }
     requires some { 0 < tail }
-    ensures log { IfOk result (λ read. IfNone read.1 (HasWholeLog g.now (D.state device.now).now ino read.0.pages.items read.0.items.items)) }
-    ensures fault { IfOk result (λ read. IfSome read.1 (λ place. LogFault g.now (D.state device.now).now ino place)) }
+    ensures log { IfOk result
+        (λ read. IfNone read.1 (HasWholeLog g.now (D.state device.now).now ino read.0.pages.items
+        read.0.items.items)) }
+    ensures fault { IfOk result
+        (λ read. IfSome read.1 (λ place. LogFault g.now (D.state device.now).now ino place)) }
 {
     let head = device.load(g.inode_word(ino, HEAD));
     let way = read_pages(alloc, device, g, head, tail / 64)?;
@@ -111,7 +114,8 @@ pub fn walk_log<D: Pm>(
     requires accepted { IsAccepted g.now }
     requires size { length (D.state device.now).now ≡ 512 * g.now.pages }
     requires ino { ino < g.now.inodes }
-    ensures log { IfOk result (λ read. HasWholeLog g.now (D.state device.now).now ino read.pages.items read.items.items) }
+    ensures log { IfOk result (λ read. HasWholeLog g.now (D.state device.now).now ino
+        read.pages.items read.items.items) }
     ensures fault { IfErr result (λ fault. IsFaultOf g.now (D.state device.now).now ino fault) }
 {
     let tail = device.load(g.inode_word(ino, TAIL));

@@ -44,7 +44,8 @@ pub fn read_pages<D: Pm>(
 ) -> Result<Way, AllocError>
     requires accepted { IsAccepted g.now }
     requires size { length (D.state device.now).now ≡ 512 * g.now.pages }
-    ensures { IfOk result (λ way. IsWay g.now (D.state device.now).now head last way.pages.items way.whole) }
+    ensures { IfOk result (λ way. IsWay g.now (D.state device.now).now head last way.pages.items
+        way.whole) }
 {
     let first = g.first_data();
     let mut met = FreeSet::none(alloc, g.pages)?;

@@ -42,7 +42,8 @@ pub fn read_slots<D: Pm>(
     requires size { length (D.state device.now).now ≡ 512 * g.now.pages }
     requires pages { All (λ page. page < g.now.pages) pages.now }
     requires inside { count ≤ 63 * length pages.now }
-    ensures { IfOk result (λ slots. slots.items ≡ first_slots (D.state device.now).now pages.now count) }
+    ensures { IfOk result (λ slots. slots.items ≡ first_slots (D.state device.now).now pages.now
+        count) }
 {
     let mut slots = Vec::new(alloc);
     for k in 0..count {

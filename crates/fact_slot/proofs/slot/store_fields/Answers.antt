@@ -24,5 +24,6 @@ returns-clause-stores g c =
     let below = slot_word-below_data c.args.g.now c.args.slot c.requires.accepted c.requires.slot in
     subst (λ at. StoresRun c.args.who at c.args.words.now (S c.args.device.now) (S c.flush.new.self)) c.slot_word-at.ensures
     (stored_run c.args.who at (at / 8) 1 c.args.words.now (S c.args.device.now) (S c.store_run.new.self) (S c.flush.new.self)
-    (omega (arith, c.slot_word-at.ensures, c.requires.size, c.requires.accepted.room, c.requires.in_slot, below)) (omega arith) (omega (arith, c.slot_word-at.ensures, c.requires.in_slot))
+    (omega (arith, c.slot_word-at.ensures, c.requires.size, c.requires.accepted.room, c.requires.in_slot, below)) (omega arith)
+    (omega (arith, c.slot_word-at.ensures, c.requires.in_slot))
     (agree c.args.device.now) (agree c.store_run.new.self) (agree c.flush.new.self) c.store_run.ensures.stores c.flush.ensures.flushes)
