@@ -12,8 +12,7 @@ use Rattle.dn_model.specs.Table.{Row, row_of}
 use Rattle.dn_model.specs.Disk.{Disk}
 use Rattle.law_write.proofs.WriteValid.{named_same, was_used}
 use Rattle.law_table.proofs.Rows.{listed_here}
-use Rattle.file_commit.specs.Commit.{IsItemWord}
-use Rattle.file_commit.specs.Append.{AppendsOnly}
+use Rattle.file_commit.specs.Append.{IsItemWord, AppendsOnly}
 use Rattle.dn_volume.specs.declared.flight.Flight.{Flight}
 use Rattle.dn_volume.specs.declared.flight.Change.TheVariants.{Data}
 use Rattle.dn_volume.specs.declared.flight.DataChange.{DataChange}

@@ -6,7 +6,7 @@
 #![tactic(auto)]
 
 ghost use Rattle.std.specs.Prelude.{◌≡◌, ◌+◌, ◌*◌, ◌<◌, ◌≤◌, ℕ, List, [], ◌∷◌, length, slice_index};
-ghost use Rattle.pm_device.specs.Settled.{KeepsFlushed, Anyone};
+ghost use Rattle.pm_device.specs.Settled.{KeepsFlushed, Anyone, FlushesAll};
 ghost use Rattle.pm_device.specs.Words.{IsIn};
 ghost use Rattle.pm_device.specs.Lines.{StoresRun};
 ghost use Rattle.pm_layout.specs.Geometry.{IsAccepted, inode_word};
@@ -83,8 +83,11 @@ pub fn store_field<D: Pm>(device: &mut D, g: &Geometry, who: u32, ino: u64, fiel
     requires ino { ino < g.now.inodes }
     requires field { field < 4 }
     requires room { FIELD_UNITS ≤ (D.state device.old).spare }
-    ensures stores { StoresRun who (inode_word ino field) (value ∷ []) (D.state device.old) (D.state device.new) }
-    ensures keeps { KeepsFlushed Anyone (IsIn (inode_word ino field) 1) (D.state device.old) (D.state device.new) }
+    ensures stores { StoresRun who (inode_word ino field) (value ∷ []) (D.state device.old)
+        (D.state device.new) }
+    ensures keeps { KeepsFlushed Anyone (IsIn (inode_word ino field) 1) (D.state device.old)
+        (D.state device.new) }
+    ensures flushes { FlushesAll who (D.state device.old) (D.state device.new) }
     ensures spare { (D.state device.old).spare ≤ (D.state device.new).spare + FIELD_UNITS }
     ensures faults { (D.state device.old).faults ≤ (D.state device.new).faults }
 {
@@ -98,8 +101,11 @@ pub fn clear_inode<D: Pm>(device: &mut D, g: &Geometry, who: u32, ino: u64)
     requires size { length (D.state device.old).now ≡ 512 * g.now.pages }
     requires ino { ino < g.now.inodes }
     requires room { CLEAR_UNITS ≤ (D.state device.old).spare }
-    ensures stores { StoresRun who (inode_word ino 1) (0 ∷ 0 ∷ 0 ∷ []) (D.state device.old) (D.state device.new) }
-    ensures keeps { KeepsFlushed Anyone (IsIn (inode_word ino 1) 3) (D.state device.old) (D.state device.new) }
+    ensures stores { StoresRun who (inode_word ino 1) (0 ∷ 0 ∷ 0 ∷ []) (D.state device.old)
+        (D.state device.new) }
+    ensures keeps { KeepsFlushed Anyone (IsIn (inode_word ino 1) 3) (D.state device.old)
+        (D.state device.new) }
+    ensures flushes { FlushesAll who (D.state device.old) (D.state device.new) }
     ensures spare { (D.state device.old).spare ≤ (D.state device.new).spare + CLEAR_UNITS }
     ensures faults { (D.state device.old).faults ≤ (D.state device.new).faults }
 {

@@ -4,5 +4,6 @@ use Rattle.inode_table.proofs.clear_inode.Goals as goal
 
 pub store_words-requires-clause-inside : goal.store_words-requires-clause-inside
 store_words-requires-clause-inside g c =
-    let line = line_inside c.args.g.now c.args.ino 1 _ c.inode_word.result c.requires.accepted c.requires.size c.requires.ino (omega arith) c.inode_word.ensures in
+    let line = line_inside c.args.g.now c.args.ino 1 _ c.inode_word.result c.requires.accepted c.requires.size c.requires.ino (omega arith)
+    c.inode_word.ensures in
     omega (arith, line, c.inode_word.ensures)
