@@ -73,5 +73,5 @@ module _ (d e : Disk) (f : Flight) (c : DataChange) (from n : ℕ) (kind : f.cha
   leaves_rest who s t appends = record {
     rest = keeps_rest;
     only = stores_only-weaken (IsItemWord f.ino d e) (IsWordOf (f.ino ∷ []) (taken_by f) d) s t item_word appends.only;
-    others = λ q a other out lt flushed. appends.others q a other (λ item. out (item_word a item)) lt flushed;
+    others = λ q a other out lt flushed. appends.others.flushed q a other (λ item. out (item_word a item)) lt flushed;
   }

@@ -125,7 +125,7 @@ module _ (d : Disk) (b b' : Parts) (s u t : State) (who : ℕ) (f : Flight) (nam
       record {
         within = λ a v told. let lt = was.within a v told in let same = stores.cleared.only.words in omega (arith, lt, same);
         reads = λ a v told. stores.cleared.only.read a (not_turned a v told) ∙ was.reads a v told;
-        flushed = λ a v told. stores.cleared.keeps who a (not_turned a v told) (was.within a v told) (was.flushed a v told);
+        flushed = λ a v told. stores.cleared.keeps.flushed who a tt (not_turned a v told) (was.within a v told) (was.flushed a v told);
       }
 
   ready : IsReady who (FreshNames d change) t
@@ -204,7 +204,8 @@ module _ (d : Disk) (b b' : Parts) (s u t : State) (who : ℕ) (f : Flight) (nam
     only = stores_only-then (IsWordOf inodes f.fresh.items d) s u t (stores_only-weaken Root (IsWordOf inodes f.fresh.items d) s u of_root stores.prepared.only)
         (stores_only-weaken Turn' (IsWordOf inodes f.fresh.items d) u t of_turn stores.cleared.only);
     others = λ q a other out lt flushed.
-        stores.cleared.keeps q a (λ here. out (of_turn a here)) (let same = stores.prepared.only.words in omega (arith, lt, same)) (stores.prepared.keeps q a (λ said. out (of_root a said)) lt flushed);
+        stores.cleared.keeps.flushed q a tt (λ here. out (of_turn a here)) (let same = stores.prepared.only.words in omega (arith, lt, same))
+        (stores.prepared.keeps.flushed q a tt (λ said. out (of_root a said)) lt flushed);
   }
 
   same : SameOthers who b b'
@@ -307,7 +308,7 @@ module _ (d : Disk) (b b' : Parts) (s u t : State) (who : ℕ) (f : Flight) (nam
     room = room;
     trace = subst (λ (g : Geometry). All (λ (x : CountChange). x.slot < slots g) b'.trace.items) (sym st.geometry)
         (subst (λ xs. All (λ (x : CountChange). x.slot < slots b.geometry) xs.items) (sym prepares.trace) volume.trace);
-    still = still_flushes who f' b b' s t stores.flushes st.now same volume.still;
+    still = still_flushes who f' b b' s t (record { words = stores.flushes.words; kept = stores.flushes.kept }) st.now same volume.still;
   }
 
   pub moved : (print : Print) → IsVolume d b' t × LeavesOnly s t (IsBetween print d d)
