@@ -9,17 +9,13 @@ ghost use Rattle.fact_scan.specs.Found.{IsMarked, IsFoundTo, IsNew, Adds, TakesR
 
 use crate::row::{Row, direct_of};
 use crate::scan::ScanFault;
-use fact_slot::slot::{NEXT, PAGE};
 use fact_slot::{load_field, peek_slot};
 use fingerprint::FactSlot;
 use page_alloc::FreeSet;
 use pm_device::Pm;
-use pm_layout::Geometry;
+use pm_layout::{FACT_NEXT, FACT_PAGE, FACT_PRINT, Geometry};
 use std::alloc::{AllocError, Global};
 use std::collections::BTreeSet;
-
-// The word of a slot that holds the last four bytes of a fingerprint.
-const THIRD: u64 = 3;
 
 /// The rows that were read so far, prefix by prefix.
 #[derive(Drop)]
@@ -142,7 +138,7 @@ impl Found {
             slot self.old fault) }
     {
         let held = peek_slot(device, g, slot);
-        let third = load_field(device, g, slot, THIRD);
+        let third = load_field(device, g, slot, FACT_PRINT + 2);
         if !is_row(g, prefix, third, &held) || !self.is_new(g, slot, &held) {
             return Err(ScanFault::BadTable { slot });
         }
@@ -168,8 +164,8 @@ impl Found {
         ensures fault { IfErr result (λ fault. IsFaultOf g.now (D.state device.now).now fault) }
     {
         self.prints.clear();
-        if load_field(device, g, prefix, PAGE) == 0 {
-            return Ok(load_field(device, g, prefix, NEXT));
+        if load_field(device, g, prefix, FACT_PAGE) == 0 {
+            return Ok(load_field(device, g, prefix, FACT_NEXT));
         }
         self.take_row(device, g, prefix, prefix)
     }

@@ -6,16 +6,12 @@ ghost use Rattle.log_walk.specs.Walk.{HasLog, HasWholeLog, IsFaultOf, fault_plac
 
 use crate::items::{End, Items, Placed, read_items};
 use crate::pages::{Way, read_pages};
-use crate::slots::{PAGE_SLOTS, read_slots};
+use crate::slots::read_slots;
+use log_entry::LOG_SLOTS;
 use pm_device::Pm;
-use pm_layout::Geometry;
+use pm_layout::{Geometry, HEAD, TAIL};
 use std::alloc::{AllocError, Global};
 use thiserror::Error;
-
-// Fields of an inode.
-const HEAD: u64 = 1;
-
-const TAIL: u64 = 2;
 
 /// Why a log can't be read.
 #[derive(Clone, Copy, Debug, PartialEq, Eq, Error)]
@@ -47,9 +43,9 @@ fn slots_before(way: &Way, tail: u64) -> u64
 {
     let pages = way.pages.len() as u64;
     if way.whole {
-        PAGE_SLOTS * pages.saturating_sub(1) + tail % 64
+        LOG_SLOTS * pages.saturating_sub(1) + tail % 64
     } else {
-        PAGE_SLOTS * pages
+        LOG_SLOTS * pages
     }
 }
 
