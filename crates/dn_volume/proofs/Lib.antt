@@ -18,6 +18,8 @@ pub mod Begun
 pub mod Fresh
 pub mod Stills
 pub mod Kept
+pub mod Heads
+pub mod Replaced
 pub mod Stepped
 pub mod Settling
 pub mod Wants
