@@ -19,6 +19,7 @@ pub mod Fresh
 pub mod Stills
 pub mod Kept
 pub mod Heads
+pub mod SameRoom
 pub mod Replaced
 pub mod Stepped
 pub mod Settling
