@@ -1,5 +1,5 @@
 -- The volume, once a write or a cut is ended.
-use Rattle.std.proofs.Common.{◌≡◌, ◌≢◌, inl, ℕ, ◌+◌, ◌*◌, ◌<◌, ◌≤◌, List, [], ◌∷◌, length, sym, ◌∙◌, ap, subst, arith}
+use Rattle.std.proofs.Common.{◌≡◌, ◌≢◌, inl, ℕ, ◌+◌, ◌*◌, ◌<◌, ◌≤◌, List, [], ◌∷◌, length, refl, sym, ◌∙◌, ap, subst, arith}
 use Rattle.std.specs.Prelude.{Contains, All}
 use Rattle.std.specs.FinMap.{get}
 use Rattle.pm_device.specs.State.{State}
@@ -23,6 +23,7 @@ use Rattle.dn_volume.specs.Space.{AreSlotsOf}
 use Rattle.dn_volume.specs.Reserve.{units_by}
 use Rattle.dn_volume.specs.Rely.{StayInHand}
 use Rattle.dn_volume.specs.Agrees.{StandsFast, IsVolume, NamesSlots}
+use Rattle.dn_volume.proofs.Heads.{none_stale_kept}
 use Rattle.dn_volume.proofs.OthersStay.{others_stay}
 use Rattle.dn_volume.proofs.Stills.{still_settles}
 use Rattle.file_ops.specs.Ends.{ChangesData, Ends}
@@ -106,6 +107,8 @@ module _ (d e : Disk) (b b' : Parts) (s t : State) (who : ℕ) (f : Flight) (c :
     queue = queued_after d e b b' f c from n (length c.runs.items) v.inodes disk ends.keeps ends.inode ends.queue v.queue;
     sharing = others_after.1.sharing (λ him. omega (arith, him, client));
     reclaiming = reclaiming_after d e b b' f c from n (length c.runs.items) v.inodes disk ends.keeps ends.inode ends.releases (others_after.1.raised (λ him. omega (arith, him, client))) v.reclaiming;
+    pointers = none_stale_kept d e disk.event.relogs.geometry disk.event.relogs.pointer
+        (λ row has. record { row = row; there = subst (λ (rs : List Row). Contains rs row) (sym rows_still) has; page_is = refl }) v.pointers;
     room = room_after b b' who f flies v.flights.clients ends.keeps ends.flight ends.owed e c s t kind ends.history.0 from n ends.inode ends.releases ends.queue ends.history.1 units other_file v.room;
     trace = trace_after;
     still = still_settles who b b' s t (record { words = settles.words; kept = settles.kept; own = settles.own }) (same_others b b' who f flies ends.keeps ends.flight) v.still;
