@@ -9,12 +9,11 @@ ghost use Rattle.fact_scan.specs.Found.{IsMarked, IsFoundTo, IsNew, Adds, TakesR
 
 use crate::row::{Row, direct_of};
 use crate::scan::ScanFault;
-use fact_slot::slot::{NEXT, PAGE};
 use fact_slot::{load_field, peek_slot};
 use fingerprint::FactSlot;
 use page_alloc::FreeSet;
 use pm_device::Pm;
-use pm_layout::Geometry;
+use pm_layout::{FACT_NEXT, FACT_PAGE, Geometry};
 use std::alloc::{AllocError, Global};
 use std::collections::BTreeSet;
 
@@ -168,8 +167,8 @@ impl Found {
         ensures fault { IfErr result (λ fault. IsFaultOf g.now (D.state device.now).now fault) }
     {
         self.prints.clear();
-        if load_field(device, g, prefix, PAGE) == 0 {
-            return Ok(load_field(device, g, prefix, NEXT));
+        if load_field(device, g, prefix, FACT_PAGE) == 0 {
+            return Ok(load_field(device, g, prefix, FACT_NEXT));
         }
         self.take_row(device, g, prefix, prefix)
     }
