@@ -8,6 +8,7 @@ ghost use Rattle.pm_file.specs.Length.{is_length};
 use crate::OpenFault;
 use crate::transfer::{read_words, write_words};
 use pm_device::{Failed, Pm};
+use pm_layout::{MOST_PAGES, PAGE_BYTES};
 use std::alloc::AllocError;
 use std::fs::{File, Files, OpenFile, OpenOptions};
 use std::io;
@@ -79,7 +80,7 @@ fn raised(n: u64) -> u64
 fn check_length(bytes: u64) -> Result<(), OpenFault>
     ensures { result ≡ (if is_length bytes then Ok tt else Err (OpenFault.BadLength bytes)) }
 {
-    if bytes > 0 && bytes % 4096 == 0 && bytes <= 268_435_456 {
+    if bytes > 0 && bytes % PAGE_BYTES == 0 && bytes <= MOST_PAGES * PAGE_BYTES {
         Ok(())
     } else {
         Err(OpenFault::BadLength { bytes })
@@ -147,7 +148,7 @@ impl<F: Read + Write + Seek + OpenFile + Drop> FilePm<F> {
         ensures bad_wanted { is_length (4096 * pages) ≡ false
             → result ≡ Err (OpenFault.BadLength (min (4096 * pages) (2 ^ 64 - 1))) }
     {
-        let bytes = pages.saturating_mul(4096);
+        let bytes = pages.saturating_mul(PAGE_BYTES);
         check_length(bytes)?;
         let words = vec![in rt.alloc(); 0; (bytes / 8) as usize].map_err(|_| OpenFault::NoMemory)?;
         let file = make_file(rt, path, bytes).map_err(|_| OpenFault::Refused)?;
