@@ -22,7 +22,6 @@ pub mod Heads
 pub mod SameRoom
 pub mod Replaced
 pub mod Stepped
-pub mod Settling
 pub mod Wants
 pub mod FlightsGranted
 pub mod Lacks

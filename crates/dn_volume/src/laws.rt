@@ -2,7 +2,7 @@
 ghost use Rattle.dn_volume.specs.Laws.{DecidingStoresLead, FastDevicesLeave, TablesAreThere, AdvancesAreTold, MovesStaySound, AnswersStaySound, BreaksStaySound, BeginsStaySound, FlightsAreGranted, InodesAreShort, WantsAreShort};
 ghost use Rattle.dn_volume.specs.Fresh.{FreshVolumesAgree, FreshVolumesAreSound};
 ghost use Rattle.dn_volume.specs.Rely.{FlightsStay, OthersStay};
-ghost use Rattle.dn_volume.specs.StillLaws.{FlushesJoin, StillFlushes, StillSettles, StillWithoutFlights};
+ghost use Rattle.dn_volume.specs.StillLaws.{StillFlushes, StillSettles, StillWithoutFlights};
 
 use fingerprint::Fingerprint;
 use pm_device::Pm;
@@ -64,7 +64,6 @@ pub fn stillness_stays()
     ensures still { StillWithoutFlights }
     ensures flushes { StillFlushes }
     ensures settles { StillSettles }
-    ensures join { FlushesJoin }
 {}
 
 /// Where nothing waits for reclaim, a want of an inode is one of the disk.

@@ -17,7 +17,7 @@ pub const RAISE_UNITS: u64 = COUNT_UNITS;
 pub const SLOT_UNITS: u64 = PREPARE_UNITS;
 
 /// A log's tail is stored once its slots stand behind it.
-pub const TAIL_UNITS: u64 = file_commit::commit::COMMIT_UNITS;
+pub const TAIL_UNITS: u64 = file_commit::append::COMMIT_UNITS;
 
 /// The words of an inode that comes to life or is dying are stored.
 pub const TURN_UNITS: u64 = CLEAR_UNITS;

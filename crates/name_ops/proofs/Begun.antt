@@ -44,7 +44,8 @@ use Rattle.dn_volume.specs.Shares.{IsWaiting, in_queue, is_begun, IsQueued}
 use Rattle.dn_volume.specs.Agrees.{StandsFast, IsVolume}
 use Rattle.dn_volume.specs.Stills.{IsStillBut}
 use Rattle.dn_volume.specs.Rely.{IsWordOf, LeavesRest, StayInHand}
-use Rattle.dn_volume.proofs.Stills.{settled_same, flushed_same, still_same}
+use Rattle.pm_device.proofs.Flushed.{settled_same, flushed_same}
+use Rattle.dn_volume.proofs.Stills.{still_same}
 use Rattle.dn_volume.proofs.OthersStay.{others_stay}
 use Rattle.dn_volume.proofs.Shorts.{one_flight}
 use Rattle.name_ops.proofs.Landed.{contains_or_not}
