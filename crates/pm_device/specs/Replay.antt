@@ -32,7 +32,7 @@ last_after a n (Ran at from len) = if covers at len a then n + 1 else n
 last_after a n (FlushedEntry who first lines) = n
 last_after a n (FencedEntry who ok) = n
 
--- the first place that a stop may leave in the end, where it was d before the entry
+-- the first place that a crash may leave in the end, where it was d before the entry
 abbrev pub durable_after : (a n d : ℕ) → Entry → Bool → ℕ
 durable_after a n d (Ran at from len) fenced = d
 durable_after a n d (FlushedEntry who first lines) fenced = if fenced && covers (8 * first) (8 * lines) a then n else d

@@ -1,5 +1,5 @@
-// The image that a pick takes among those that a stop may leave. The record is read three times, and each word
-// has two numbers meanwhile: the place of its last value, and of the first that the stop may leave.
+// The image that a pick takes among those that a crash may leave. The record is read three times, and each word
+// has two numbers meanwhile: the place of its last value, and of the first that the crash may leave.
 ghost use Rattle.std.specs.Prelude.{◌≡◌, ℕ, ◌+◌, ◌-◌, ◌*◌, ◌^◌, ◌<◌, ◌≤◌, ◌&&◌, if◌then◌else◌, nat_lt, true, false, length, slice_index, vec_len, unwrap_or, IfOk, OnOk};
 ghost use Rattle.std.specs.List.{list_all};
 ghost use Rattle.std.specs.Ordering.{nat_cmp};
