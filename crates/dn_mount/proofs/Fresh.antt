@@ -19,7 +19,7 @@ use Rattle.dn_volume.specs.declared.flight.Flight.{Flight}
 use Rattle.dn_volume.specs.declared.volume.Parts.{Parts}
 use Rattle.dn_volume.specs.declared.volume.Room.{Room}
 use Rattle.dn_volume.specs.declared.volume.InodeState.{InodeState}
-use Rattle.dn_volume.specs.declared.outcome.CountChange.{CountChange}
+use Rattle.dn_model.specs.declared.op.CountChange.{CountChange}
 use Rattle.dn_volume.specs.declared.background.Sharing.{Sharing}
 use Rattle.dn_volume.specs.Parties.{Flies, flight_at, Holds, by_client, by_daemon, Takes, for_client}
 use Rattle.dn_volume.specs.Agrees.{IsVolume, NamesSlots, StandsFast}

@@ -23,7 +23,7 @@ use Rattle.law_write.specs.Events.{IsUnused}
 use Rattle.law_write.proofs.Counting.{total-zero}
 use Rattle.law_course.proofs.Course.{begins}
 use Rattle.dn_volume.specs.declared.flight.Flight.{Flight}
-use Rattle.dn_volume.specs.declared.outcome.CountChange.{CountChange}
+use Rattle.dn_model.specs.declared.op.CountChange.{CountChange}
 use Rattle.dn_volume.specs.declared.volume.Parts.{Parts}
 use Rattle.dn_volume.specs.declared.volume.Room.{Room}
 use Rattle.dn_volume.specs.Parties.{Flies, Holds, by_client, by_daemon, Takes, for_client, flight_at, opened}

@@ -20,7 +20,7 @@ use Rattle.dn_model.specs.OnCourse.{IsImageOf}
 use Rattle.dn_model.specs.declared.op.Entry.{Entry}
 use Rattle.law_write.proofs.WriteEvent.{stands_for_read, length-left}
 use Rattle.pm_device.proofs.Layers.{leaves_now-stands}
-use Rattle.dn_volume.specs.declared.outcome.CountChange.{CountChange}
+use Rattle.dn_model.specs.declared.op.CountChange.{CountChange}
 use Rattle.dn_volume.specs.declared.volume.Parts.{Parts}
 use Rattle.dn_volume.specs.Agrees.{StandsFast}
 use Rattle.dn_volume.specs.Accounts.{HasPage, WasAloneOn, HadRow, AccountsFor}

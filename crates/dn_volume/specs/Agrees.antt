@@ -7,7 +7,7 @@ use Rattle.pm_layout.specs.Geometry.{IsAccepted, slots}
 use Rattle.dn_model.specs.Disk.{Disk, DiskSays}
 use Rattle.dn_model.specs.Valid.{IsValid}
 use Rattle.fact_table.specs.Table.{HasNoneOf}
-use Rattle.dn_volume.specs.declared.outcome.CountChange.{CountChange}
+use Rattle.dn_model.specs.declared.op.CountChange.{CountChange}
 use Rattle.dn_volume.specs.declared.volume.Parts.{Parts}
 use Rattle.dn_volume.specs.declared.volume.Volume.{Volume}
 use Rattle.dn_volume.specs.Inodes.{AreInodesOf, AreNamesOf, AreHolders}

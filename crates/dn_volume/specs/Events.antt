@@ -15,7 +15,7 @@ use Rattle.dn_model.specs.declared.op.Reply.{Reply}
 use Rattle.dn_model.specs.declared.op.Reply.TheVariants.{Done as IsDone}
 use Rattle.dn_model.specs.declared.op.Entry.{Entry}
 use Rattle.dn_volume.specs.declared.flight.Flight.{Flight}
-use Rattle.dn_volume.specs.declared.outcome.CountChange.{CountChange}
+use Rattle.dn_model.specs.declared.op.CountChange.{CountChange}
 use Rattle.dn_volume.specs.declared.outcome.Outcome.{Outcome}
 use Rattle.dn_volume.specs.declared.outcome.Outcome.TheVariants.{Running, Done, Busy, Released, Idle, NotYours, NoMemory, Stopped}
 use Rattle.dn_volume.specs.declared.volume.Parts.{Parts}

@@ -50,16 +50,28 @@ made_none calls t s agree = record {
       let still = still_images d s agree stands in
       record {
         extends = still.extends;
-        each = λ m late. record { k = 0; images = λ c left. record { disk = d; same = refl; good = may.table.good; are = inl none_made; holds = still.each m c late left } };
+        each = λ m late. record {
+          k = 0;
+          images = λ c left. record {
+            disk = d;
+            same = refl;
+            good = may.table.good;
+            are = inl none_made;
+            holds = still.each m c late left;
+          };
+        };
       };
   made = λ d may. record { disk = d; same = refl; after = none_made; table = may.table; settled = λ stands. stands };
 }
 
 -- one call more stores to words of the table
-pub next_only : (calls : List TableCall) (i : ℕ) (t0 t : Table) (s0 s : State) → IsMade calls i t0 t s0 s → (u : State) → StoresOnly (IsTableWord t.geometry) s u → StoresOnly (IsTableWord t0.geometry) s0 u
-next_only calls i t0 t s0 s made u only = stores_only-then (IsTableWord t0.geometry) s0 s u made.only (subst (λ (g : Geometry). StoresOnly (IsTableWord g) s u) made.pages only)
+pub next_only : (calls : List TableCall) (i : ℕ) (t0 t : Table) (s0 s : State) → IsMade calls i t0 t s0 s → (u : State)
+    → StoresOnly (IsTableWord t.geometry) s u → StoresOnly (IsTableWord t0.geometry) s0 u
+next_only calls i t0 t s0 s made u only = stores_only-then (IsTableWord t0.geometry) s0 s u made.only
+    (subst (λ (g : Geometry). StoresOnly (IsTableWord g) s u) made.pages only)
 
-module _ (calls : List TableCall) (i : ℕ) (t0 t : Table) (s0 s : State) (made : IsMade calls i t0 t s0 s) (call : TableCall) (here : slice_get calls i ≡ Some call) where
+module _ (calls : List TableCall) (i : ℕ) (t0 t : Table) (s0 s : State) (made : IsMade calls i t0 t s0 s) (call : TableCall)
+    (here : slice_get calls i ≡ Some call) where
   module _ (d : Disk) (may : MayCallAll d s0.now t0 calls) where
     abbrev e : Disk
     e = (made.made d may).disk
@@ -79,7 +91,8 @@ module _ (calls : List TableCall) (i : ℕ) (t0 t : Table) (s0 s : State) (made 
     follows_here : (news : List Row) → Follows e.geometry (rows e) call news → After d.geometry calls (rows d) (i + 1) news
     follows_here news follows =
         let one : suc i ≡ i + 1 = omega arith in
-        subst (λ (k : ℕ). After d.geometry calls (rows d) k news) one (one_more after here (subst (λ (g : Geometry). Follows g (rows e) call news) (geometry_same d e same) follows))
+        subst (λ (k : ℕ). After d.geometry calls (rows d) k news) one
+        (one_more after here (subst (λ (g : Geometry). Follows g (rows e) call news) (geometry_same d e same) follows))
 
     abbrev IsOneOf : List Row → Type 0
     IsOneOf rs = (rs ≡ rows e) ⊎ Follows e.geometry (rows e) call rs
@@ -88,10 +101,17 @@ module _ (calls : List TableCall) (i : ℕ) (t0 t : Table) (s0 s : State) (made 
     IsNext rs = After d.geometry calls (rows d) i rs ⊎ After d.geometry calls (rows d) (i + 1) rs
 
     next_rows : (rs : List Row) → IsOneOf rs → IsNext rs
-    next_rows rs = ⊎_elim (λ (old : rs ≡ rows e). inl (subst (After d.geometry calls (rows d) i) (sym old) after)) (λ (new : Follows e.geometry (rows e) call rs). inr (follows_here rs new))
+    next_rows rs = ⊎_elim (λ (old : rs ≡ rows e). inl (subst (After d.geometry calls (rows d) i) (sym old) after))
+        (λ (new : Follows e.geometry (rows e) call rs). inr (follows_here rs new))
 
     has_next : (c : List ℕ) → HoldsRows e c IsOneOf → HoldsRows d c IsNext
-    has_next c is = record { disk = is.disk; same = same_then d e same is.disk is.same; good = is.good; are = next_rows (rows is.disk) is.are; holds = is.holds }
+    has_next c is = record {
+      disk = is.disk;
+      same = same_then d e same is.disk is.same;
+      good = is.good;
+      are = next_rows (rows is.disk) is.are;
+      holds = is.holds;
+    }
 
     pub next_images : (u : State) → LeavesCall t call s u → Stands (TableSays d) s0 → LeavesAfter d calls s0 u
     next_images u leaves stands =
@@ -100,7 +120,8 @@ module _ (calls : List TableCall) (i : ℕ) (t0 t : Table) (s0 s : State) (made 
         record {
           extends = extends_then s0.past s.past u.past before.extends more.extends;
           each = λ m late. elim (cases_lt m (moment s.past)) [
-            | inl soon ↦ let was = before.each m late in record { k = was.k; images = λ c left. was.images c (left-extends s.past u.past m c more.extends (omega arith) left) }
+            | inl soon ↦ let was = before.each m late in
+                record { k = was.k; images = λ c left. was.images c (left-extends s.past u.past m c more.extends (omega arith) left) }
             | inr past ↦ record { k = i; images = λ c left. has_next c (more.each m c past left) }
           ];
         }

@@ -37,16 +37,20 @@ module _ (g : Geometry) where
   pointer_in page lt = (omega arith, pointer_word_low g page lt)
 
 -- a row's counts
-pub counts_in : (d : Disk) (words : List ℕ) (t : Table) (is : IsTable d words t) (slot : ℕ) (row : Row) → IsAtSlot d slot row → (s u : State) → StoresOnly (λ a. a ≡ slot_word t.geometry slot 4) s u
+pub counts_in : (d : Disk) (words : List ℕ) (t : Table) (is : IsTable d words t) (slot : ℕ) (row : Row) → IsAtSlot d slot row → (s u : State)
+    → StoresOnly (λ a. a ≡ slot_word t.geometry slot 4) s u
     → StoresOnly (IsTableWord t.geometry) s u
 counts_in d words t is slot row at s u only =
-    stores_only-weaken _ _ s u (λ a e. subst (IsTableWord t.geometry) (sym e) (slot_in t.geometry slot 4 (row_small d words t is slot row at) (omega arith))) only
+    stores_only-weaken _ _ s u (λ a e. subst (IsTableWord t.geometry) (sym e) (slot_in t.geometry slot 4 (row_small d words t is slot row at)
+    (omega arith))) only
 
 -- a row that comes in
-pub insert_in : (d : Disk) (words : List ℕ) (t t' : Table) (print : List ℕ) (page : ℕ) → MayInsert d words t print page → (s u : State) → StoresOnly (IsInsertWord t t' print page) s u
+pub insert_in : (d : Disk) (words : List ℕ) (t t' : Table) (print : List ℕ) (page : ℕ) → MayInsert d words t print page → (s u : State)
+    → StoresOnly (IsInsertWord t t' print page) s u
     → StoresOnly (IsTableWord t.geometry) s u
 insert_in d words t t' print page may s u only = stores_only-weaken _ _ s u
-    (λ a. ⊎_elim (λ (direct : IsIn (slot_word t.geometry (prefix_of t.geometry print) 0) 8 a). run_in t.geometry (prefix_of t.geometry print) a (omega (arith, prefix_lt d words t print page may)) direct)
+    (λ a. ⊎_elim (λ (direct : IsIn (slot_word t.geometry (prefix_of t.geometry print) 0) 8 a). run_in t.geometry (prefix_of t.geometry print) a
+    (omega (arith, prefix_lt d words t print page may)) direct)
     (⊎_elim (λ (e : a ≡ pointer_word t.geometry page). subst (IsTableWord t.geometry) (sym e) (pointer_in t.geometry page may.data_page.high))
     (λ (taken : IsTakenWord t t' a). run_in t.geometry taken.slot a taken.takes.small taken.inside))) only
 
@@ -65,15 +69,18 @@ module _ (d : Disk) (row : Row) (words : List ℕ) (t : Table) (slot : ℕ) (may
   before_in =
       let stands = stands_in_chain d good row may.at_slot.there in
       ⊎_elim (λ (own : before ≡ prefix). omega (arith, own, stands.direct))
-      (λ (has : HasSlot (d.chain prefix) before). omega (arith, has.2, row_slot_small d good has.0 (in_table d prefix has.0 stands.direct has.1))) (before_owned row.slot prefix (d.chain prefix))
+      (λ (has : HasSlot (d.chain prefix) before). omega (arith, has.2, row_slot_small d good has.0 (in_table d prefix has.0 stands.direct has.1)))
+      (before_owned row.slot prefix (d.chain prefix))
 
   deciding_in : IsTableWord d.geometry (deciding_word d row)
   deciding_in = elim (cases_eq row.slot prefix) [
     | inl e ↦
-        subst (λ (b : Bool). IsTableWord d.geometry (if b then slot_word d.geometry row.slot 0 else slot_word d.geometry before 5)) (sym (same_test row.slot prefix e))
+        subst (λ (b : Bool). IsTableWord d.geometry (if b then slot_word d.geometry row.slot 0 else slot_word d.geometry before 5))
+        (sym (same_test row.slot prefix e))
         (slot_in d.geometry row.slot 0 (row_slot_small d good row may.at_slot.there) (omega arith))
     | inr ne ↦
-        subst (λ (b : Bool). IsTableWord d.geometry (if b then slot_word d.geometry row.slot 0 else slot_word d.geometry before 5)) (sym (other_test row.slot prefix ne))
+        subst (λ (b : Bool). IsTableWord d.geometry (if b then slot_word d.geometry row.slot 0 else slot_word d.geometry before 5))
+        (sym (other_test row.slot prefix ne))
         (slot_in d.geometry before 5 before_in (omega arith))
   ]
 
@@ -88,4 +95,5 @@ module _ (d : Disk) (row : Row) (words : List ℕ) (t : Table) (slot : ℕ) (may
 -- pointers that are cleared
 pub stale_in : (d : Disk) (g : Geometry) → d.geometry ≡ g → (s u : State) → StoresOnly (IsStaleWord d) s u → StoresOnly (IsTableWord g) s u
 stale_in d g same s u only = subst (λ (k : Geometry). StoresOnly (IsTableWord k) s u) same
-    (stores_only-weaken _ _ s u (λ a (word : IsStaleWord d a). subst (IsTableWord d.geometry) (sym word.place) (pointer_in d.geometry word.page word.stale.in_image)) only)
+    (stores_only-weaken _ _ s u (λ a (word : IsStaleWord d a). subst (IsTableWord d.geometry) (sym word.place)
+    (pointer_in d.geometry word.page word.stale.in_image)) only)

@@ -48,19 +48,22 @@ pub record HoldsRows (d : Disk) (c : List ℕ) (Are : List Row → Type 0) : Typ
 -- where the table stood, on the way each image has the rows of before or those of after
 abbrev pub LeavesCall : Table → TableCall → State → State → Type 0
 LeavesCall t call old new = (d : Disk) → MayCall d old.now t call → Stands (TableSays d) old
-    → LeavesOnly old new (λ c. HoldsRows d c (λ rs. (rs ≡ rows d) ⊎ Follows d.geometry (rows d) call rs))
+    → LeavesOnly old new (λ c. HoldsRows d c (λ rs. (rs ≡ rows d) ⊎ Follows d.geometry (rows d) call
+    rs))
 
 -- the words hold this disk's table, in which the calls may be made one after another
-pub record MayCallAll (d : Disk) (words : List ℕ) (t : Table) (calls : List TableCall) : Type 0 where
-  pub table : IsTable d words t
-  pub allows : Allows t.geometry calls (rows d)
+pub record MayCallAll (d : Disk) (words : List ℕ) (t : Table) (calls : List TableCall) : Type 0
+  where
+    pub table : IsTable d words t
+    pub allows : Allows t.geometry calls (rows d)
 
 pub record CanCallAll (words : List ℕ) (t : Table) (calls : List TableCall) : Type 0 where
   pub disk : Disk
   pub may : MayCallAll disk words t calls
 
 -- in the end the words hold a table with the rows after the first k calls
-pub record HasCalledSome (d : Disk) (calls : List TableCall) (k : ℕ) (t' : Table) (old new : State) : Type 0 where
+pub record HasCalledSome (d : Disk) (calls : List TableCall) (k : ℕ) (t' : Table) (old new : State)
+    : Type 0 where
   pub disk : Disk
   pub same : IsSameBut d disk
   pub after : After d.geometry calls (rows d) k (rows disk)
@@ -68,12 +71,15 @@ pub record HasCalledSome (d : Disk) (calls : List TableCall) (k : ℕ) (t' : Tab
   pub settled : Stands (TableSays d) old → Stands (TableSays disk) new
 
 abbrev pub MakesAll : Table → Table → List TableCall → State → State → Type 0
-MakesAll t t' calls old new = (d : Disk) → MayCallAll d old.now t calls → HasCalledSome d calls (length calls) t' old new
+MakesAll t t' calls old new = (d : Disk) → MayCallAll d old.now t calls
+    → HasCalledSome d calls (length calls) t' old new
 
 -- k calls were made at this moment: each image has the rows after them, or after one more
 pub record IsAtCall (d : Disk) (calls : List TableCall) (past : Option Past) (m : ℕ) : Type 0 where
   pub k : ℕ
-  pub images : (c : List ℕ) → Left past m c → HoldsRows d c (λ rs. After d.geometry calls (rows d) k rs ⊎ After d.geometry calls (rows d) (k + 1) rs)
+  pub images : (c : List ℕ) → Left past m c
+      → HoldsRows d c (λ rs. After d.geometry calls (rows d) k rs ⊎ After d.geometry calls (rows d)
+      (k + 1) rs)
 
 pub record LeavesAfter (d : Disk) (calls : List TableCall) (old new : State) : Type 0 where
   pub extends : Extends old.past new.past
@@ -81,4 +87,5 @@ pub record LeavesAfter (d : Disk) (calls : List TableCall) (old new : State) : T
 
 -- where the table stood
 abbrev pub LeavesAll : Table → List TableCall → State → State → Type 0
-LeavesAll t calls old new = (d : Disk) → MayCallAll d old.now t calls → Stands (TableSays d) old → LeavesAfter d calls old new
+LeavesAll t calls old new = (d : Disk) → MayCallAll d old.now t calls → Stands (TableSays d) old
+    → LeavesAfter d calls old new

@@ -29,9 +29,12 @@ pub fn make<D: Pm>(
     requires can { CanCall (D.state device.old).now fact.old call.now }
     requires room { CALL_UNITS * fact.old.geometry.pages ≤ (D.state device.old).spare }
     ensures images { LeavesCall fact.old call.now (D.state device.old) (D.state device.new) }
-    ensures done { OnOk result (MakesCall fact.old fact.new call.now (D.state device.old) (D.state device.new)) }
-    ensures only { StoresOnly (IsTableWord fact.old.geometry) (D.state device.old) (D.state device.new) }
-    ensures spare { (D.state device.old).spare ≤ (D.state device.new).spare + CALL_UNITS * fact.old.geometry.pages }
+    ensures done { OnOk result (MakesCall fact.old fact.new call.now (D.state device.old)
+        (D.state device.new)) }
+    ensures only { StoresOnly (IsTableWord fact.old.geometry) (D.state device.old)
+        (D.state device.new) }
+    ensures spare { (D.state device.old).spare ≤ (D.state device.new).spare + CALL_UNITS
+        * fact.old.geometry.pages }
     ensures faults { (D.state device.old).faults ≤ (D.state device.new).faults }
     ensures failed { IsErr result → Rose (D.state device.old).faults (D.state device.new).faults }
 {
@@ -63,11 +66,15 @@ pub fn make_all<D: Pm>(
     calls: &[TableCall],
 ) -> Result<(), Failed>
     requires can { CanCallAll (D.state device.old).now fact.old calls.now }
-    requires room { CALL_UNITS * fact.old.geometry.pages * length calls.now ≤ (D.state device.old).spare }
+    requires room { CALL_UNITS * fact.old.geometry.pages * length calls.now ≤
+        (D.state device.old).spare }
     ensures images { LeavesAll fact.old calls.now (D.state device.old) (D.state device.new) }
-    ensures done { OnOk result (MakesAll fact.old fact.new calls.now (D.state device.old) (D.state device.new)) }
-    ensures only { StoresOnly (IsTableWord fact.old.geometry) (D.state device.old) (D.state device.new) }
-    ensures spare { (D.state device.old).spare ≤ (D.state device.new).spare + CALL_UNITS * fact.old.geometry.pages * length calls.now }
+    ensures done { OnOk result (MakesAll fact.old fact.new calls.now (D.state device.old)
+        (D.state device.new)) }
+    ensures only { StoresOnly (IsTableWord fact.old.geometry) (D.state device.old)
+        (D.state device.new) }
+    ensures spare { (D.state device.old).spare ≤ (D.state device.new).spare + CALL_UNITS
+        * fact.old.geometry.pages * length calls.now }
     ensures faults { (D.state device.old).faults ≤ (D.state device.new).faults }
     ensures failed { IsErr result → Rose (D.state device.old).faults (D.state device.new).faults }
 {

@@ -26,10 +26,14 @@ fn insert_behind<D: Pm>(
     requires direct { direct ≡ prefix_of fact.old.geometry print.now }
     requires row { slice_index (D.state device.old).now (slot_word fact.old.geometry direct 0) ≢ 0 }
     requires room { INSERT_UNITS ≤ (D.state device.old).spare }
-    ensures images { LeavesInserted fact.old fact.new print.now page (D.state device.old) (D.state device.new) }
-    ensures done { IfOk result (MakesInserted fact.old fact.new print.now page (D.state device.old) (D.state device.new)) }
-    ensures only { StoresOnly (IsInsertWord fact.old fact.new print.now page) (D.state device.old) (D.state device.new) }
-    ensures others { KeepsOthers who (IsInsertWord fact.old fact.new print.now page) (D.state device.old) (D.state device.new) }
+    ensures images { LeavesInserted fact.old fact.new print.now page (D.state device.old)
+        (D.state device.new) }
+    ensures done { IfOk result (MakesInserted fact.old fact.new print.now page (D.state device.old)
+        (D.state device.new)) }
+    ensures only { StoresOnly (IsInsertWord fact.old fact.new print.now page) (D.state device.old)
+        (D.state device.new) }
+    ensures others { KeepsOthers who (IsInsertWord fact.old fact.new print.now page)
+        (D.state device.old) (D.state device.new) }
     ensures spare { (D.state device.old).spare ≤ (D.state device.new).spare + INSERT_UNITS }
     ensures faults { (D.state device.old).faults ≤ (D.state device.new).faults }
     ensures failed { IsErr result → Rose (D.state device.old).faults (D.state device.new).faults }
@@ -61,10 +65,14 @@ pub fn insert<D: Pm>(
 ) -> Result<u64, Failed>
     requires can { CanInsert (D.state device.old).now fact.old print.now page }
     requires room { INSERT_UNITS ≤ (D.state device.old).spare }
-    ensures images { LeavesInserted fact.old fact.new print.now page (D.state device.old) (D.state device.new) }
-    ensures done { IfOk result (MakesInserted fact.old fact.new print.now page (D.state device.old) (D.state device.new)) }
-    ensures only { StoresOnly (IsInsertWord fact.old fact.new print.now page) (D.state device.old) (D.state device.new) }
-    ensures others { KeepsOthers who (IsInsertWord fact.old fact.new print.now page) (D.state device.old) (D.state device.new) }
+    ensures images { LeavesInserted fact.old fact.new print.now page (D.state device.old)
+        (D.state device.new) }
+    ensures done { IfOk result (MakesInserted fact.old fact.new print.now page (D.state device.old)
+        (D.state device.new)) }
+    ensures only { StoresOnly (IsInsertWord fact.old fact.new print.now page) (D.state device.old)
+        (D.state device.new) }
+    ensures others { KeepsOthers who (IsInsertWord fact.old fact.new print.now page)
+        (D.state device.old) (D.state device.new) }
     ensures spare { (D.state device.old).spare ≤ (D.state device.new).spare + INSERT_UNITS }
     ensures faults { (D.state device.old).faults ≤ (D.state device.new).faults }
     ensures failed { IsErr result → Rose (D.state device.old).faults (D.state device.new).faults }

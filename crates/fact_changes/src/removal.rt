@@ -27,7 +27,8 @@ pub fn slot_before_of<D: Pm, L: Ledger>(
     requires direct { direct < directs g.now }
     requires chain { HasChainTo g.now (D.state device.now).now direct slot }
     ensures before { IsBefore g.now (D.state device.now).now direct slot result }
-    ensures cost { (rows : List TableRow) → IsChainTo g.now (D.state device.now).now direct slot rows → steps.new ≤ steps.old + length rows }
+    ensures cost { (rows : List TableRow) → IsChainTo g.now (D.state device.now).now direct slot
+        rows → steps.new ≤ steps.old + length rows }
 {
     let mut before = direct;
     for _i in 0..g.pages {
@@ -74,8 +75,10 @@ fn take_out<D: Pm>(
     requires read { IsReadAt (D.state device.old).now fact.old slot page print.now }
     requires room { REMOVE_UNITS ≤ (D.state device.old).spare }
     ensures images { LeavesRemoved fact.old slot (D.state device.old) (D.state device.new) }
-    ensures done { OnOk result (MakesRemoved fact.old fact.new slot (D.state device.old) (D.state device.new)) }
-    ensures settled { OnOk result (SettlesRemoved fact.old slot (D.state device.old) (D.state device.new)) }
+    ensures done { OnOk result (MakesRemoved fact.old fact.new slot (D.state device.old)
+        (D.state device.new)) }
+    ensures settled { OnOk result (SettlesRemoved fact.old slot (D.state device.old)
+        (D.state device.new)) }
     ensures frees { OnOk result (Frees slot fact.old fact.new) }
     ensures kept { OnErr result (fact.new ≡ fact.old) }
     ensures only { RemovesOnly fact.old slot (D.state device.old) (D.state device.new) }
@@ -112,8 +115,10 @@ pub fn remove_zero<D: Pm>(
     requires row { HasZero (D.state device.old).now fact.old slot }
     requires room { REMOVE_UNITS ≤ (D.state device.old).spare }
     ensures images { LeavesRemoved fact.old slot (D.state device.old) (D.state device.new) }
-    ensures done { OnOk result (MakesRemoved fact.old fact.new slot (D.state device.old) (D.state device.new)) }
-    ensures settled { OnOk result (SettlesRemoved fact.old slot (D.state device.old) (D.state device.new)) }
+    ensures done { OnOk result (MakesRemoved fact.old fact.new slot (D.state device.old)
+        (D.state device.new)) }
+    ensures settled { OnOk result (SettlesRemoved fact.old slot (D.state device.old)
+        (D.state device.new)) }
     ensures frees { OnOk result (Frees slot fact.old fact.new) }
     ensures kept { OnErr result (fact.new ≡ fact.old) }
     ensures only { RemovesOnly fact.old slot (D.state device.old) (D.state device.new) }

@@ -17,7 +17,8 @@ pub const STALE_UNITS: u64 = POINTER_UNITS;
 fn is_stale<D: Pm>(fact: &Fact, device: &D, page: u64) -> bool
     requires table { HasTable (D.state device.now).now fact.now }
     requires page { page < fact.now.geometry.pages }
-    ensures stale { (d : Disk) → IsTable d (D.state device.now).now fact.now → (IsTrue result ↔ IsStale d page) }
+    ensures stale { (d : Disk) → IsTable d (D.state device.now).now fact.now
+        → (IsTrue result ↔ IsStale d page) }
 {
     entry_of(device, &fact.geometry(), page).is_some() && fact.by_page(device, page).is_none()
 }
@@ -56,7 +57,8 @@ pub fn clear_stale<D: Pm>(fact: &Fact, device: &mut D, who: u32) -> Result<(), F
     ensures done { OnOk result (MakesTidy fact.now (D.state device.old) (D.state device.new)) }
     ensures only { ClearsOnly fact.now (D.state device.old) (D.state device.new) }
     ensures others { KeepsCleared who fact.now (D.state device.old) (D.state device.new) }
-    ensures spare { (D.state device.old).spare ≤ (D.state device.new).spare + STALE_UNITS * fact.now.geometry.pages }
+    ensures spare { (D.state device.old).spare ≤ (D.state device.new).spare + STALE_UNITS
+        * fact.now.geometry.pages }
     ensures faults { (D.state device.old).faults ≤ (D.state device.new).faults }
     ensures failed { IsErr result → Rose (D.state device.old).faults (D.state device.new).faults }
 {

@@ -37,12 +37,18 @@ fn set_counts<D: Pm>(
     requires uc { counts.uc < 2 ^ 32 }
     requires row { HasRowWith (D.state device.old).now fact.now slot AnyRow }
     requires room { COUNT_UNITS ≤ (D.state device.old).spare }
-    ensures images { LeavesTables (λ row. counts) fact.now slot (D.state device.old) (D.state device.new) }
-    ensures table { OnOk result (MakesTable (λ row. counts) fact.now slot (D.state device.old) (D.state device.new)) }
-    ensures settled { OnOk result (SettlesTable (λ row. counts) fact.now slot (D.state device.old) (D.state device.new)) }
-    ensures own { OnOk result (SettlesOwn fact.now slot who (D.state device.old) (D.state device.new)) }
-    ensures only { StoresOnly (λ a. a ≡ slot_word fact.now.geometry slot 4) (D.state device.old) (D.state device.new) }
-    ensures others { KeepsFlushed (Others who) (λ a. a ≡ slot_word fact.now.geometry slot 4) (D.state device.old) (D.state device.new) }
+    ensures images { LeavesTables (λ row. counts) fact.now slot (D.state device.old)
+        (D.state device.new) }
+    ensures table { OnOk result (MakesTable (λ row. counts) fact.now slot (D.state device.old)
+        (D.state device.new)) }
+    ensures settled { OnOk result (SettlesTable (λ row. counts) fact.now slot (D.state device.old)
+        (D.state device.new)) }
+    ensures own { OnOk result (SettlesOwn fact.now slot who (D.state device.old)
+        (D.state device.new)) }
+    ensures only { StoresOnly (λ a. a ≡ slot_word fact.now.geometry slot 4) (D.state device.old)
+        (D.state device.new) }
+    ensures others { KeepsFlushed (Others who) (λ a. a ≡ slot_word fact.now.geometry slot 4)
+        (D.state device.old) (D.state device.new) }
     ensures spare { (D.state device.old).spare ≤ (D.state device.new).spare + COUNT_UNITS }
     ensures faults { (D.state device.old).faults ≤ (D.state device.new).faults }
     ensures failed { IsErr result → Rose (D.state device.old).faults (D.state device.new).faults }
@@ -61,11 +67,16 @@ pub fn raise<D: Pm>(fact: &Fact, device: &mut D, who: u32, slot: u64) -> Result<
     requires row { HasRowWith (D.state device.old).now fact.now slot MayRaise }
     requires room { COUNT_UNITS ≤ (D.state device.old).spare }
     ensures images { LeavesTables raised fact.now slot (D.state device.old) (D.state device.new) }
-    ensures table { OnOk result (MakesTable raised fact.now slot (D.state device.old) (D.state device.new)) }
-    ensures settled { OnOk result (SettlesTable raised fact.now slot (D.state device.old) (D.state device.new)) }
-    ensures own { OnOk result (SettlesOwn fact.now slot who (D.state device.old) (D.state device.new)) }
-    ensures only { StoresOnly (λ a. a ≡ slot_word fact.now.geometry slot 4) (D.state device.old) (D.state device.new) }
-    ensures others { KeepsFlushed (Others who) (λ a. a ≡ slot_word fact.now.geometry slot 4) (D.state device.old) (D.state device.new) }
+    ensures table { OnOk result (MakesTable raised fact.now slot (D.state device.old)
+        (D.state device.new)) }
+    ensures settled { OnOk result (SettlesTable raised fact.now slot (D.state device.old)
+        (D.state device.new)) }
+    ensures own { OnOk result (SettlesOwn fact.now slot who (D.state device.old)
+        (D.state device.new)) }
+    ensures only { StoresOnly (λ a. a ≡ slot_word fact.now.geometry slot 4) (D.state device.old)
+        (D.state device.new) }
+    ensures others { KeepsFlushed (Others who) (λ a. a ≡ slot_word fact.now.geometry slot 4)
+        (D.state device.old) (D.state device.new) }
     ensures spare { (D.state device.old).spare ≤ (D.state device.new).spare + COUNT_UNITS }
     ensures faults { (D.state device.old).faults ≤ (D.state device.new).faults }
     ensures failed { IsErr result → Rose (D.state device.old).faults (D.state device.new).faults }
@@ -85,11 +96,16 @@ pub fn settle_up<D: Pm>(fact: &Fact, device: &mut D, who: u32, slot: u64) -> Res
     requires row { HasRowWith (D.state device.old).now fact.now slot MaySettleUp }
     requires room { COUNT_UNITS ≤ (D.state device.old).spare }
     ensures images { LeavesTables up fact.now slot (D.state device.old) (D.state device.new) }
-    ensures table { OnOk result (MakesTable up fact.now slot (D.state device.old) (D.state device.new)) }
-    ensures settled { OnOk result (SettlesTable up fact.now slot (D.state device.old) (D.state device.new)) }
-    ensures own { OnOk result (SettlesOwn fact.now slot who (D.state device.old) (D.state device.new)) }
-    ensures only { StoresOnly (λ a. a ≡ slot_word fact.now.geometry slot 4) (D.state device.old) (D.state device.new) }
-    ensures others { KeepsFlushed (Others who) (λ a. a ≡ slot_word fact.now.geometry slot 4) (D.state device.old) (D.state device.new) }
+    ensures table { OnOk result (MakesTable up fact.now slot (D.state device.old)
+        (D.state device.new)) }
+    ensures settled { OnOk result (SettlesTable up fact.now slot (D.state device.old)
+        (D.state device.new)) }
+    ensures own { OnOk result (SettlesOwn fact.now slot who (D.state device.old)
+        (D.state device.new)) }
+    ensures only { StoresOnly (λ a. a ≡ slot_word fact.now.geometry slot 4) (D.state device.old)
+        (D.state device.new) }
+    ensures others { KeepsFlushed (Others who) (λ a. a ≡ slot_word fact.now.geometry slot 4)
+        (D.state device.old) (D.state device.new) }
     ensures spare { (D.state device.old).spare ≤ (D.state device.new).spare + COUNT_UNITS }
     ensures faults { (D.state device.old).faults ≤ (D.state device.new).faults }
     ensures failed { IsErr result → Rose (D.state device.old).faults (D.state device.new).faults }
@@ -109,11 +125,16 @@ pub fn settle_down<D: Pm>(fact: &Fact, device: &mut D, who: u32, slot: u64) -> R
     requires row { HasRowWith (D.state device.old).now fact.now slot MaySettleDown }
     requires room { COUNT_UNITS ≤ (D.state device.old).spare }
     ensures images { LeavesTables down fact.now slot (D.state device.old) (D.state device.new) }
-    ensures table { OnOk result (MakesTable down fact.now slot (D.state device.old) (D.state device.new)) }
-    ensures settled { OnOk result (SettlesTable down fact.now slot (D.state device.old) (D.state device.new)) }
-    ensures own { OnOk result (SettlesOwn fact.now slot who (D.state device.old) (D.state device.new)) }
-    ensures only { StoresOnly (λ a. a ≡ slot_word fact.now.geometry slot 4) (D.state device.old) (D.state device.new) }
-    ensures others { KeepsFlushed (Others who) (λ a. a ≡ slot_word fact.now.geometry slot 4) (D.state device.old) (D.state device.new) }
+    ensures table { OnOk result (MakesTable down fact.now slot (D.state device.old)
+        (D.state device.new)) }
+    ensures settled { OnOk result (SettlesTable down fact.now slot (D.state device.old)
+        (D.state device.new)) }
+    ensures own { OnOk result (SettlesOwn fact.now slot who (D.state device.old)
+        (D.state device.new)) }
+    ensures only { StoresOnly (λ a. a ≡ slot_word fact.now.geometry slot 4) (D.state device.old)
+        (D.state device.new) }
+    ensures others { KeepsFlushed (Others who) (λ a. a ≡ slot_word fact.now.geometry slot 4)
+        (D.state device.old) (D.state device.new) }
     ensures spare { (D.state device.old).spare ≤ (D.state device.new).spare + COUNT_UNITS }
     ensures faults { (D.state device.old).faults ≤ (D.state device.new).faults }
     ensures failed { IsErr result → Rose (D.state device.old).faults (D.state device.new).faults }
@@ -138,12 +159,18 @@ pub fn recount<D: Pm>(
 ) -> Result<(), Failed>
     requires row { HasRowWith (D.state device.old).now fact.now slot AnyRow }
     requires room { COUNT_UNITS ≤ (D.state device.old).spare }
-    ensures images { LeavesTables (counted rfc) fact.now slot (D.state device.old) (D.state device.new) }
-    ensures table { OnOk result (MakesTable (counted rfc) fact.now slot (D.state device.old) (D.state device.new)) }
-    ensures settled { OnOk result (SettlesTable (counted rfc) fact.now slot (D.state device.old) (D.state device.new)) }
-    ensures own { OnOk result (SettlesOwn fact.now slot who (D.state device.old) (D.state device.new)) }
-    ensures only { StoresOnly (λ a. a ≡ slot_word fact.now.geometry slot 4) (D.state device.old) (D.state device.new) }
-    ensures others { KeepsFlushed (Others who) (λ a. a ≡ slot_word fact.now.geometry slot 4) (D.state device.old) (D.state device.new) }
+    ensures images { LeavesTables (counted rfc) fact.now slot (D.state device.old)
+        (D.state device.new) }
+    ensures table { OnOk result (MakesTable (counted rfc) fact.now slot (D.state device.old)
+        (D.state device.new)) }
+    ensures settled { OnOk result (SettlesTable (counted rfc) fact.now slot (D.state device.old)
+        (D.state device.new)) }
+    ensures own { OnOk result (SettlesOwn fact.now slot who (D.state device.old)
+        (D.state device.new)) }
+    ensures only { StoresOnly (λ a. a ≡ slot_word fact.now.geometry slot 4) (D.state device.old)
+        (D.state device.new) }
+    ensures others { KeepsFlushed (Others who) (λ a. a ≡ slot_word fact.now.geometry slot 4)
+        (D.state device.old) (D.state device.new) }
     ensures spare { (D.state device.old).spare ≤ (D.state device.new).spare + COUNT_UNITS }
     ensures faults { (D.state device.old).faults ≤ (D.state device.new).faults }
     ensures failed { IsErr result → Rose (D.state device.old).faults (D.state device.new).faults }

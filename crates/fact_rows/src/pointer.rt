@@ -30,10 +30,15 @@ pub fn store_pointer<D: Pm>(
     requires size { length (D.state device.old).now ≡ 512 * g.now.pages }
     requires page { page < g.now.pages }
     requires room { POINTER_UNITS ≤ (D.state device.old).spare }
-    ensures any_moment { IsSettled (D.state device.old) (pointer_word g.now page) → LeavesOnly (D.state device.old) (D.state device.new) (LeavesOneWord (pointer_word g.now page) word (D.state device.old)) }
-    ensures done { OnOk result (IsDone who (pointer_word g.now page) word (D.state device.old) (D.state device.new)) }
-    ensures only { StoresOnly (λ a. a ≡ pointer_word g.now page) (D.state device.old) (D.state device.new) }
-    ensures others { KeepsFlushed (Others who) (λ a. a ≡ pointer_word g.now page) (D.state device.old) (D.state device.new) }
+    ensures any_moment { IsSettled (D.state device.old) (pointer_word g.now page)
+        → LeavesOnly (D.state device.old) (D.state device.new)
+        (LeavesOneWord (pointer_word g.now page) word (D.state device.old)) }
+    ensures done { OnOk result (IsDone who (pointer_word g.now page) word (D.state device.old)
+        (D.state device.new)) }
+    ensures only { StoresOnly (λ a. a ≡ pointer_word g.now page) (D.state device.old)
+        (D.state device.new) }
+    ensures others { KeepsFlushed (Others who) (λ a. a ≡ pointer_word g.now page)
+        (D.state device.old) (D.state device.new) }
     ensures spare { (D.state device.old).spare ≤ (D.state device.new).spare + POINTER_UNITS }
     ensures faults { (D.state device.old).faults ≤ (D.state device.new).faults }
     ensures failed { IsErr result → Rose (D.state device.old).faults (D.state device.new).faults }

@@ -35,7 +35,8 @@ fn fill_closed<D: Pm>(
     requires size { length (D.state device.old).now ≡ 512 * g.now.pages }
     requires slot { slot < slots g.now }
     requires room { FILL_UNITS ≤ (D.state device.old).spare }
-    ensures stores { StoresRun who (slot_word g.now slot 1) (opened_words (new_row slot print.now page)) (D.state device.old) (D.state device.new) }
+    ensures stores { StoresRun who (slot_word g.now slot 1)
+        (opened_words (new_row slot print.now page)) (D.state device.old) (D.state device.new) }
     ensures spare { (D.state device.old).spare ≤ (D.state device.new).spare + FILL_UNITS }
     ensures faults { (D.state device.old).faults ≤ (D.state device.new).faults }
 {
@@ -62,7 +63,9 @@ fn fill_linked<D: Pm>(
     requires size { length (D.state device.old).now ≡ 512 * g.now.pages }
     requires slot { slot < slots g.now }
     requires room { FILL_UNITS ≤ (D.state device.old).spare }
-    ensures stores { StoresRun who (slot_word g.now slot 0) (linked_words (new_row slot print.now page) next ++ 0 ∷ 0 ∷ []) (D.state device.old) (D.state device.new) }
+    ensures stores { StoresRun who (slot_word g.now slot 0)
+        (linked_words (new_row slot print.now page) next ++ 0 ∷ 0 ∷ []) (D.state device.old)
+        (D.state device.new) }
     ensures spare { (D.state device.old).spare ≤ (D.state device.new).spare + FILL_UNITS }
     ensures faults { (D.state device.old).faults ≤ (D.state device.new).faults }
 {
@@ -95,11 +98,16 @@ pub fn insert_direct<D: Pm>(
     requires size { length (D.state device.old).now ≡ 512 * g.now.pages }
     requires can { CanPutAt (D.state device.old).now g.now direct direct print.now page }
     requires room { INSERT_UNITS ≤ (D.state device.old).spare }
-    ensures images { LeavesOpened g.now direct print.now page (D.state device.old) (D.state device.new) }
-    ensures done { OnOk result (MakesOpened g.now direct print.now page (D.state device.old) (D.state device.new)) }
-    ensures settled { OnOk result (SettlesOpened g.now direct print.now page (D.state device.old) (D.state device.new)) }
-    ensures only { StoresOnly (IsPutWord g.now direct page (slot_word g.now direct 0)) (D.state device.old) (D.state device.new) }
-    ensures others { KeepsOthers who (IsPutWord g.now direct page (slot_word g.now direct 0)) (D.state device.old) (D.state device.new) }
+    ensures images { LeavesOpened g.now direct print.now page (D.state device.old)
+        (D.state device.new) }
+    ensures done { OnOk result (MakesOpened g.now direct print.now page (D.state device.old)
+        (D.state device.new)) }
+    ensures settled { OnOk result (SettlesOpened g.now direct print.now page (D.state device.old)
+        (D.state device.new)) }
+    ensures only { StoresOnly (IsPutWord g.now direct page (slot_word g.now direct 0))
+        (D.state device.old) (D.state device.new) }
+    ensures others { KeepsOthers who (IsPutWord g.now direct page (slot_word g.now direct 0))
+        (D.state device.old) (D.state device.new) }
     ensures spare { (D.state device.old).spare ≤ (D.state device.new).spare + INSERT_UNITS }
     ensures faults { (D.state device.old).faults ≤ (D.state device.new).faults }
     ensures failed { IsErr result → Rose (D.state device.old).faults (D.state device.new).faults }
@@ -133,11 +141,16 @@ pub fn insert_chained<D: Pm>(
     requires slot { slot < slots g.now }
     requires can { CanPutAt (D.state device.old).now g.now direct slot print.now page }
     requires room { INSERT_UNITS ≤ (D.state device.old).spare }
-    ensures images { LeavesLinked g.now direct slot print.now page (D.state device.old) (D.state device.new) }
-    ensures done { OnOk result (MakesLinked g.now direct slot print.now page (D.state device.old) (D.state device.new)) }
-    ensures settled { OnOk result (SettlesLinked g.now direct slot print.now page (D.state device.old) (D.state device.new)) }
-    ensures only { StoresOnly (IsPutWord g.now slot page (slot_word g.now direct 5)) (D.state device.old) (D.state device.new) }
-    ensures others { KeepsOthers who (IsPutWord g.now slot page (slot_word g.now direct 5)) (D.state device.old) (D.state device.new) }
+    ensures images { LeavesLinked g.now direct slot print.now page (D.state device.old)
+        (D.state device.new) }
+    ensures done { OnOk result (MakesLinked g.now direct slot print.now page (D.state device.old)
+        (D.state device.new)) }
+    ensures settled { OnOk result (SettlesLinked g.now direct slot print.now page
+        (D.state device.old) (D.state device.new)) }
+    ensures only { StoresOnly (IsPutWord g.now slot page (slot_word g.now direct 5))
+        (D.state device.old) (D.state device.new) }
+    ensures others { KeepsOthers who (IsPutWord g.now slot page (slot_word g.now direct 5))
+        (D.state device.old) (D.state device.new) }
     ensures spare { (D.state device.old).spare ≤ (D.state device.new).spare + INSERT_UNITS }
     ensures faults { (D.state device.old).faults ≤ (D.state device.new).faults }
     ensures failed { IsErr result → Rose (D.state device.old).faults (D.state device.new).faults }

@@ -34,10 +34,14 @@ pub fn remove_direct<D: Pm>(
     requires can { CanTakeOut (D.state device.old).now g.now direct direct page }
     requires room { REMOVE_UNITS ≤ (D.state device.old).spare }
     ensures images { LeavesClosed g.now direct page (D.state device.old) (D.state device.new) }
-    ensures done { OnOk result (MakesClosed g.now direct page (D.state device.old) (D.state device.new)) }
-    ensures settled { OnOk result (SettlesClosed g.now direct page (D.state device.old) (D.state device.new)) }
-    ensures only { StoresOnly (IsGoneWord g.now (slot_word g.now direct 0) page) (D.state device.old) (D.state device.new) }
-    ensures others { KeepsFlushed (Others who) (IsGoneWord g.now (slot_word g.now direct 0) page) (D.state device.old) (D.state device.new) }
+    ensures done { OnOk result (MakesClosed g.now direct page (D.state device.old)
+        (D.state device.new)) }
+    ensures settled { OnOk result (SettlesClosed g.now direct page (D.state device.old)
+        (D.state device.new)) }
+    ensures only { StoresOnly (IsGoneWord g.now (slot_word g.now direct 0) page)
+        (D.state device.old) (D.state device.new) }
+    ensures others { KeepsFlushed (Others who) (IsGoneWord g.now (slot_word g.now direct 0) page)
+        (D.state device.old) (D.state device.new) }
     ensures spare { (D.state device.old).spare ≤ (D.state device.new).spare + REMOVE_UNITS }
     ensures faults { (D.state device.old).faults ≤ (D.state device.new).faults }
     ensures failed { IsErr result → Rose (D.state device.old).faults (D.state device.new).faults }
@@ -70,10 +74,14 @@ pub fn remove_chained<D: Pm>(
     requires can { CanUnlink (D.state device.old).now g.now before slot page }
     requires room { REMOVE_UNITS ≤ (D.state device.old).spare }
     ensures images { LeavesUnlinked g.now before slot page (D.state device.old) (D.state device.new) }
-    ensures done { OnOk result (MakesUnlinked g.now before slot page (D.state device.old) (D.state device.new)) }
-    ensures settled { OnOk result (SettlesUnlinked g.now before slot page (D.state device.old) (D.state device.new)) }
-    ensures only { StoresOnly (IsGoneWord g.now (slot_word g.now before 5) page) (D.state device.old) (D.state device.new) }
-    ensures others { KeepsFlushed (Others who) (IsGoneWord g.now (slot_word g.now before 5) page) (D.state device.old) (D.state device.new) }
+    ensures done { OnOk result (MakesUnlinked g.now before slot page (D.state device.old)
+        (D.state device.new)) }
+    ensures settled { OnOk result (SettlesUnlinked g.now before slot page (D.state device.old)
+        (D.state device.new)) }
+    ensures only { StoresOnly (IsGoneWord g.now (slot_word g.now before 5) page)
+        (D.state device.old) (D.state device.new) }
+    ensures others { KeepsFlushed (Others who) (IsGoneWord g.now (slot_word g.now before 5) page)
+        (D.state device.old) (D.state device.new) }
     ensures spare { (D.state device.old).spare ≤ (D.state device.new).spare + REMOVE_UNITS }
     ensures faults { (D.state device.old).faults ≤ (D.state device.new).faults }
     ensures failed { IsErr result → Rose (D.state device.old).faults (D.state device.new).faults }

@@ -3,18 +3,19 @@ use Rattle.std.proofs.Common.{◌≡◌, ◌≢◌, inl, ℕ, ◌+◌, ◌*◌, 
 use Rattle.std.specs.Prelude.{Contains, All}
 use Rattle.std.specs.FinMap.{get}
 use Rattle.pm_device.specs.State.{State}
+use Rattle.pm_device.specs.Settled.{SettlesAll}
 use Rattle.pm_device.specs.Reading.{Stands}
 use Rattle.pm_layout.specs.declared.Geometry.{Geometry}
 use Rattle.pm_layout.specs.Geometry.{slots}
 use Rattle.dn_model.specs.Table.{Row}
 use Rattle.dn_model.specs.Disk.{Disk, DiskSays, rows}
 use Rattle.law_write.proofs.WriteValid.{named_same, written_valid}
-use Rattle.file_commit.specs.Append.{AppendsOnly, SettlesItems}
+use Rattle.file_commit.specs.Append.{AppendsOnly}
 use Rattle.dn_volume.specs.declared.flight.Flight.{Flight}
 use Rattle.dn_volume.specs.declared.flight.Change.{Change}
 use Rattle.dn_volume.specs.declared.flight.Change.TheVariants.{Data, Names}
 use Rattle.dn_volume.specs.declared.flight.DataChange.{DataChange}
-use Rattle.dn_volume.specs.declared.outcome.CountChange.{CountChange}
+use Rattle.dn_model.specs.declared.op.CountChange.{CountChange}
 use Rattle.dn_volume.specs.declared.volume.Parts.{Parts}
 use Rattle.dn_volume.specs.Parties.{Flies, Holds, by_client, for_client, taken_by}
 use Rattle.dn_volume.specs.Flights.{IsDataFlight, IsFlight, IsFlightOf, GrowsBy}
@@ -37,7 +38,7 @@ use Rattle.file_ops.proofs.Owed.{room_after}
 
 module _ (d e : Disk) (b b' : Parts) (s t : State) (who : ℕ) (f : Flight) (c : DataChange) (from n : ℕ) (v : IsVolume d b s) (flies : Flies b who f) (kind : f.change ≡ Data c)
     (is : IsDataFlight d who f c s) (all_raised : f.raised ≡ length f.rows.items) (disk : ChangesData d e f c from n) (ends : Ends d e who f c from n b b')
-    (stands : Stands (DiskSays e) t) (appends : AppendsOnly who f.ino d e s t) (settles : SettlesItems who s t) (units : s.spare ≤ t.spare + units_by f (Data c)) where
+    (stands : Stands (DiskSays e) t) (appends : AppendsOnly who f.ino d e s t) (settles : SettlesAll who s t) (units : s.spare ≤ t.spare + units_by f (Data c)) where
   held : f.held.items ≡ f.ino ∷ []
   held = held_is d f c f.op is.plans
 

@@ -4,7 +4,7 @@ use Rattle.std.proofs.lemmas.Bool.{cases_eq}
 use Rattle.std.proofs.lemmas.List.{append-nil}
 use Rattle.std.specs.Prelude.{slice_get, Some, All, Contains}
 use Rattle.pm_device.specs.State.{State, Rose}
-use Rattle.pm_device.specs.Settled.{LeavesOnly}
+use Rattle.pm_device.specs.Settled.{LeavesOnly, SettlesAll}
 use Rattle.pm_layout.specs.declared.Geometry.{Geometry}
 use Rattle.pm_layout.specs.Geometry.{IsAccepted, slots}
 use Rattle.dn_model.specs.Log.{count, tail_at}
@@ -21,7 +21,7 @@ use Rattle.law_write.proofs.WriteValid.{rows_kept}
 use Rattle.dn_volume.specs.declared.flight.Flight.{Flight}
 use Rattle.dn_volume.specs.declared.flight.Change.TheVariants.{Data}
 use Rattle.dn_volume.specs.declared.flight.DataChange.{DataChange}
-use Rattle.dn_volume.specs.declared.outcome.CountChange.{CountChange}
+use Rattle.dn_model.specs.declared.op.CountChange.{CountChange}
 use Rattle.dn_volume.specs.declared.volume.InodeState.{InodeState}
 use Rattle.dn_volume.specs.declared.volume.Parts.{Parts}
 use Rattle.dn_volume.specs.declared.volume.Volume.{Volume}
@@ -29,7 +29,7 @@ use Rattle.dn_volume.specs.Parties.{Flies, for_client, flight_at, taken_by}
 use Rattle.dn_volume.specs.Flights.{IsDataFlight, left_by, left_of}
 use Rattle.dn_volume.specs.Events.{IsBetween, word_in, Counts, Answers, Breaks}
 use Rattle.dn_volume.specs.Agrees.{IsVolume, HasHead}
-use Rattle.file_commit.specs.Append.{AppendsBetween, AppendsNew, AppendsThere, SettlesItems, IsReadyToAppend}
+use Rattle.file_commit.specs.Append.{AppendsBetween, AppendsNew, AppendsThere, IsReadyToAppend}
 use Rattle.file_ops.specs.Ends.{EndsFlight, Ends}
 use Rattle.file_ops.specs.Giving.{Gives, IsUnsharedAmong}
 use Rattle.file_ops.specs.Ending.{FinishesParts}
@@ -115,7 +115,7 @@ module _ {D F : Type 0} (state : D → State) (print : Print) (v v' : Volume D F
 
   -- it is done
   module _ (stands : AppendsNew v.parts.geometry who f.ino f.fresh.items f.slots.items (state v.device) (state v'.device))
-      (settles : SettlesItems who (state v.device) (state v'.device)) (spare : (state v.device).spare ≤ (state v'.device).spare + 9 * (length f.slots.items + length f.fresh.items) + 4)
+      (settles : SettlesAll who (state v.device) (state v'.device)) (spare : (state v.device).spare ≤ (state v'.device).spare + 9 * (length f.slots.items + length f.fresh.items) + 4)
       (node : InodeState) (node_is : slice_get v.parts.inodes.items f.ino ≡ Some node)
       (mid : Parts) (tail : ℕ) (tail_is : tail ≡ tail_at (d.inode f.ino).log.pages (count (d.inode f.ino).log)) (out : IsOut v.parts mid) (ended : EndsFlight who v.parts mid)
       (gives : Gives (IsUnsharedAmong d node.map.map c.first (length c.blocks.items)) v.parts.free mid.free) (finish : FinishesParts who tail f c mid v'.parts) where

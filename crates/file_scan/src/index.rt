@@ -72,7 +72,11 @@ fn add_write(
     requires places { first + count ≤ 4096 }
     requires blocks { block + count ≤ 65536 }
     requires size { size ≤ 16777216 }
-    ensures { (flag : Flag) (mask : ℕ) → OnOk result (Remaps (record { slot = slot; item = Write first count block size flag mask }) index.old index.new) }
+    ensures { (flag : Flag) (mask : ℕ)
+        → OnOk result (Remaps (record {
+          slot = slot;
+          item = Write first count block size flag mask;
+        }) index.old index.new) }
 {
     index.map.reserve(count)?;
     set_places(&mut index.map, slot, first, count, block);
@@ -108,7 +112,8 @@ fn add_item(index: &mut FileIndex, placed: &Placed) -> Result<(), NoMemory>
 /// `NoMemory` where there is no memory for the mappings.
 pub fn index_items(alloc: Global, items: &[Placed]) -> Result<FileIndex, NoMemory>
     requires { All MayBeIndexed items.now }
-    ensures { IfOk result (λ index. (log : Log) → map seen items.now ≡ placed log → IsIndexOf log index) }
+    ensures { IfOk result (λ index. (log : Log) → map seen items.now ≡ placed log
+        → IsIndexOf log index) }
 {
     let mut index = FileIndex {
         size: 0,

@@ -75,7 +75,8 @@ pub fn use_of_inode(words: &[u64], g: &Geometry, ino: u64) -> InodeUse
     requires accepted { IsAccepted g.now }
     requires size { length words.now ≡ 512 * g.now.pages }
     requires ino { ino < g.now.inodes }
-    ensures { (d : Disk) → d.geometry ≡ g.now → Reads (InodesSay d) words.now → (d.inode ino).use_of ≡ told_use result }
+    ensures { (d : Disk) → d.geometry ≡ g.now → Reads (InodesSay d) words.now
+        → (d.inode ino).use_of ≡ told_use result }
 {
     match field_of(words, g, ino, STATE) {
         0 => InodeUse::Free,

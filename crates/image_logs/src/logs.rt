@@ -60,7 +60,8 @@ fn read_log<D: Pm>(alloc: Global, device: &D, g: &Geometry, ino: u64) -> Result<
     requires accepted { IsAccepted g.now }
     requires size { length (D.state device.now).now ≡ 512 * g.now.pages }
     requires ino { ino < g.now.inodes }
-    ensures log { IfOk result (λ read. HasWholeLog g.now (D.state device.now).now ino read.pages.items read.items.items) }
+    ensures log { IfOk result (λ read. HasWholeLog g.now (D.state device.now).now ino
+        read.pages.items read.items.items) }
     ensures fault { IfErr result (IsOneFault g.now (D.state device.now).now ino) }
 {
     match walk_log(alloc, device, g, ino) {
@@ -73,7 +74,8 @@ fn read_log<D: Pm>(alloc: Global, device: &D, g: &Geometry, ino: u64) -> Result<
 // The places of a log's file.
 fn index_log(alloc: Global, items: &[Placed]) -> Result<FileIndex, LogsFault>
     requires { All MayBeIndexed items.now }
-    ensures index { IfOk result (λ index. (log : Log) → map seen items.now ≡ placed log → IsIndexOf log index) }
+    ensures index { IfOk result (λ index. (log : Log) → map seen items.now ≡ placed log
+        → IsIndexOf log index) }
     ensures fault { IfErr result (λ fault. fault ≡ LogsFault.NoMemory) }
 {
     match index_items(alloc, items) {
@@ -90,7 +92,8 @@ fn add_names(
     items: &[Placed],
 ) -> Result<(), LogsFault>
     ensures same { OnOk result (ino ≢ 0 → names.new.map ≡ names.old.map) }
-    ensures root { OnOk result (ino ≡ 0 → (log : Log) → map seen items.now ≡ placed log → IsNamesOf log names.new.map) }
+    ensures root { OnOk result (ino ≡ 0 → (log : Log) → map seen items.now ≡ placed log
+        → IsNamesOf log names.new.map) }
     ensures fault { IfErr result (λ fault. fault ≡ LogsFault.NoMemory) }
 {
     if ino != 0 {
@@ -170,7 +173,8 @@ fn add_inode<D: Pm>(
     requires files { read.old.files ≤ ino }
     requires dying { read.old.dying ≤ ino }
     ensures adds { OnOk result (AddsInode g.now (D.state device.now).now ino read.old read.new) }
-    ensures used { IfErr result (λ fault. fault ≢ LogsFault.NoMemory → IsInUse (D.state device.now).now ino) }
+    ensures used { IfErr result (λ fault. fault ≢ LogsFault.NoMemory
+        → IsInUse (D.state device.now).now ino) }
     ensures fault { IfErr result (IsOneFault g.now (D.state device.now).now ino) }
 {
     let slot = read_inode(device, g, ino);

@@ -50,10 +50,18 @@ module _ (d : Disk) (valid : IsValid d) (s u : State) (stands : Stands (DiskSays
       end_disk : (t' : Table) (e : Disk) → IsSameBut d e → Are (rows e) → IsTable e u.now t' → Stands (TableSays e) u → IsOnDisk d t' u Are
       end_disk t' e same are holds settled =
           let next = next_of e same holds.good are in
-          record { disk = e; same = same; are = are; valid = next.valid; stands = standing_table d valid s u stands only e next settled; table = holds }
+          record {
+            disk = e;
+            same = same;
+            are = are;
+            valid = next.valid;
+            stands = standing_table d valid s u stands only e next settled;
+            table = holds;
+          }
 
   -- one call
-  module _ (t : Table) (call : TableCall) (may : MayCall d s.now t call) (on : MayMakeOn d (rows d) call) (stores : StoresOnly (IsTableWord t.geometry) s u) where
+  module _ (t : Table) (call : TableCall) (may : MayCall d s.now t call) (on : MayMakeOn d (rows d) call)
+      (stores : StoresOnly (IsTableWord t.geometry) s u) where
     new_fitting : (rs : List Row) → Follows d.geometry (rows d) call rs → IsFitting d rs
     new_fitting rs follows =
         let may_here = subst (λ (g : Geometry). MayMake g (rows d) call) (sym may.table.geometry) may.may in
@@ -63,10 +71,15 @@ module _ (d : Disk) (valid : IsValid d) (s u : State) (stands : Stands (DiskSays
     one_fitting rs (inl same) = subst (IsFitting d) (sym same) (valid_fitting d valid)
     one_fitting rs (inr follows) = new_fitting rs follows
 
-    pub call_images : Agree u.now u.past → LeavesCall t call s u → LeavesOnly s u (λ c. HasRows d c (λ rs. (rs ≡ rows d) ⊎ Follows d.geometry (rows d) call rs))
+    pub call_images : Agree u.now u.past → LeavesCall t call s u
+        → LeavesOnly s u (λ c. HasRows d c (λ rs. (rs ≡ rows d) ⊎ Follows d.geometry (rows d) call rs))
     call_images agree leaves =
         let held = leaves d may table_stands in
-        record { extends = held.extends; each = λ m c late left. image_disk t may.table stores _ one_fitting agree m c late left (held.each m c late left) }
+        record {
+          extends = held.extends;
+          each = λ m c late left. image_disk t may.table stores _ one_fitting agree m c late left
+              (held.each m c late left);
+        }
 
     pub call_made : (t' : Table) → MakesCall t t' call s u → IsOnDisk d t' u (Follows d.geometry (rows d) call)
     call_made t' makes =
@@ -74,7 +87,8 @@ module _ (d : Disk) (valid : IsValid d) (s u : State) (stands : Stands (DiskSays
         end_disk t may.table stores _ new_fitting t' is.disk is.same is.follows is.table (is.settled table_stands)
 
   -- calls, one after another
-  module _ (t : Table) (calls : List TableCall) (may : MayCallAll d s.now t calls) (on : AllowsOn d calls) (stores : StoresOnly (IsTableWord t.geometry) s u) where
+  module _ (t : Table) (calls : List TableCall) (may : MayCallAll d s.now t calls) (on : AllowsOn d calls)
+      (stores : StoresOnly (IsTableWord t.geometry) s u) where
     made_fitting : (k : ℕ) (rs : List Row) → After d.geometry calls (rows d) k rs → IsFitting d rs
     made_fitting = after_fitting d valid calls (subst (λ (g : Geometry). Allows g calls (rows d)) (sym may.table.geometry) may.allows) on
 
@@ -87,7 +101,11 @@ module _ (d : Disk) (valid : IsValid d) (s u : State) (stands : Stands (DiskSays
         let held = leaves d may table_stands in
         record {
           extends = held.extends;
-          each = λ m late. let was = held.each m late in record { k = was.k; images = λ c left. image_disk t may.table stores _ (either_fitting was.k) agree m c late left (was.images c left) };
+          each = λ m late. let was = held.each m late in record {
+            k = was.k;
+            images = λ c left. image_disk t may.table stores _ (either_fitting was.k)
+                agree m c late left (was.images c left);
+          };
         }
 
     pub calls_made : (t' : Table) → MakesAll t t' calls s u → IsOnDisk d t' u (After d.geometry calls (rows d) (length calls))

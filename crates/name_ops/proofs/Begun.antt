@@ -28,7 +28,7 @@ use Rattle.dn_volume.specs.declared.flight.Change.{Change}
 use Rattle.dn_volume.specs.declared.flight.Change.TheVariants.{Data, Names}
 use Rattle.dn_volume.specs.declared.flight.DataChange.{DataChange}
 use Rattle.dn_volume.specs.declared.flight.NameChange.{NameChange}
-use Rattle.dn_volume.specs.declared.outcome.CountChange.{CountChange}
+use Rattle.dn_model.specs.declared.op.CountChange.{CountChange}
 use Rattle.dn_volume.specs.declared.volume.InodeState.{InodeState}
 use Rattle.dn_volume.specs.declared.volume.Parts.{Parts}
 use Rattle.dn_volume.specs.declared.volume.Room.{Room}

@@ -39,7 +39,7 @@ use Rattle.law_names.proofs.AllWords.{all_or_none_stands}
 use Rattle.name_journal.specs.Changes.{IsTouched, address}
 use Rattle.dn_volume.specs.declared.flight.Flight.{Flight}
 use Rattle.dn_volume.specs.declared.flight.NameChange.{NameChange}
-use Rattle.dn_volume.specs.declared.outcome.CountChange.{CountChange}
+use Rattle.dn_model.specs.declared.op.CountChange.{CountChange}
 use Rattle.dn_volume.specs.declared.volume.InodeState.{InodeState}
 use Rattle.dn_volume.specs.declared.volume.Parts.{Parts}
 use Rattle.dn_volume.specs.Parties.{Flies, SameOthers, by_client, Takes, for_client, blocks_of}
@@ -244,7 +244,7 @@ module _ (d : Disk) (b b' : Parts) (s t : State) (who : ℕ) (f : Flight) (name 
   leaves = record {
     rest = rest;
     only = stores_only-weaken (IsTouched (name_changes d change)) (IsWordOf inodes f.fresh.items d) s t word_of commit.only;
-    others = λ q a other out lt flushed. commit.others.flushed q a other (λ touched. out (word_of a touched)) flushed;
+    others = λ q a other out lt flushed. commit.others.flushed q a other (λ touched. out (word_of a touched)) lt flushed;
   }
 
   for_it : IsFor d b who inodes f.fresh.items
@@ -295,7 +295,7 @@ module _ (d : Disk) (b b' : Parts) (s t : State) (who : ℕ) (f : Flight) (name 
 
   pub landed : IsVolume e b' t
   landed = record {
-    still = still_settles who b b' s t commit.settles same volume.still;
+    still = still_settles who b b' s t (record { words = commit.settles.words; kept = commit.settles.kept; own = commit.settles.own }) same volume.still;
     fast = fast;
     running = lands.lands.lands.running;
     names = names;

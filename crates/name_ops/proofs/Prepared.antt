@@ -31,7 +31,7 @@ use Rattle.dn_volume.specs.declared.flight.Flight.{Flight}
 use Rattle.dn_volume.specs.declared.flight.Change.TheVariants.{Data, Names}
 use Rattle.dn_volume.specs.declared.flight.DataChange.{DataChange}
 use Rattle.dn_volume.specs.declared.flight.NameChange.{NameChange}
-use Rattle.dn_volume.specs.declared.outcome.CountChange.{CountChange}
+use Rattle.dn_model.specs.declared.op.CountChange.{CountChange}
 use Rattle.dn_volume.specs.declared.volume.InodeState.{InodeState}
 use Rattle.dn_volume.specs.declared.volume.Parts.{Parts}
 use Rattle.dn_volume.specs.declared.volume.Room.{Room}
@@ -124,7 +124,7 @@ module _ (d : Disk) (b b' : Parts) (s u t : State) (who : ℕ) (f : Flight) (nam
       record {
         within = λ a v told. let lt = was.within a v told in let same = stores.cleared.only.words in omega (arith, lt, same);
         reads = λ a v told. stores.cleared.only.read a (not_turned a v told) ∙ was.reads a v told;
-        flushed = λ a v told. stores.cleared.keeps who a (not_turned a v told) (was.within a v told) (was.flushed a v told);
+        flushed = λ a v told. stores.cleared.keeps.flushed who a tt (not_turned a v told) (was.within a v told) (was.flushed a v told);
       }
 
   ready : IsReady who (FreshNames d change) t
@@ -203,7 +203,8 @@ module _ (d : Disk) (b b' : Parts) (s u t : State) (who : ℕ) (f : Flight) (nam
     only = stores_only-then (IsWordOf inodes f.fresh.items d) s u t (stores_only-weaken Root (IsWordOf inodes f.fresh.items d) s u of_root stores.prepared.only)
         (stores_only-weaken Turn' (IsWordOf inodes f.fresh.items d) u t of_turn stores.cleared.only);
     others = λ q a other out lt flushed.
-        stores.cleared.keeps q a (λ here. out (of_turn a here)) (let same = stores.prepared.only.words in omega (arith, lt, same)) (stores.prepared.keeps q a (λ said. out (of_root a said)) lt flushed);
+        stores.cleared.keeps.flushed q a tt (λ here. out (of_turn a here)) (let same = stores.prepared.only.words in omega (arith, lt, same))
+        (stores.prepared.keeps.flushed q a tt (λ said. out (of_root a said)) lt flushed);
   }
 
   same : SameOthers who b b'

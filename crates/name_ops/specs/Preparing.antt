@@ -1,6 +1,7 @@
 -- What the first advance of an operation on names stores, and what it does to what is kept in memory.
 use Rattle.std.specs.Prelude.{◌≡◌, ℕ, ◌+◌, ◌*◌, ◌≤◌, true, false, List, [], ◌∷◌, length}
 use Rattle.pm_device.specs.State.{State, Agree}
+use Rattle.pm_device.specs.Settled.{FlushesAll}
 use Rattle.pm_device.specs.Lines.{StoresRun}
 use Rattle.pm_layout.specs.Geometry.{inode_word}
 use Rattle.inode_log.specs.Prepare.{IsPreparedBy}
@@ -19,7 +20,6 @@ use Rattle.dn_volume.specs.declared.flight.NameChange.{NameChange}
 use Rattle.dn_volume.specs.declared.volume.Parts.{Parts}
 use Rattle.dn_volume.specs.declared.volume.Volume.{Volume}
 use Rattle.dn_volume.specs.Parties.{Flies}
-use Rattle.dn_volume.specs.StillLaws.{FlushesAll}
 use Rattle.dn_volume.specs.Steps.{StepsOn}
 use Rattle.dn_volume.specs.Agrees.{IsVolume}
 use Rattle.dn_volume.specs.Events.{Counts, MovesOn}

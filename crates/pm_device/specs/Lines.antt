@@ -5,7 +5,8 @@ use Rattle.pm_device.specs.Settled.{IsFlushed, StoresOnly, KeepsFlushed, Anyone,
 use Rattle.pm_device.specs.Words.{IsIn}
 use Rattle.pm_device.specs.Pages.{SaysRun}
 
--- The words from `at` on are these values, and are settled by the actor's next fence; on the way a crash leaves of
+-- The words from `at` on are these values, and are settled by the actor's next fence; on the way a
+-- crash leaves of
 -- each an old value or this one. No other word changes, nor what was flushed of it.
 pub record StoresRun (who at : ℕ) (values : List ℕ) (s t : State) : Type 0 where
   pub only : StoresOnly (IsIn at (length values)) s t

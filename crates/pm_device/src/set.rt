@@ -20,11 +20,13 @@ pub const SET_UNITS: u64 = 3;
 pub fn set_word<D: Pm>(device: &mut D, who: u32, at: u64, value: u64) -> Result<(), Failed>
     requires inside { at / 8 * 8 + 8 ≤ length (D.state device.old).now }
     requires room { SET_UNITS ≤ (D.state device.old).spare }
-    ensures any_moment { IsSettled (D.state device.old) at → LeavesOnly (D.state device.old) (D.state device.new) (LeavesOneWord at value (D.state device.old)) }
+    ensures any_moment { IsSettled (D.state device.old) at → LeavesOnly (D.state device.old)
+        (D.state device.new) (LeavesOneWord at value (D.state device.old)) }
     ensures done { OnOk result (IsDone who at value (D.state device.old) (D.state device.new)) }
     ensures settles { OnOk result (SettlesAll who (D.state device.old) (D.state device.new)) }
     ensures only { StoresOnly (λ a. a ≡ at) (D.state device.old) (D.state device.new) }
-    ensures others { KeepsFlushed (Others who) (λ a. a ≡ at) (D.state device.old) (D.state device.new) }
+    ensures others { KeepsFlushed (Others who) (λ a. a ≡ at) (D.state device.old)
+        (D.state device.new) }
     ensures spare { (D.state device.old).spare ≤ (D.state device.new).spare + SET_UNITS }
     ensures faults { (D.state device.old).faults ≤ (D.state device.new).faults }
     ensures failed { IsErr result → Rose (D.state device.old).faults (D.state device.new).faults }

@@ -26,7 +26,7 @@ use Rattle.fact_counts.specs.Counted.{LeavesTables, SettlesTable, SettlesOwn, co
 use Rattle.fact_counts.proofs.Counting.{row_kept, row_small}
 use Rattle.dn_volume.specs.declared.flight.Flight.{Flight}
 use Rattle.dn_volume.specs.declared.background.DyingPlace.{DyingPlace}
-use Rattle.dn_volume.specs.declared.outcome.CountChange.{CountChange}
+use Rattle.dn_model.specs.declared.op.CountChange.{CountChange}
 use Rattle.dn_volume.specs.declared.volume.InodeState.{InodeState}
 use Rattle.dn_volume.specs.declared.volume.Parts.{Parts}
 use Rattle.dn_volume.specs.declared.volume.Volume.{Volume}

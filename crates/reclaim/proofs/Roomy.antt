@@ -10,7 +10,7 @@ use Rattle.pm_device.proofs.Only.{stores_only-same}
 use Rattle.pm_device.proofs.Flushed.{keeps-same}
 use Rattle.dn_model.specs.Disk.{Disk, DiskSays}
 use Rattle.dn_volume.specs.declared.flight.Flight.{Flight}
-use Rattle.dn_volume.specs.declared.outcome.CountChange.{CountChange}
+use Rattle.dn_model.specs.declared.op.CountChange.{CountChange}
 use Rattle.dn_volume.specs.declared.volume.Parts.{Parts}
 use Rattle.dn_volume.specs.Parties.{Flies, Holds, by_client, by_daemon, Takes, for_client}
 use Rattle.dn_volume.specs.Flights.{IsFlight}

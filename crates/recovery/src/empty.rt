@@ -38,7 +38,8 @@ fn make_image<D: Pm>(device: &mut D, g: &Geometry) -> Result<(), Failed>
     requires size { length (D.state device.old).now ≡ 512 * g.now.pages }
     requires room { PAGE_UNITS * first_data g.now ≤ (D.state device.old).spare }
     requires still { Still (D.state device.old) }
-    ensures any_moment { LeavesOnly (D.state device.old) (D.state device.new) (IsFormatting g.now (D.state device.old).now) }
+    ensures any_moment { LeavesOnly (D.state device.old) (D.state device.new)
+        (IsFormatting g.now (D.state device.old).now) }
     ensures done { OnOk result (IsFormatted g.now (D.state device.old).now (D.state device.new)) }
     ensures faults { (D.state device.old).faults ≤ (D.state device.new).faults }
     ensures failed { IsErr result → Rose (D.state device.old).faults (D.state device.new).faults }
@@ -61,12 +62,17 @@ fn make_image<D: Pm>(device: &mut D, g: &Geometry) -> Result<(), Failed>
 pub fn format<D: Pm>(device: &mut D, g: Geometry) -> Result<(), FormatFault>
     requires accepted { IsAccepted g }
     requires still { Still (D.state device.old) }
-    ensures any_moment { LeavesOnly (D.state device.old) (D.state device.new) (IsFormatting g (D.state device.old).now) }
+    ensures any_moment { LeavesOnly (D.state device.old) (D.state device.new)
+        (IsFormatting g (D.state device.old).now) }
     ensures done { OnOk result (IsFormatted g (D.state device.old).now (D.state device.new)) }
-    ensures wrong_size { (n : ℕ) → (result ≡ Err (FormatFault.WrongSize n)) ↔ ((length (D.state device.old).now ≢ 512 * g.pages) × (n ≡ length (D.state device.old).now)) }
-    ensures wrong_size_stores_nothing { (n : ℕ) → result ≡ Err (FormatFault.WrongSize n) → IsSame (D.state device.old) (D.state device.new) }
-    ensures no_memory_stores_nothing { result ≡ Err FormatFault.NoMemory → IsSame (D.state device.old) (D.state device.new) }
-    ensures failed { result ≡ Err FormatFault.Failed → Rose (D.state device.old).faults (D.state device.new).faults }
+    ensures wrong_size { (n : ℕ) → (result ≡ Err (FormatFault.WrongSize n)) ↔
+        ((length (D.state device.old).now ≢ 512 * g.pages) × (n ≡ length (D.state device.old).now)) }
+    ensures wrong_size_stores_nothing { (n : ℕ) → result ≡ Err (FormatFault.WrongSize n)
+        → IsSame (D.state device.old) (D.state device.new) }
+    ensures no_memory_stores_nothing { result ≡ Err FormatFault.NoMemory
+        → IsSame (D.state device.old) (D.state device.new) }
+    ensures failed { result ≡ Err FormatFault.Failed → Rose (D.state device.old).faults
+        (D.state device.new).faults }
     ensures faults { (D.state device.old).faults ≤ (D.state device.new).faults }
 {
     let words = device.words();

@@ -68,7 +68,8 @@ fn table_page<D: Pm>(device: &D, g: &Geometry, page: u64) -> [u64; 512]
     requires small { page < 65536 }
     requires inside { 512 * page + 512 ≤ length (D.state device.now).now }
     ensures whole { length result ≡ 512 }
-    ensures words { (j : ℕ) → j < 512 → slice_index result j ≡ table_word g.now (512 * page + j) (slice_index (D.state device.now).now (512 * page + j)) }
+    ensures words { (j : ℕ) → j < 512 → slice_index result j ≡ table_word g.now (512 * page + j)
+        (slice_index (D.state device.now).now (512 * page + j)) }
 {
     let mut words = [0; 512];
     for (j, word) in words.iter_mut().enumerate() {
@@ -83,7 +84,8 @@ fn has_page<D: Pm>(device: &D, page: u64, words: &[u64]) -> bool
     requires small { page < 65536 }
     requires whole { length words.now ≡ 512 }
     requires inside { 512 * page + 512 ≤ length (D.state device.now).now }
-    ensures { IsTrue result → (j : ℕ) → j < 512 → slice_index (D.state device.now).now (512 * page + j) ≡ slice_index words.now j }
+    ensures { IsTrue result → (j : ℕ) → j < 512 → slice_index (D.state device.now).now
+        (512 * page + j) ≡ slice_index words.now j }
 {
     for (j, word) in words.iter().enumerate() {
         if device.load(512 * page + j as u64) != *word {
@@ -101,7 +103,8 @@ fn put_page<D: Pm>(device: &mut D, page: u64, words: &[u64])
     requires room { PAGE_UNITS ≤ (D.state device.old).spare }
     requires flushed { AllFlushed RECOVERY (D.state device.old) }
     ensures only { StoresOnly (IsInPage page) (D.state device.old) (D.state device.new) }
-    ensures reads { (j : ℕ) → j < 512 → slice_index (D.state device.new).now (512 * page + j) ≡ slice_index words.now j }
+    ensures reads { (j : ℕ) → j < 512 → slice_index (D.state device.new).now (512 * page + j) ≡
+        slice_index words.now j }
     ensures flushed { AllFlushed RECOVERY (D.state device.new) }
     ensures spare { (D.state device.old).spare ≤ (D.state device.new).spare + PAGE_UNITS }
     ensures faults { (D.state device.old).faults ≤ (D.state device.new).faults }
@@ -120,9 +123,11 @@ fn make_tables<D: Pm>(device: &mut D, g: &Geometry)
     requires room { PAGE_UNITS * first_data g.now ≤ (D.state device.old).spare + 1152 }
     requires flushed { AllFlushed RECOVERY (D.state device.old) }
     ensures only { StoresOnly IsBehindMagic (D.state device.old) (D.state device.new) }
-    ensures made { TablesTo g.now (first_data g.now) (D.state device.old).now (D.state device.new).now }
+    ensures made { TablesTo g.now (first_data g.now) (D.state device.old).now
+        (D.state device.new).now }
     ensures flushed { AllFlushed RECOVERY (D.state device.new) }
-    ensures spare { (D.state device.old).spare + 1152 ≤ (D.state device.new).spare + PAGE_UNITS * first_data g.now }
+    ensures spare { (D.state device.old).spare + 1152 ≤ (D.state device.new).spare + PAGE_UNITS
+        * first_data g.now }
     ensures faults { (D.state device.old).faults ≤ (D.state device.new).faults }
 {
     for page in 2..g.first_data() {
@@ -156,7 +161,8 @@ pub(crate) fn make_parts<D: Pm>(device: &mut D, g: &Geometry)
     ensures only { StoresOnly IsBehindMagic (D.state device.old) (D.state device.new) }
     ensures made { HasParts g.now (D.state device.old).now (D.state device.new).now }
     ensures flushed { AllFlushed RECOVERY (D.state device.new) }
-    ensures spare { (D.state device.old).spare + 1146 ≤ (D.state device.new).spare + PAGE_UNITS * first_data g.now }
+    ensures spare { (D.state device.old).spare + 1146 ≤ (D.state device.new).spare + PAGE_UNITS
+        * first_data g.now }
     ensures faults { (D.state device.old).faults ≤ (D.state device.new).faults }
 {
     make_head(device, g);

@@ -8,22 +8,29 @@ pub insert_chained-requires-clause-can : goal.insert_chained-requires-clause-can
 insert_chained-requires-clause-can g c =
     let S = g.D.Pm.state in
     let can = c.requires.can in
-    can_link can.disk (S c.args.device.now) c.args.fact.now c.args.print.now c.args.page can.may c.args.direct c.geometry-g.result c.requires.direct c.geometry-g.ensures c.requires.row c.in-Some.slot c.take_slot.new.self c.in-Some.ensures.takes
+    can_link can.disk (S c.args.device.now) c.args.fact.now c.args.print.now c.args.page can.may c.args.direct c.geometry-g.result c.requires.direct
+    c.geometry-g.ensures c.requires.row c.in-Some.slot c.take_slot.new.self c.in-Some.ensures.takes
 
 pub returns-in_err-insert_chained-in-Some-clause-images : goal.returns-in_err-insert_chained-in-Some-clause-images
 returns-in_err-insert_chained-in-Some-clause-images g c =
     let S = g.D.Pm.state in
-    λ d may. insert_links d (S c.args.device.now) c.args.fact.now c.args.print.now c.args.page may c.args.direct c.geometry-g.result c.requires.direct c.geometry-g.ensures c.requires.row c.in-Some.slot c.take_slot.new.self c.in-Some.ensures.takes (S c.insert_chained.new.device) c.insert_chained.ensures.images
+    λ d may. insert_links d (S c.args.device.now) c.args.fact.now c.args.print.now c.args.page may c.args.direct c.geometry-g.result c.requires.direct
+    c.geometry-g.ensures c.requires.row c.in-Some.slot c.take_slot.new.self c.in-Some.ensures.takes (S c.insert_chained.new.device)
+    c.insert_chained.ensures.images
 
 pub returns-in_ok-insert_chained-in-Some-clause-images : goal.returns-in_ok-insert_chained-in-Some-clause-images
 returns-in_ok-insert_chained-in-Some-clause-images g c =
     let S = g.D.Pm.state in
-    λ d may. insert_links d (S c.args.device.now) c.args.fact.now c.args.print.now c.args.page may c.args.direct c.geometry-g.result c.requires.direct c.geometry-g.ensures c.requires.row c.in-Some.slot c.take_slot.new.self c.in-Some.ensures.takes (S c.insert_chained.new.device) c.insert_chained.ensures.images
+    λ d may. insert_links d (S c.args.device.now) c.args.fact.now c.args.print.now c.args.page may c.args.direct c.geometry-g.result c.requires.direct
+    c.geometry-g.ensures c.requires.row c.in-Some.slot c.take_slot.new.self c.in-Some.ensures.takes (S c.insert_chained.new.device)
+    c.insert_chained.ensures.images
 
 pub returns-in_ok-insert_chained-in-Some-clause-done : goal.returns-in_ok-insert_chained-in-Some-clause-done
 returns-in_ok-insert_chained-in-Some-clause-done g c =
     let S = g.D.Pm.state in
-    λ d may. made_links d (S c.args.device.now) c.args.fact.now c.args.print.now c.args.page may c.args.direct c.geometry-g.result c.requires.direct c.geometry-g.ensures c.requires.row c.in-Some.slot c.take_slot.new.self c.in-Some.ensures.takes (S c.insert_chained.new.device) c.insert_chained.ensures.only.words c.in_ok-insert_chained-in-Some.ensures.done c.in_ok-insert_chained-in-Some.ensures.settled
+    λ d may. made_links d (S c.args.device.now) c.args.fact.now c.args.print.now c.args.page may c.args.direct c.geometry-g.result c.requires.direct
+    c.geometry-g.ensures c.requires.row c.in-Some.slot c.take_slot.new.self c.in-Some.ensures.takes (S c.insert_chained.new.device)
+    c.insert_chained.ensures.only.words c.in_ok-insert_chained-in-Some.ensures.done c.in_ok-insert_chained-in-Some.ensures.settled
 
 pub returns-in-None-clause-images : goal.returns-in-None-clause-images
 returns-in-None-clause-images g c =
@@ -38,22 +45,30 @@ returns-in-None-clause-done g c =
 pub returns-in_err-insert_chained-in-Some-clause-only : goal.returns-in_err-insert_chained-in-Some-clause-only
 returns-in_err-insert_chained-in-Some-clause-only g c =
     let S = g.D.Pm.state in
-    stores_only-weaken _ _ (S c.args.device.now) (S c.insert_chained.new.device) (λ a. linked_words c.args.fact.now c.take_slot.new.self c.args.print.now c.args.page c.args.direct c.geometry-g.result c.requires.direct c.geometry-g.ensures a c.in-Some.slot c.in-Some.ensures.takes) c.insert_chained.ensures.only
+    stores_only-weaken _ _ (S c.args.device.now) (S c.insert_chained.new.device) (λ a. linked_words c.args.fact.now c.take_slot.new.self
+    c.args.print.now c.args.page c.args.direct c.geometry-g.result c.requires.direct c.geometry-g.ensures a c.in-Some.slot
+    c.in-Some.ensures.takes) c.insert_chained.ensures.only
 
 pub returns-in_err-insert_chained-in-Some-clause-others : goal.returns-in_err-insert_chained-in-Some-clause-others
 returns-in_err-insert_chained-in-Some-clause-others g c =
     let S = g.D.Pm.state in
-    λ q a other out lt flushed. c.insert_chained.ensures.others q a other (λ h. out (linked_words c.args.fact.now c.take_slot.new.self c.args.print.now c.args.page c.args.direct c.geometry-g.result c.requires.direct c.geometry-g.ensures a c.in-Some.slot c.in-Some.ensures.takes h)) lt flushed
+    λ q a other out lt flushed. c.insert_chained.ensures.others q a other
+    (λ h. out (linked_words c.args.fact.now c.take_slot.new.self c.args.print.now c.args.page c.args.direct c.geometry-g.result c.requires.direct
+    c.geometry-g.ensures a c.in-Some.slot c.in-Some.ensures.takes h)) lt flushed
 
 pub returns-in_ok-insert_chained-in-Some-clause-only : goal.returns-in_ok-insert_chained-in-Some-clause-only
 returns-in_ok-insert_chained-in-Some-clause-only g c =
     let S = g.D.Pm.state in
-    stores_only-weaken _ _ (S c.args.device.now) (S c.insert_chained.new.device) (λ a. linked_words c.args.fact.now c.take_slot.new.self c.args.print.now c.args.page c.args.direct c.geometry-g.result c.requires.direct c.geometry-g.ensures a c.in-Some.slot c.in-Some.ensures.takes) c.insert_chained.ensures.only
+    stores_only-weaken _ _ (S c.args.device.now) (S c.insert_chained.new.device) (λ a. linked_words c.args.fact.now c.take_slot.new.self
+    c.args.print.now c.args.page c.args.direct c.geometry-g.result c.requires.direct c.geometry-g.ensures a c.in-Some.slot
+    c.in-Some.ensures.takes) c.insert_chained.ensures.only
 
 pub returns-in_ok-insert_chained-in-Some-clause-others : goal.returns-in_ok-insert_chained-in-Some-clause-others
 returns-in_ok-insert_chained-in-Some-clause-others g c =
     let S = g.D.Pm.state in
-    λ q a other out lt flushed. c.insert_chained.ensures.others q a other (λ h. out (linked_words c.args.fact.now c.take_slot.new.self c.args.print.now c.args.page c.args.direct c.geometry-g.result c.requires.direct c.geometry-g.ensures a c.in-Some.slot c.in-Some.ensures.takes h)) lt flushed
+    λ q a other out lt flushed. c.insert_chained.ensures.others q a other
+    (λ h. out (linked_words c.args.fact.now c.take_slot.new.self c.args.print.now c.args.page c.args.direct c.geometry-g.result c.requires.direct
+    c.geometry-g.ensures a c.in-Some.slot c.in-Some.ensures.takes h)) lt flushed
 
 pub returns-in-None-clause-only : goal.returns-in-None-clause-only
 returns-in-None-clause-only g c =
