@@ -289,6 +289,10 @@ module _ (d : Disk) (b b' : Parts) (s t : State) (who : ℕ) (f : Flight) (name 
       all_units : total e.geometry.inodes (dying_units e) ≡ total d.geometry.inodes (dying_units d)
       all_units = ap (λ (g : Geometry). total g.inodes (dying_units e)) (same_geometry d change) ∙ total-same (dying_units d) (dying_units e) d.geometry.inodes (λ ino lt. units_same ino)
 
+  pointers_same : (page : ℕ) → e.pointer page ≡ d.pointer page
+  unfolding names_changed
+  pointers_same page = refl
+
   pub landed : IsVolume e b' t
   landed = record {
     still = still_settles who b b' s t (record { words = commit.settles.words; kept = commit.settles.kept; own = commit.settles.own }) same volume.still;
@@ -307,7 +311,7 @@ module _ (d : Disk) (b b' : Parts) (s t : State) (who : ℕ) (f : Flight) (name 
     queue = queue d b b' s t who f c change volume changes to.flies to.change_is refl lands.lands (λ ino n' at. let was = lands.each ino n' at in (was.0, was.1, was.2.round));
     sharing = stay.1.sharing (λ same'. let few = who_few d b b' s t who f c change volume changes to.flies to.change_is refl lands.lands in omega (arith, few, same'));
     reclaiming = reclaims;
-    pointers = none_stale_kept d e (same_geometry d change) (λ page. refl)
+    pointers = none_stale_kept d e (same_geometry d change) pointers_same
         (λ row has. record { row = row; there = subst (λ (rs : List Row). Contains rs row) (sym (same_rows d change)) has; page_is = refl }) volume.pointers;
     room = room d b b' s t who f c change volume changes to.flies to.change_is refl lands.lands commit.spare lands.reclaiming (λ ino n' at. let was = lands.each ino n' at in (was.0, was.1, was.2.map));
     trace = subst (λ (g : Geometry). All (λ (x : CountChange). x.slot < slots g) b'.trace.items) (sym lands.lands.lands.geometry)
