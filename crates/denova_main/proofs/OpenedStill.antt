@@ -8,4 +8,3 @@ use Rattle.pm_file.specs.Image.{IsOpened}
 -- a file doesn't tell its past
 pub opened_still : (s : State) → IsOpened s → Still s
 opened_still s opened = λ a inside. subst (λ (p : Option Past). OfWord p a (Each (IsRead s a))) (sym opened.past) tt
-

@@ -13,8 +13,8 @@ use pm_device::{MemPm, Pm};
 use pm_file::{FilePm, OpenFault};
 use pm_layout::Geometry;
 use std::alloc::{AllocError, Global};
-use std::io::{Input, Write};
-use std::rt::{Env, Files, Print};
+use std::io::{Input, Print, Write};
+use std::rt::{Env, Files};
 use std::{env, io};
 
 // The status where memory ran out.
