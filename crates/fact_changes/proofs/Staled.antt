@@ -27,13 +27,14 @@ use Rattle.std.proofs.Common.{
 use Rattle.std.specs.Prelude.{slice_index, Contains, if◌then◌else◌, Option, Some, None, IsNone, is_some, not, IfSome, IfNone, IsTrue}
 use Rattle.std.proofs.lemmas.Bool.{cases_eq, false≢true}
 use Rattle.pm_device.specs.State.{State, Agree}
-use Rattle.pm_device.specs.Settled.{IsSettled, LeavesOnly, StoresOnly, KeepsFlushed, Others}
+use Rattle.pm_device.specs.Settled.{IsSettled, LeavesOnly, StoresOnly, KeepsFlushed, Others, FlushesAll}
 use Rattle.pm_device.specs.Reading.{Stands}
 use Rattle.pm_device.specs.Commit.{IsDone, LeavesOneWord}
 use Rattle.pm_device.proofs.Layers.{leaves_only-then}
 use Rattle.pm_device.proofs.Moments.{leaves_only-weaken}
 use Rattle.pm_device.proofs.Only.{stores_only-none, stores_only-then, stores_only-weaken}
 use Rattle.pm_device.proofs.Flushed.{keeps-none, keeps-then, keeps-weaken}
+use Rattle.pm_device.proofs.AllFlushed.{flushes-none}
 use Rattle.pm_layout.specs.declared.Geometry.{Geometry}
 use Rattle.pm_layout.specs.Geometry.{pointer_word, directs}
 use Rattle.dn_model.specs.Table.{Row}
@@ -203,12 +204,14 @@ pub record IsClearedFront (d : Disk) (who p : ℕ) (t : Table) (s0 s : State) : 
 pub record IsClearing (t : Table) (who p : ℕ) (s0 s : State) : Type 0 where
   pub spare : s0.spare ≤ s.spare + 3 * p
   pub faults : s0.faults ≤ s.faults
+  pub flushes : FlushesAll who s0 s
   pub front : (d : Disk) → IsTable d s0.now t → IsClearedFront d who p t s0 s
 
 pub clearing_begins : (t : Table) (who : ℕ) (s : State) → Agree s.now s.past → IsClearing t who 0 s s
 clearing_begins t who s agree = record {
   spare = omega arith;
   faults = omega arith;
+  flushes = flushes-none who s;
   front = λ d is. record {
     disk = d;
     clears = clears_none d;

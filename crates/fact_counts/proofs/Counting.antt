@@ -1,8 +1,8 @@
 -- The counts of a row are committed: what images have on the way, and what stands in the end.
-use Rattle.std.proofs.Common.{◌≡◌, ◌≢◌, ◌⊎◌, ℕ, ◌+◌, ◌*◌, ◌^◌, ◌<◌, List, [], length, inl, sym, ◌∙◌, ap, subst, arith, get_or-set_same}
+use Rattle.std.proofs.Common.{◌≡◌, ◌⊎◌, ℕ, ◌+◌, ◌*◌, ◌^◌, ◌<◌, List, [], length, inl, sym, ◌∙◌, ap, subst, arith, get_or-set_same}
 use Rattle.std.specs.Prelude.{slice_index, Result, Ok, Err, OnOk}
 use Rattle.pm_device.specs.State.{State}
-use Rattle.pm_device.specs.Settled.{IsSettled, IsFlushed, LeavesOnly, StoresOnly}
+use Rattle.pm_device.specs.Settled.{IsSettled, LeavesOnly, StoresOnly}
 use Rattle.pm_device.specs.Pages.{SaysRun}
 use Rattle.pm_device.specs.Reading.{Reads}
 use Rattle.pm_device.specs.Commit.{IsDone, LeavesOneWord}
@@ -23,7 +23,7 @@ use Rattle.law_table.proofs.TableRows.{of_chain, row_slot_small}
 use Rattle.law_table.proofs.Words.{word_settled, word_any_order, word_stands, word_reads, nothing_ready, nothing_stands}
 use Rattle.fact_table.specs.Table.{Table, IsTable, IsSettledTable, IsAtSlot, HasRow, HasNoneAt}
 use Rattle.fact_counts.specs.Standing.{HasRowWith}
-use Rattle.fact_counts.specs.Counted.{LeavesTables, MakesTable, SettlesTable, SettlesOwn, CountsAre, AnyRow}
+use Rattle.fact_counts.specs.Counted.{LeavesTables, MakesTable, SettlesTable, CountsAre, AnyRow}
 
 -- the slots with rows are those of before
 module _ (d : Disk) (slot rfc uc : ℕ) where
@@ -178,13 +178,6 @@ module _ (t : Table) (slot who : ℕ) (counts : CountWord) (s u : State) (k : Ge
     stands = word_stands d (new d row settled.table at_slot) 0 [] place value (decides d row settled.table at_slot) who s u
         (size_is d row settled.table at_slot) settled.stands (nothing_ready who 0 s) (done_here done) (only_here only);
   }
-
-pub set_own : (t : Table) (slot who w : ℕ) (s u : State) (k : Geometry) → k ≡ t.geometry → IsDone who (slot_word k slot 4) w s u
-    → SettlesOwn t slot who s u
-set_own t slot who w s u k same done = record {
-  word = subst (λ (g : Geometry). IsSettled u (slot_word g slot 4)) same done.word;
-  flushed = subst (λ (g : Geometry). (a : ℕ) → a < length s.now → IsFlushed who s a → a ≢ slot_word g slot 4 → IsSettled u a) same done.flushed;
-}
 
 pub slot_small : (t : Table) (slot : ℕ) (words : List ℕ) (k : Geometry) → k ≡ t.geometry → HasRowWith words t slot AnyRow → slot < slots k
 slot_small t slot words k same has = subst (λ (g : Geometry). slot < slots g) (sym same) (row_small has.disk words t has.table slot has.row

@@ -1,8 +1,7 @@
 -- The counts of a row become others.
-use Rattle.std.specs.Prelude.{◌≡◌, ◌≢◌, ◌⊎◌, ℕ, ◌+◌, ◌-◌, ◌^◌, ◌<◌, ◌≤◌, List, length}
+use Rattle.std.specs.Prelude.{◌≡◌, ◌⊎◌, ℕ, ◌+◌, ◌-◌, ◌^◌, ◌<◌, ◌≤◌, List}
 use Rattle.pm_device.specs.State.{State}
-use Rattle.pm_device.specs.Settled.{IsSettled, IsFlushed, LeavesOnly}
-use Rattle.pm_layout.specs.Geometry.{slot_word}
+use Rattle.pm_device.specs.Settled.{LeavesOnly}
 use Rattle.fingerprint.specs.declared.count.CountWord.{CountWord}
 use Rattle.dn_model.specs.Table.{Row}
 use Rattle.dn_model.specs.Disk.{Disk}
@@ -58,12 +57,6 @@ abbrev pub LeavesTables : (Row → CountWord) → Table → ℕ → State → St
 LeavesTables f t slot old new = (d : Disk) (row : Row) → IsSettledTable d old t
     → IsAtSlot d slot row
     → LeavesOnly old new (λ c. HoldsTable c d ⊎ HoldsTable c (count_changed f d slot row))
-
--- the word of the counts is settled, and so is what this actor had flushed elsewhere
-pub record SettlesOwn (t : Table) (slot who : ℕ) (old new : State) : Type 0 where
-  pub word : IsSettled new (slot_word t.geometry slot 4)
-  pub flushed : (a : ℕ) → a < length old.now → IsFlushed who old a → a ≢ slot_word t.geometry slot 4
-      → IsSettled new a
 
 -- these are the counts of the row at this slot
 abbrev pub CountsAre : List ℕ → Table → ℕ → CountWord → Type 0

@@ -2,7 +2,7 @@
 use Rattle.std.proofs.Common.{◌≡◌, ◌⊎◌, inl, inr, ⊎_elim, ℕ, ◌+◌, ◌*◌, ◌<◌, ◌≤◌, List, [], ◌∷◌, ◌++◌, length, refl, sym, ◌∙◌, subst, arith}
 use Rattle.std.specs.Prelude.{slice_index}
 use Rattle.pm_device.specs.State.{State}
-use Rattle.pm_device.specs.Settled.{IsSettled, LeavesOnly, StoresOnly, KeepsFlushed, Others}
+use Rattle.pm_device.specs.Settled.{IsSettled, LeavesOnly, StoresOnly, KeepsFlushed, Anyone, Others}
 use Rattle.pm_device.specs.Reading.{Stands}
 use Rattle.pm_device.specs.Words.{IsIn}
 use Rattle.pm_device.specs.Pages.{SaysRun}
@@ -11,6 +11,7 @@ use Rattle.pm_device.specs.Commit.{IsDone, LeavesOneWord}
 use Rattle.pm_device.proofs.Layers.{leaves_only-then, stands_is_ready}
 use Rattle.pm_device.proofs.Moments.{leaves_only-weaken}
 use Rattle.pm_device.proofs.Only.{stores_only-then, stores_only-weaken}
+use Rattle.pm_device.proofs.Flushed.{keeps-then, keeps-weaken}
 use Rattle.pm_layout.specs.declared.Geometry.{Geometry}
 use Rattle.pm_layout.specs.Geometry.{IsAccepted, slot_word, pointer_word, directs, slots}
 use Rattle.dn_model.specs.Table.{Row, first_slot, chained, at_direct_next}
@@ -38,7 +39,7 @@ use Rattle.law_table.proofs.Opened.{opening_decides}
 use Rattle.law_table.proofs.Linked.{link_decides}
 use Rattle.law_table.proofs.TableRows.{prefix_small}
 use Rattle.law_table.proofs.Slots.{pointer_above}
-use Rattle.fact_rows.specs.Put.{new_row, pointed, opened_with, linked_with, MayPutAt, HoldsOneOf, IsPutWord, KeepsOthers}
+use Rattle.fact_rows.specs.Put.{new_row, pointed, opened_with, linked_with, MayPutAt, HoldsOneOf, IsPutWord}
 use Rattle.pm_device.proofs.SetWord.{done_value}
 
 -- Values are stored to words of a slot, and then a page's pointer is made to lead to it.
@@ -290,12 +291,15 @@ module _ (g : Geometry) (who slot from page gate : ℕ) (values : List ℕ) (cou
   put_only_front = stores_only-then W s0 s1 s2 (stores_only-weaken _ W s0 s1 of_fill fill.only) (stores_only-weaken _ W s1 s2 (λ a e. inr (inl e))
       only2)
 
-  pub put_keeps_front : KeepsOthers who W s0 s2
-  put_keeps_front q a other out lt flushed = keeps2.flushed q a other (λ e. out (inr (inl e))) (fill.keeps q a (λ h. out (of_fill a h)) lt flushed)
+  pub put_keeps_front : KeepsFlushed (Others who) W s0 s2
+  put_keeps_front = keeps-then (Others who) W s0 s1 s2
+      (keeps-weaken Anyone (Others who) (IsIn (slot_word g slot from) (length values)) W s0 s1 (λ q other. tt) of_fill fill.keeps)
+      (keeps-weaken (Others who) (Others who) _ W s1 s2 (λ q other. other) (λ a e. inr (inl e)) keeps2)
 
   module _ (s3 : State) (only3 : StoresOnly (λ a. a ≡ gate) s2 s3) (keeps3 : KeepsFlushed (Others who) (λ a. a ≡ gate) s2 s3) where
     pub put_only : StoresOnly W s0 s3
     put_only = stores_only-then W s0 s2 s3 put_only_front (stores_only-weaken _ W s2 s3 (λ a e. inr (inr e)) only3)
 
-    pub put_keeps : KeepsOthers who W s0 s3
-    put_keeps q a other out lt flushed = keeps3.flushed q a other (λ e. out (inr (inr e))) (put_keeps_front q a other out lt flushed)
+    pub put_keeps : KeepsFlushed (Others who) W s0 s3
+    put_keeps = keeps-then (Others who) W s0 s2 s3 put_keeps_front
+        (keeps-weaken (Others who) (Others who) _ W s2 s3 (λ q other. other) (λ a e. inr (inr e)) keeps3)

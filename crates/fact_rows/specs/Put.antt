@@ -1,7 +1,7 @@
 -- A row comes into a table at a given slot.
-use Rattle.std.specs.Prelude.{◌≡◌, ◌≢◌, ◌⊎◌, ℕ, ◌+◌, ◌<◌, List, length}
+use Rattle.std.specs.Prelude.{◌≡◌, ◌⊎◌, ℕ, ◌+◌, ◌<◌, List, length}
 use Rattle.pm_device.specs.State.{State}
-use Rattle.pm_device.specs.Settled.{IsFlushed, LeavesOnly}
+use Rattle.pm_device.specs.Settled.{LeavesOnly}
 use Rattle.pm_device.specs.Reading.{Stands}
 use Rattle.pm_device.specs.Words.{IsIn}
 use Rattle.pm_layout.specs.declared.Geometry.{Geometry}
@@ -51,11 +51,6 @@ HoldsOneOf c d middle new = HoldsTable c d ⊎ HoldsTable c middle ⊎ HoldsTabl
 abbrev pub IsPutWord : Geometry → ℕ → ℕ → ℕ → ℕ → Type 0
 IsPutWord g slot page gate a = IsIn (slot_word g slot 0) 8 a ⊎ (a ≡ pointer_word g page)
     ⊎ (a ≡ gate)
-
--- what other actors had flushed of other words is flushed still
-abbrev pub KeepsOthers : ℕ → (ℕ → Type 0) → State → State → Type 0
-KeepsOthers who W s t = (q a : ℕ) → q ≢ who → (W a → ⊥) → a < length s.now → IsFlushed q s a
-    → IsFlushed q t a
 
 -- a row comes into a direct slot: the table in the end
 abbrev pub MakesOpened : Geometry → ℕ → List ℕ → ℕ → State → State → Type 0

@@ -1,5 +1,6 @@
 use Rattle.std.proofs.Common.{refl}
 use Rattle.pm_device.proofs.Only.{stores_only-weaken}
+use Rattle.pm_device.proofs.Flushed.{keeps-weaken}
 use Rattle.fact_changes.proofs.InsertWords.{linked_words}
 use Rattle.fact_changes.proofs.Slotted.{never_full, can_link, insert_links, made_links}
 use Rattle.fact_changes.proofs.insertion.insert_behind.Goals as goal
@@ -52,9 +53,9 @@ returns-in_err-insert_chained-in-Some-clause-only g c =
 pub returns-in_err-insert_chained-in-Some-clause-others : goal.returns-in_err-insert_chained-in-Some-clause-others
 returns-in_err-insert_chained-in-Some-clause-others g c =
     let S = g.D.Pm.state in
-    λ q a other out lt flushed. c.insert_chained.ensures.others q a other
-    (λ h. out (linked_words c.args.fact.now c.take_slot.new.self c.args.print.now c.args.page c.args.direct c.geometry-g.result c.requires.direct
-    c.geometry-g.ensures a c.in-Some.slot c.in-Some.ensures.takes h)) lt flushed
+    keeps-weaken _ _ _ _ (S c.args.device.now) (S c.insert_chained.new.device) (λ q other. other) (λ a. linked_words c.args.fact.now
+    c.take_slot.new.self c.args.print.now c.args.page c.args.direct c.geometry-g.result c.requires.direct c.geometry-g.ensures a c.in-Some.slot
+    c.in-Some.ensures.takes) c.insert_chained.ensures.others
 
 pub returns-in_ok-insert_chained-in-Some-clause-only : goal.returns-in_ok-insert_chained-in-Some-clause-only
 returns-in_ok-insert_chained-in-Some-clause-only g c =
@@ -66,12 +67,24 @@ returns-in_ok-insert_chained-in-Some-clause-only g c =
 pub returns-in_ok-insert_chained-in-Some-clause-others : goal.returns-in_ok-insert_chained-in-Some-clause-others
 returns-in_ok-insert_chained-in-Some-clause-others g c =
     let S = g.D.Pm.state in
-    λ q a other out lt flushed. c.insert_chained.ensures.others q a other
-    (λ h. out (linked_words c.args.fact.now c.take_slot.new.self c.args.print.now c.args.page c.args.direct c.geometry-g.result c.requires.direct
-    c.geometry-g.ensures a c.in-Some.slot c.in-Some.ensures.takes h)) lt flushed
+    keeps-weaken _ _ _ _ (S c.args.device.now) (S c.insert_chained.new.device) (λ q other. other) (λ a. linked_words c.args.fact.now
+    c.take_slot.new.self c.args.print.now c.args.page c.args.direct c.geometry-g.result c.requires.direct c.geometry-g.ensures a c.in-Some.slot
+    c.in-Some.ensures.takes) c.insert_chained.ensures.others
 
 pub returns-in-None-clause-only : goal.returns-in-None-clause-only
 returns-in-None-clause-only g c =
+    let S = g.D.Pm.state in
+    let can = c.requires.can in
+    absurd (never_full can.disk (S c.args.device.now).now c.args.fact.now c.args.print.now c.args.page can.may (c.in-None.ensures.none refl))
+
+pub returns-in-None-clause-others : goal.returns-in-None-clause-others
+returns-in-None-clause-others g c =
+    let S = g.D.Pm.state in
+    let can = c.requires.can in
+    absurd (never_full can.disk (S c.args.device.now).now c.args.fact.now c.args.print.now c.args.page can.may (c.in-None.ensures.none refl))
+
+pub returns-in-None-clause-settles : goal.returns-in-None-clause-settles
+returns-in-None-clause-settles g c =
     let S = g.D.Pm.state in
     let can = c.requires.can in
     absurd (never_full can.disk (S c.args.device.now).now c.args.fact.now c.args.print.now c.args.page can.may (c.in-None.ensures.none refl))

@@ -3,6 +3,7 @@ use Rattle.std.proofs.lemmas.Bool.{false≢true}
 use Rattle.std.proofs.lemmas.Result.{on_ok_weaker}
 use Rattle.pm_device.proofs.Only.{stores_only-none}
 use Rattle.pm_device.proofs.Flushed.{keeps-none}
+use Rattle.pm_device.proofs.AllFlushed.{flushes-none, settles_flushes}
 use Rattle.pm_device.proofs.Moments.{leaves_only-weaken}
 use Rattle.fact_changes.specs.Stale.{stays}
 use Rattle.fact_changes.proofs.Staled.{still_images, stale_images, stale_cleared, stale_only, stale_keeps}
@@ -51,3 +52,12 @@ pub returns-clause-others : goal.returns-clause-others
 returns-clause-others g c =
     let S = g.D.Pm.state in
     λ d is. keeps-none _ _ (S c.args.device.now)
+
+pub returns-then-is_stale-clause-flushes : goal.returns-then-is_stale-clause-flushes
+returns-then-is_stale-clause-flushes g c =
+    let S = g.D.Pm.state in
+    on_ok_weaker c.store_pointer.result (settles_flushes c.args.who (S c.args.device.now) (S c.store_pointer.new.device))
+    c.store_pointer.ensures.settles
+
+pub returns-clause-flushes : goal.returns-clause-flushes
+returns-clause-flushes g c = flushes-none c.args.who (g.D.Pm.state c.args.device.now)

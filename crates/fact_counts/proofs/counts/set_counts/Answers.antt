@@ -1,4 +1,4 @@
-use Rattle.fact_counts.proofs.Counting.{slot_small, set_images, set_table, set_settled, set_own, on_ok_map}
+use Rattle.fact_counts.proofs.Counting.{slot_small, set_images, set_table, set_settled, on_ok_map}
 use Rattle.fact_counts.proofs.counts.set_counts.Goals as goal
 
 pub set_field-requires-clause-slot : goal.set_field-requires-clause-slot
@@ -27,10 +27,3 @@ returns-clause-settled g c =
     (set_settled c.args.fact.now c.args.slot c.args.who c.args.counts (S c.args.device.now) (S c.set_field.new.device) c.geometry.result
     c.geometry.ensures c.word.result c.word.ensures
     c.requires.rfc c.requires.uc c.set_field.ensures.only) c.set_field.ensures.done
-
-pub returns-clause-own : goal.returns-clause-own
-returns-clause-own g c =
-    let S = g.D.Pm.state in
-    on_ok_map c.set_field.result _ _
-    (set_own c.args.fact.now c.args.slot c.args.who c.word.result (S c.args.device.now) (S c.set_field.new.device) c.geometry.result
-    c.geometry.ensures) c.set_field.ensures.done

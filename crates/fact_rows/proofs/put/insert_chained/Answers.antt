@@ -4,6 +4,7 @@ use Rattle.pm_layout.proofs.Bits.{slots_small}
 use Rattle.law_table.specs.Rows.{linked_words}
 use Rattle.fact_rows.specs.Put.{new_row}
 use Rattle.pm_device.proofs.SetWord.{on_ok_map}
+use Rattle.pm_device.proofs.AllFlushed.{flushes-settle, settles-then}
 use Rattle.fact_rows.proofs.Inserted.{
   Filled,
   Decided,
@@ -141,3 +142,10 @@ returns-clause-others g c =
     (linked_words (new_row c.args.slot c.args.print.now c.args.page) c.load_field-next.result ++ 0 ∷ 0 ∷ []) (omega arith) (S c.args.device.now)
     (S c.fill_linked.new.device) (S c.store_pointer.new.device) c.fill_linked.ensures.stores c.store_pointer.ensures.only
     c.store_pointer.ensures.others (S c.link.new.device) c.link.ensures.only c.link.ensures.others
+
+pub returns-clause-settles : goal.returns-clause-settles
+returns-clause-settles g c =
+    let S = g.D.Pm.state in
+    on_ok_map c.link.result _ _ (settles-then c.args.who (S c.args.device.now) (S c.store_pointer.new.device) (S c.link.new.device)
+    (flushes-settle c.args.who (S c.args.device.now) (S c.fill_linked.new.device) (S c.store_pointer.new.device) c.fill_linked.ensures.flushes
+    c.in_ok-store_pointer.ensures.settles)) c.link.ensures.settles

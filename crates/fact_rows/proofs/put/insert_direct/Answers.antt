@@ -4,6 +4,7 @@ use Rattle.pm_layout.proofs.Bits.{slots_small}
 use Rattle.law_table.specs.Rows.{opened_words}
 use Rattle.fact_rows.specs.Put.{new_row}
 use Rattle.pm_device.proofs.SetWord.{on_ok_map}
+use Rattle.pm_device.proofs.AllFlushed.{flushes-settle, settles-then}
 use Rattle.fact_rows.proofs.Inserted.{
   Filled,
   Decided,
@@ -149,3 +150,10 @@ returns-clause-others g c =
     (opened_words (new_row c.args.direct c.args.print.now c.args.page)) (omega arith) (S c.args.device.now) (S c.fill_closed.new.device)
     (S c.store_pointer.new.device) c.fill_closed.ensures.stores c.store_pointer.ensures.only c.store_pointer.ensures.others
     (S c.open_direct.new.device) c.open_direct.ensures.only c.open_direct.ensures.others
+
+pub returns-clause-settles : goal.returns-clause-settles
+returns-clause-settles g c =
+    let S = g.D.Pm.state in
+    on_ok_map c.open_direct.result _ _ (settles-then c.args.who (S c.args.device.now) (S c.store_pointer.new.device) (S c.open_direct.new.device)
+    (flushes-settle c.args.who (S c.args.device.now) (S c.fill_closed.new.device) (S c.store_pointer.new.device) c.fill_closed.ensures.flushes
+    c.in_ok-store_pointer.ensures.settles)) c.open_direct.ensures.settles

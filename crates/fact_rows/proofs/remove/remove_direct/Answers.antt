@@ -1,6 +1,7 @@
 use Rattle.std.proofs.Common.{◌∙◌}
 use Rattle.pm_layout.specs.Geometry.{slot_word}
 use Rattle.pm_device.proofs.SetWord.{on_ok_map}
+use Rattle.pm_device.proofs.AllFlushed.{settles-then}
 use Rattle.fact_rows.proofs.TakenOut.{
   Went,
   Cleared,
@@ -103,3 +104,9 @@ returns-clause-others g c =
     gone_keeps c.args.g.now c.args.who (slot_word c.args.g.now c.args.direct 0) c.args.page (S c.args.device.now) (S c.close_direct.new.device)
     c.close_direct.ensures.only c.close_direct.ensures.others (S c.store_pointer.new.device) c.store_pointer.ensures.only
     c.store_pointer.ensures.others
+
+pub returns-clause-settles : goal.returns-clause-settles
+returns-clause-settles g c =
+    let S = g.D.Pm.state in
+    on_ok_map c.store_pointer.result _ _ (settles-then c.args.who (S c.args.device.now) (S c.close_direct.new.device) (S c.store_pointer.new.device)
+    c.in_ok-close_direct.ensures.settles) c.store_pointer.ensures.settles
