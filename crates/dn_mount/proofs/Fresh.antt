@@ -213,6 +213,7 @@ module _ (d : Disk) (scan : Scan) (s : State) (is : IsScanOf d scan s) (b : Part
     queue = queue;
     sharing = λ sharing some. absurd (none_is_some b.sharing sharing fresh.sharing some);
     reclaiming = reclaiming;
+    pointers = is.pointers;
     room = room;
     trace = trace;
   }

@@ -232,6 +232,7 @@ module _ (g : Geometry) (b : Parts) (s : State) (fresh : IsFresh g b) (fast : St
       zero_check = λ slot is. let none = fresh.zero_check in absurd (cc);
       raised = λ p is. let none = fresh.raised in absurd (cc);
     };
+    pointers = record { none = λ page lt some none. some refl };
     room = room_is;
     trace = subst (All (λ (change : CountChange). change.slot < slots b.geometry)) (sym fresh.trace) (All-nil (λ (change : CountChange). change.slot < slots b.geometry));
   }

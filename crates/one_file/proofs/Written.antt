@@ -13,7 +13,7 @@ use Rattle.dn_model.specs.History.{done, no_space, touched, extra, inode_of}
 use Rattle.dn_model.specs.declared.op.Op.TheVariants.{Write}
 use Rattle.dn_model.specs.declared.op.Reply.TheVariants.{Done, Refused}
 use Rattle.dn_model.specs.declared.op.Refusal.TheVariants.{NoSpace}
-use Rattle.file_write.specs.Held.{IsHeld, HasWritten, IsOldOrWritten, is_old, is_new, LeavesWrite, LacksPages}
+use Rattle.one_file.specs.Written.{IsHeld, HasWritten, IsOldOrWritten, is_old, is_new, LeavesWrite, LacksPages}
 use Rattle.dn_model.specs.OnCourse.{IsImageOf, LeavesOneOf}
 use Rattle.one_file.specs.declared.file.OneFile.{OneFile}
 use Rattle.one_file.specs.Held.{IsDiskOf}

@@ -1,6 +1,6 @@
 // A page is read and written as bytes.
 ghost use Rattle.std.specs.Prelude.{◌≡◌, ◌+◌, ◌*◌, ◌/◌, ◌%◌, ◌<◌, ◌≤◌, ℕ, List, length, slice_index, IfOk};
-ghost use Rattle.pm_device.specs.Settled.{StoresOnly, KeepsFlushed, Anyone};
+ghost use Rattle.pm_device.specs.Settled.{StoresOnly, KeepsFlushed, Anyone, FlushesAll};
 ghost use Rattle.pm_device.specs.Pages.{IsInPage};
 ghost use Rattle.page_bytes.specs.Bytes.{IsPageOf, HoldsBytes, AreWordsOf, IsWordOf};
 
@@ -59,6 +59,7 @@ pub fn fill_page_bytes<D: Pm>(device: &mut D, who: u32, page: u64, bytes: &[u8])
     ensures only { StoresOnly (IsInPage page) (D.state device.old) (D.state device.new) }
     ensures holds { HoldsBytes who page bytes.now (D.state device.new) }
     ensures keeps { KeepsFlushed Anyone (IsInPage page) (D.state device.old) (D.state device.new) }
+    ensures flushes { FlushesAll who (D.state device.old) (D.state device.new) }
     ensures spare { (D.state device.old).spare ≤ (D.state device.new).spare + PAGE_UNITS }
     ensures faults { (D.state device.old).faults ≤ (D.state device.new).faults }
 {

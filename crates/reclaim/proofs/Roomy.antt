@@ -132,6 +132,7 @@ module _ (d : Disk) (b c : Parts) (s t : State) (v : IsVolume d b s) (same : IsS
     queue = record { waits = λ ino idx m place undone. waits_still ino m.slot (v.queue.waits ino idx m place undone) };
     sharing = v.sharing;
     reclaiming = record { waiting = v.reclaiming.waiting; zero_check = v.reclaiming.zero_check; raised = v.reclaiming.raised };
+    pointers = v.pointers;
     room = room;
     trace = subst (All (λ (change : CountChange). change.slot < slots b.geometry)) (sym items) v.trace;
     still = still_same b b' s t same (λ q f flies. record { client = flies.client; is = flies.is }) v.still;

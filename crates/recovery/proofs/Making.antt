@@ -42,7 +42,7 @@ pub all_flushed-run : (who at n : ℕ) (s t : State) → ((k : ℕ) → k < n �
 all_flushed-run who at n s t flushed keeps long all a lt = elim (cases_in at n a) [
   | inl here ↦ let place : at + (a - at) ≡ a = omega (arith, here.0) in subst (IsFlushed who t) place
       (flushed (a - at) (omega (arith, here.0, here.1)))
-  | inr out ↦ keeps.flushed who a tt out (all a (omega (arith, long, lt)))
+  | inr out ↦ keeps.flushed who a tt out (omega (arith, long, lt)) (all a (omega (arith, long, lt)))
 ]
 
 pub head_only : (s t u : State) → StoresOnly (IsIn 1 3) s t → StoresOnly (IsIn 512 1) t u → StoresOnly IsBehindMagic s u
