@@ -6,15 +6,10 @@ ghost use Rattle.dn_model.specs.Apply.{Replies, Grants, IsGranted, after_op, Fin
 ghost use Rattle.dn_files.specs.FileLists.{files_of, Applies};
 
 use crate::files::Files;
-use dn_model::{ByteText, NoMemory, Op, Refusal, Reply};
+use dn_model::{ByteText, MOST_BYTES, NoMemory, Op, Refusal, Reply};
+use log_entry::MOST_SIZE;
 use log_entry::name::is_legal;
 use std::alloc::Global;
-
-/// The most bytes that one operation reads or writes.
-const MOST_BYTES: u64 = 65536;
-
-/// The most bytes that a file has.
-const MOST_SIZE: u64 = 16_777_216;
 
 // Whether the names of the operation are names that a file may have.
 fn has_legal_names(op: &Op) -> bool

@@ -5,20 +5,13 @@ ghost use Rattle.pm_device.specs.Settled.{Still, LeavesOnly};
 ghost use Rattle.pm_layout.specs.Geometry.{IsAccepted, first_data};
 ghost use Rattle.dn_model.specs.Empty.{IsFormatting, IsFormatted};
 
-use crate::tables::{PAGE_UNITS, make_parts};
+use crate::tables::make_parts;
+use dn_model::RECLAIM;
 use pm_device::commit::commit;
+use pm_device::page::PAGE_UNITS;
 use pm_device::{Failed, Pm};
-use pm_layout::{Geometry, PAGE_WORDS};
+use pm_layout::{Geometry, MAGIC, MAGIC_WORD, PAGE_WORDS};
 use thiserror::Error;
-
-/// The actor that formats and recovers.
-pub const RECOVERY: u32 = 16;
-
-/// The first word of each image; its bytes in a file read `DENOVA01`.
-pub const MAGIC: u64 = 0x3130_4156_4F4E_4544;
-
-/// The second word of each image.
-pub const VERSION: u64 = 1;
 
 /// Why no file system was made, or not for sure.
 #[derive(Clone, Copy, Debug, PartialEq, Eq, Error)]
@@ -44,9 +37,9 @@ fn make_image<D: Pm>(device: &mut D, g: &Geometry) -> Result<(), Failed>
     ensures faults { (D.state device.old).faults ≤ (D.state device.new).faults }
     ensures failed { IsErr result → Rose (D.state device.old).faults (D.state device.new).faults }
 {
-    commit(device, RECOVERY, 0, 0)?;
+    commit(device, RECLAIM, MAGIC_WORD, 0)?;
     make_parts(device, g);
-    commit(device, RECOVERY, 0, MAGIC)
+    commit(device, RECLAIM, MAGIC_WORD, MAGIC)
 }
 
 /// Makes a file system without files, in which all pages of the data area are free. The words that are read of one
