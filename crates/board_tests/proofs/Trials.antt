@@ -58,7 +58,7 @@ stands told words fact base x a number made read zeros s d = record {
 both_settle : (words : Tally → List ℕ) (told : Tally → Told) (fact : Tally → Tally
     → Type 0) (base x : Tally) (n : ℕ) (items : List (Pass Tally)) (p q : Pass Tally)
     → Ends words told fact base x n (map account items) → items ≡ p ∷ q ∷ [] → Settles words told fact base x (account p)
-        × Settles words told fact base x (account q)
+    × Settles words told fact base x (account q)
 both_settle words told fact base x n items p q e is = let each : AllSettle words told fact base x (account p ∷ account q ∷ []) =
     subst (λ (l : List (Pass Tally)). AllSettle words told fact base x (map account l)) is e.each in
     (each.0, each.1.0)
@@ -66,20 +66,20 @@ both_settle words told fact base x n items p q e is = let each : AllSettle words
 pub head_stands : (words : Tally → List ℕ) (told : Tally → Told) (fact : Tally → Tally
     → Type 0) (base x : Tally) (n : ℕ) (items : List (Pass Tally)) (p q : Pass Tally) (number number' made : ℕ) (read : List ℕ)
     → Ends words told fact base x n (map account items) → items ≡ p ∷ q ∷ [] → words base ≡ 0 ∷ 0 ∷ [] → number' ≡ number
-        → HasDone number' made read (account p)
+    → HasDone number' made read (account p)
     → Stands number made read (told x).entries (told x).trace
 head_stands words told fact base x n items p q number number' made read e is zeros same d =
     stands told words fact base x (account p) number made read zeros (both_settle words told fact base x n items p q e is).0
-        (subst (λ (k : ℕ). HasDone k made read (account p)) same d)
+    (subst (λ (k : ℕ). HasDone k made read (account p)) same d)
 
 pub next_stands : (words : Tally → List ℕ) (told : Tally → Told) (fact : Tally → Tally
     → Type 0) (base x : Tally) (n : ℕ) (items : List (Pass Tally)) (p q : Pass Tally) (number number' made : ℕ) (read : List ℕ)
     → Ends words told fact base x n (map account items) → items ≡ p ∷ q ∷ [] → words base ≡ 0 ∷ 0 ∷ [] → number' ≡ number
-        → HasDone number' made read (account q)
+    → HasDone number' made read (account q)
     → Stands number made read (told x).entries (told x).trace
 next_stands words told fact base x n items p q number number' made read e is zeros same d =
     stands told words fact base x (account q) number made read zeros (both_settle words told fact base x n items p q e is).1
-        (subst (λ (k : ℕ). HasDone k made read (account q)) same d)
+    (subst (λ (k : ℕ). HasDone k made read (account q)) same d)
 
 -- both passes, the second one first
 pub all_two : (b : Board Tally) (items : List (Pass Tally)) (first second : Pass Tally) → items ≡ second ∷ first ∷ [] → IsFirst b first

@@ -1,6 +1,33 @@
 -- A begin keeps a volume sound.
-use Rattle.std.proofs.Common.{◌≡◌, ◌≢◌, ◌⊎◌, inl, inr, ⊎_elim, ℕ, ◌+◌, ◌-◌, ◌≤◌, Bool, true, false, List, [], ◌∷◌, ◌++◌, length, refl, sym, ◌∙◌, ap,
-    subst, arith, Option, Some, None}
+use Rattle.std.proofs.Common.{
+  ◌≡◌,
+  ◌≢◌,
+  ◌⊎◌,
+  inl,
+  inr,
+  ⊎_elim,
+  ℕ,
+  ◌+◌,
+  ◌-◌,
+  ◌≤◌,
+  Bool,
+  true,
+  false,
+  List,
+  [],
+  ◌∷◌,
+  ◌++◌,
+  length,
+  refl,
+  sym,
+  ◌∙◌,
+  ap,
+  subst,
+  arith,
+  Option,
+  Some,
+  None,
+}
 use Rattle.std.specs.Prelude.{drop, Contains, if◌then◌else◌}
 use Rattle.std.proofs.lemmas.List.{append-nil}
 use Rattle.std.proofs.Math.Seq.{drop-append_seam}
@@ -36,8 +63,18 @@ use Rattle.dn_volume.specs.declared.volume.Parts.{Parts}
 use Rattle.dn_volume.specs.declared.volume.Volume.{Volume}
 use Rattle.dn_volume.specs.Parties.{Flies, KeepsOps, flight_at}
 use Rattle.dn_volume.specs.Agrees.{IsVolume}
-use Rattle.dn_volume.specs.Begins.{IsAtOnce, IsUntouched, HasBegun, IsAnswerOf, of_files, no_inode as answers_no_inode, no_space as answers_no_space,
-    AreFlying, AnswersAtOnce, Begins}
+use Rattle.dn_volume.specs.Begins.{
+  IsAtOnce,
+  IsUntouched,
+  HasBegun,
+  IsAnswerOf,
+  of_files,
+  no_inode as answers_no_inode,
+  no_space as answers_no_space,
+  AreFlying,
+  AnswersAtOnce,
+  Begins,
+}
 use Rattle.dn_volume.specs.Events.{InFlight, word_at, word_after}
 use Rattle.dn_volume.specs.Sound.{WasLeft, IsLater, AreLater, AreShort, IsSound, Sound, is_sound}
 use Rattle.dn_volume.specs.Laws.{WantsAreShort, InodesAreShort, BeginsStaySound}
@@ -69,7 +106,7 @@ at_once_same f (Cut name to) once other = absurd once
 at_once_same f (Remove name) once other = absurd once
 at_once_same f (Rename from to) once other =
     subst (λ (n : List ℕ). f other ≡ after_op f (Rename from n) other) once
-        (sym (renamed_same f from other (same_name from other) (same_name from other) refl refl))
+    (sym (renamed_same f from other (same_name from other) (same_name from other) refl refl))
 at_once_same f (Size name) once other = refl
 at_once_same f ListAll once other = refl
 
@@ -149,7 +186,7 @@ flying_later b b' who entry scripts more entry_who same are = record {
     last_who : (e : Entry) → Contains (drop (length b.history.items) b'.history.items) e → e.who ≡ who
     last_who e has =
         let in_one : Contains (entry ∷ []) e = subst (λ (h : List Entry). Contains h e) (ap (drop (length b.history.items)) more ∙ drop-append_seam
-            b.history.items (entry ∷ [])) has in
+        b.history.items (entry ∷ [])) has in
         ⊎_elim (λ is. ap (λ (x : Entry). x.who) (sym is) ∙ entry_who) (λ none. absurd (none_listed e none)) (cons_cases entry e [] in_one)
 
     flying : (q : ℕ) (op : Op) → q ≢ who → IsLater b' (length b.history.items) q op → (f : Flight) × Flies b q f × (f.op ≡ op)
@@ -182,18 +219,21 @@ module _ {D F : Type 0} (state : D → State) (print : Print) (base : Base) (v v
       longer_alone : AloneSince print base (v.parts.history.items ++ more) d
       longer_alone ino idx m place alone =
           ⊎_elim (λ early. inl early) (λ found. inr (found.0, way_on (base_files base) v.parts.history.items more found.0 found.1, found.2))
-              (sound.alone ino idx m place alone)
+          (sound.alone ino idx m place alone)
 
       longer_pages : PagesSince base (v.parts.history.items ++ more) d
-      longer_pages row has = let found = sound.row_pages row has in (found.0, way_on (base_files base) v.parts.history.items more found.0 found.1,
-          found.2)
+      longer_pages row has = let found = sound.row_pages row has in (
+        found.0,
+        way_on (base_files base) v.parts.history.items more found.0 found.1,
+        found.2,
+      )
 
   same_history : v'.parts.history.items ≡ v.parts.history.items → (AreShort base v.parts (state v.device) → AreShort base v'.parts (state v'.device))
       → IsSound print base d v'.parts (state v'.device)
   same_history same short =
       same_then [] (same ∙ sym (append-nil v.parts.history.items))
       (subst (λ (h : List Entry). IsOnCourse print (base_files base) base.start h (files d) (state v'.device))
-          (sym (append-nil v.parts.history.items))
+      (sym (append-nil v.parts.history.items))
       (same_device print base v.parts.history.items (files d) (state v.device) (state v'.device) sound.course device))
       (told_short base v.parts v'.parts (state v.device) (state v'.device) extends sound.short short)
 
@@ -233,10 +273,10 @@ module _ {D F : Type 0} (state : D → State) (print : Print) (base : Base) (v v
     at_once : IsSound print base d v'.parts (state v'.device)
     at_once =
         same_then (a.entry ∷ []) a.history (one_entry print base v.parts.history.items (files d) a.entry (state v.device) (state v'.device)
-            sound.course device step)
+        sound.course device step)
         (λ p told. told_short base v.parts v'.parts (state v.device) (state v'.device) extends sound.short
         (λ short. wants_short base v.parts v'.parts (state v.device) (state v'.device) extends short a.entry a.history op
-            (omega (arith, some, a.who_is)) a.op_is
+        (omega (arith, some, a.who_is)) a.op_is
         (λ k few. at_once_later v.parts v'.parts k a.entry.who a.entry few a.history refl op a.op_is a.same.flights)
         (λ needed free is. by_space p told needed free reply a.why (sym a.reply_is ∙ is))
         (λ is. by_inode p told reply a.why (sym a.reply_is ∙ is))) p told)
@@ -244,7 +284,7 @@ module _ {D F : Type 0} (state : D → State) (print : Print) (base : Base) (v v
         by_space : (p : Past) → (state v'.device).past ≡ Some p → (needs free : ℕ) (r : Reply) → IsAnswerOf d v.parts op r
             → r ≡ Refused (NoSpace needs free)
             → (e : Disk) × (scripts : List (List Op)) × WasLeft base (state v'.device) e × AreLater v'.parts (length v.parts.history.items)
-                a.entry.who scripts × IsShortOfSpace e scripts a.entry.op needs free
+            a.entry.who scripts × IsShortOfSpace e scripts a.entry.op needs free
         by_space p told needs free r (of_files _ replies once) is = absurd (no_want (files d) op r replies (NoSpace needs free) is refl)
         by_space p told needs free _ (answers_no_inode it none lacks) is = absurd (cc is)
         by_space p told needs free _ (answers_no_space it none inode lacks) is =
@@ -258,7 +298,7 @@ module _ {D F : Type 0} (state : D → State) (print : Print) (base : Base) (v v
                   a.history a.who_is a.same.flights w.1),
               subst (λ (o : Op). IsShortOfSpace d w.0 o needs free) (sym a.op_is)
                   (subst (λ (n : ℕ). IsShortOfSpace d w.0 op n free) same_needs (subst (λ (n : ℕ). IsShortOfSpace d w.0 op (needed d op) n) same_free
-                      w.2)),
+                  w.2)),
             )
 
         by_inode : (p : Past) → (state v'.device).past ≡ Some p → (r : Reply) → IsAnswerOf d v.parts op r → r ≡ Refused NoInode

@@ -25,7 +25,7 @@ pub image_of : (print : Print) (d e : Disk) (c : List ℕ) → IsOwn print d →
     (files e) c
 image_of print d e c own between =
     ⊎_elim (λ same. inl (with_files print d e c own between (files d) same)) (λ same. inr (with_files print d e c own between (files e) same))
-        between.same
+    between.same
 
 pub one_of : (print : Print) (d e : Disk) (s t : State) → IsOwn print d → LeavesOnly s t (IsBetween print d e) → LeavesOneOf print (files d) (files e)
     s t
@@ -73,4 +73,4 @@ pub one_entry : (print : Print) (base : Base) (history : List Entry) (f : Files)
 one_entry print base history f entry s t on same step =
     goes_on print (base_files base) base.start history f f entry s t on step
     (leaves_only-weaken s t _ _ (λ c image. inl image) (leaves_same s t (IsImageOf print f) same on.now))
-        (same_device print base history f s t on same).now
+    (same_device print base history f s t on same).now

@@ -72,7 +72,7 @@ module _ (d : Disk) (b : Parts) (s : State) (v : IsVolume d b s) where
   pub others_few : (k : ℕ) → k < 14 → flight_at b.flights.items k ≡ None → owed_sum b (λ room. room.releases) ≤ 13 * 4096
   others_few k lt none =
       let moved = total-change owed_at (λ j. if j == k then 4096 else owed_at j) 14 k lt (λ j ne. ap (λ (t : Bool). if t then 4096 else owed_at j)
-          (other_test j k ne)) in
+      (other_test j k ne)) in
       let here : (if k == k then 4096 else owed_at k) ≡ 4096 = ap (λ (t : Bool). if t then 4096 else owed_at k) (same_test k k refl) in
       let was : owed_at k ≡ 0 = ap (λ (r : Option Flight). (owed_to r).releases) none in
       let most = total_of (λ j. if j == k then 4096 else owed_at j) 14 each in

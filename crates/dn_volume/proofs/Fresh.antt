@@ -1,6 +1,29 @@
 -- A volume that was just mounted from an image without files agrees with it.
-use Rattle.std.proofs.Common.{◌≡◌, ◌≢◌, inl, ℕ, zero, suc, ◌+◌, ◌-◌, ◌<◌, ◌≤◌, List, [], ◌∷◌, length, refl, sym, ◌∙◌, ap, subst, arith, Option, Some,
-    None}
+use Rattle.std.proofs.Common.{
+  ◌≡◌,
+  ◌≢◌,
+  inl,
+  ℕ,
+  zero,
+  suc,
+  ◌+◌,
+  ◌-◌,
+  ◌<◌,
+  ◌≤◌,
+  List,
+  [],
+  ◌∷◌,
+  length,
+  refl,
+  sym,
+  ◌∙◌,
+  ap,
+  subst,
+  arith,
+  Option,
+  Some,
+  None,
+}
 use Rattle.std.specs.Prelude.{IsNone, All, Contains, slice_get}
 use Rattle.std.specs.Option.{option_map}
 use Rattle.std.proofs.lemmas.List.Elements.{All-nil}
@@ -130,7 +153,7 @@ module _ (g : Geometry) (b : Parts) (s : State) (fresh : IsFresh g b) (fast : St
   none_raised : (slot : ℕ) → raised b slot ≡ 0
   none_raised slot =
       let flights = total-zero (λ k. times slot (raised_by (flight_at b.flights.items k))) 14 (λ k lt. ap (λ r. times slot (raised_by r)) (none_at k))
-          in
+      in
       let shared : times slot (raised_to_share b.sharing) ≡ 0 = ap (λ r. times slot (raised_to_share r)) fresh.sharing in
       let died : times slot (raised_to_die b.reclaiming.raised) ≡ 0 = ap (λ r. times slot (raised_to_die r)) fresh.raised in
       omega (arith, flights, shared, died)
@@ -232,7 +255,7 @@ module _ (g : Geometry) (b : Parts) (s : State) (fresh : IsFresh g b) (fast : St
       waiting =
           let units = total-zero (dying_units e) g.inodes (λ ino lt. no_units g ino) in
           let none = ap length fresh.releases in let zero' = ap one_if fresh.zero_check in let raised' = ap one_if fresh.raised in
-              let waits = fresh.waiting in omega (arith, units, none, zero', raised', waits);
+          let waits = fresh.waiting in omega (arith, units, none, zero', raised', waits);
       zero_check = λ slot is. let none = fresh.zero_check in absurd (cc);
       raised = λ p is. let none = fresh.raised in absurd (cc);
     };

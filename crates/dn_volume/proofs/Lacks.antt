@@ -1,7 +1,40 @@
 -- Where nothing waits, the free pages of the disk are those that are kept as free, those that operations in flight have
 -- taken, and at most one that the daemon has raised.
-use Rattle.std.proofs.Common.{◌≡◌, ◌≢◌, ◌⊎◌, inl, inr, ⊎_elim, ℕ, zero, suc, ◌+◌, ◌-◌, ◌/◌, ◌<◌, ◌≤◌, Bool, true, false, List, [], ◌∷◌, ◌++◌, length,
-    take, refl, sym, ◌∙◌, ap, subst, arith, Option, Some, None, length-append}
+use Rattle.std.proofs.Common.{
+  ◌≡◌,
+  ◌≢◌,
+  ◌⊎◌,
+  inl,
+  inr,
+  ⊎_elim,
+  ℕ,
+  zero,
+  suc,
+  ◌+◌,
+  ◌-◌,
+  ◌/◌,
+  ◌<◌,
+  ◌≤◌,
+  Bool,
+  true,
+  false,
+  List,
+  [],
+  ◌∷◌,
+  ◌++◌,
+  length,
+  take,
+  refl,
+  sym,
+  ◌∙◌,
+  ap,
+  subst,
+  arith,
+  Option,
+  Some,
+  None,
+  length-append,
+}
 use Rattle.std.specs.Prelude.{All, AllPairs, Contains, IsSome, IsNone, get_or, slice_get, if◌then◌else◌, ◌==◌}
 use Rattle.std.proofs.lemmas.Bool.{cases_eq, cases_lt, ne_eqb, eqb-true}
 use Rattle.std.proofs.lemmas.Bool.Decides.{Decides-eqb}
@@ -53,8 +86,11 @@ row_of_listed (x ∷ rs) page row is = by (x.page == page) refl is (row_of_liste
   where
     by : (t : Bool) → (x.page == page) ≡ t → (if t then Some x else row_of rs page) ≡ Some row
         → (row_of rs page ≡ Some row → Contains rs row × (row.page ≡ page)) → Contains (x ∷ rs) row × (row.page ≡ page)
-    by true test found rest = let same : x ≡ row = cc found in (subst (Contains (x ∷ rs)) same (here x rs), ap (λ (r : Row). r.page) (sym same) ∙
-        eqb-true x.page page test)
+    by true test found rest = let same : x ≡ row = cc found in (
+      subst (Contains (x ∷ rs)) same (here x rs),
+      ap (λ (r : Row). r.page) (sym same) ∙
+          eqb-true x.page page test,
+    )
     by false test found rest = let more = rest found in (later x row rs more.0, more.1)
 
 -- what stands in a list
@@ -100,9 +136,9 @@ in_taken : (b : Parts) (k n j page : ℕ) → k ≤ j → j < k + n → Contains
 in_taken b k zero j page le lt has = absurd (omega (arith, le, lt))
 in_taken b k (suc n) j page le lt has = ⊎_elim
     (λ same. Contains-append_left (taken_at (flight_at b.flights.items k)) (all_from b (k + 1) n) page
-        (subst (λ (i : ℕ). Contains (taken_at (flight_at b.flights.items i)) page) same has))
+    (subst (λ (i : ℕ). Contains (taken_at (flight_at b.flights.items i)) page) same has))
     (λ other. Contains-append_right (taken_at (flight_at b.flights.items k)) (all_from b (k + 1) n) page
-        (in_taken b (k + 1) n j page (omega (arith, le, other)) (omega (arith, lt)) has)) (cases_eq j k)
+    (in_taken b (k + 1) n j page (omega (arith, le, other)) (omega (arith, lt)) has)) (cases_eq j k)
 
 -- what they do, as scripts
 abbrev ops_at : Option Flight → List Op
@@ -156,10 +192,22 @@ module _ (d : Disk) (b : Parts) (s : State) (volume : IsVolume d b s) (none_wait
           → (row : Row) × Contains (rows d) row × (row.slot ≡ slot) × IsMapped d row.page
       at_row m is None at first = absurd (none_listed slot first)
       at_row m is (Some row) at first =
-          let listed = row_of_listed (rows d) m.block row at in
-          (row, listed.0, slot_is row first,
-              record { ino = ino; idx = from; maps_to = record { in_table = lt; in_file = maps-in_file d volume.fast.valid ino from m lt is; by = m;
-              is = is; block = sym listed.1 } })
+          let listed = row_of_listed (rows d) m.block row at in (
+            row,
+            listed.0,
+            slot_is row first,
+            record {
+              ino = ino;
+              idx = from;
+              maps_to = record {
+                in_table = lt;
+                in_file = maps-in_file d volume.fast.valid ino from m lt is;
+                by = m;
+                is = is;
+                block = sym listed.1;
+              };
+            },
+          )
 
       at_place : (m : Option Mapping) → maps d ino from ≡ m → Contains (slot_of d m) slot → (row : Row) × Contains (rows d) row × (row.slot ≡ slot) ×
           IsMapped d row.page
@@ -190,7 +238,7 @@ module _ (d : Disk) (b : Parts) (s : State) (volume : IsVolume d b s) (none_wait
       let less : k + 1 - 1 ≡ k = omega arith in
       let flies : Flies b (k + 1) f = record { client = omega arith; is = ap (flight_at b.flights.items) less ∙ is } in
       flight_rows (k + 1) f slot f.change (volume.flights.each (k + 1) f flies)
-          (take_listed f.raised f.rows.items slot (times_listed slot (take f.raised f.rows.items) some))
+      (take_listed f.raised f.rows.items slot (times_listed slot (take f.raised f.rows.items) some))
 
   -- the row that the daemon has raised, if there is one
   abbrev Shared : Row → Type 0
@@ -214,7 +262,7 @@ module _ (d : Disk) (b : Parts) (s : State) (volume : IsVolume d b s) (none_wait
       let found = raised_mapped where_is.0 row.slot (flight_at b.flights.items where_is.0) refl where_is.2 in
       let same = one_row found.0 row found.1 there found.2 in
       absurd (let counted = (counts_mappings d page).1 (subst (IsMapped d) (ap (λ (r : Row). r.page) same ∙ at) found.3) in
-          omega (arith, counted, free.unmapped)))
+      omega (arith, counted, free.unmapped)))
       (λ few. shared_row row b.sharing refl (left_over few)) (some_or_few (total 14 (λ k. times row.slot (raised_by (flight_at b.flights.items k)))))
     where
       some_or_few : (n : ℕ) → (1 ≤ n) ⊎ (n ≡ 0)
@@ -246,14 +294,14 @@ module _ (d : Disk) (b : Parts) (s : State) (volume : IsVolume d b s) (none_wait
       some_raised : 1 ≤ raised b row.slot
       some_raised = ⊎_elim (λ some. some)
           (λ none. absurd (not_zero (let r = balanced.references in omega (arith, r, unmapped, nothing_dropped)) (let u = balanced.updates in
-              let r = balanced.references in omega (arith, u, r, none, unmapped, nothing_dropped))))
+          let r = balanced.references in omega (arith, u, r, none, unmapped, nothing_dropped))))
           (some_or_few (raised b row.slot))
 
       left_over : total 14 (λ k. times row.slot (raised_by (flight_at b.flights.items k))) ≡ 0 → 1 ≤ times row.slot (raised_to_share b.sharing)
       left_over few =
           let some = some_raised in
           let died : times row.slot (raised_to_die b.reclaiming.raised) ≡ 0 = ap (λ r. times row.slot (raised_to_die r))
-              (none_raised d b s volume none_waits) in
+          (none_raised d b s volume none_waits) in
           omega (arith, some, few, died)
 
   shared_same : (r q : Row) → Contains (rows d) r → Contains (rows d) q → Shared r → Shared q → r ≡ q
@@ -271,13 +319,21 @@ module _ (d : Disk) (b : Parts) (s : State) (volume : IsVolume d b s) (none_wait
       let less : k + 1 - 1 ≡ k = omega arith in
       let flies : Flies b (k + 1) f = record { client = omega arith; is = ap (flight_at b.flights.items) less ∙ is } in
       let granted = flights_granted d (k + 1) f s (volume.flights.each (k + 1) f flies) in
-      inl ((f.op, here f.op [], granted.0, sym granted.1), λ op has also. ⊎_elim (λ same. subst (λ (o : Op). needed d o ≤ length (taken_by f)) same
-          (let e = granted.1 in omega (arith, e))) (λ none. absurd (none_listed op none)) (cons_cases f.op op [] has))
+      inl (
+        (f.op, here f.op [], granted.0, sym granted.1),
+        λ op has also. ⊎_elim (λ same. subst (λ (o : Op). needed d o ≤ length (taken_by f)) same
+            (let e = granted.1 in omega (arith, e))) (λ none. absurd (none_listed op none)) (cons_cases f.op op [] has),
+      )
 
   needs_from : (k n : ℕ) → AreNeeds d (scripts_from b k n) (count_from b k n)
   needs_from k zero = refl
-  needs_from k (suc n) = (length (taken_at (flight_at b.flights.items k)), count_from b (k + 1) n, need_at k (flight_at b.flights.items k) refl,
-      needs_from (k + 1) n, refl)
+  needs_from k (suc n) = (
+    length (taken_at (flight_at b.flights.items k)),
+    count_from b (k + 1) n,
+    need_at k (flight_at b.flights.items k) refl,
+    needs_from (k + 1) n,
+    refl,
+  )
 
   -- the longest log
   used_or_not : (u : Use) → IsUsed u ⊎ (IsUsed u → ⊥)
@@ -290,23 +346,41 @@ module _ (d : Disk) (b : Parts) (s : State) (volume : IsVolume d b s) (none_wait
       → length (d.inode i).log.pages ≤ length (d.inode best).log.pages)
 
   longest : (n : ℕ) → (best : ℕ) × Longest n best
-  longest zero = (0, (omega arith, subst IsUsed (sym volume.fast.valid.root) tt, λ i lt used. let e : i ≡ 0 = omega (arith, lt) in
-      subst (λ (j : ℕ). length (d.inode i).log.pages ≤ length (d.inode j).log.pages) e (omega arith)))
+  longest zero = (
+    0,
+    (
+      omega arith,
+      subst IsUsed (sym volume.fast.valid.root) tt,
+      λ i lt used. let e : i ≡ 0 = omega (arith, lt) in
+          subst (λ (j : ℕ). length (d.inode i).log.pages ≤ length (d.inode j).log.pages) e (omega arith),
+    ),
+  )
   longest (suc n) = by (longest n) (used_or_not (d.inode (suc n)).use_of)
     where
       keeps : (best : ℕ) → Longest n best → ((IsUsed (d.inode (suc n)).use_of) → length (d.inode (suc n)).log.pages ≤ length (d.inode best).log.pages)
           → Longest (suc n) best
-      keeps best (lt, used, most) last = (omega (arith, lt), used, λ i small is. ⊎_elim (λ below. most i below is)
-          (λ top. let e : suc n ≡ i = omega (arith, small, top) in subst (λ (j : ℕ). IsUsed (d.inode j).use_of → length (d.inode j).log.pages ≤ length
-          (d.inode best).log.pages) e last is) (cases_lt i (suc n)))
+      keeps best (lt, used, most) last = (
+        omega (arith, lt),
+        used,
+        λ i small is. ⊎_elim (λ below. most i below is)
+            (λ top. let e : suc n ≡ i = omega (arith, small, top) in subst (λ (j : ℕ). IsUsed (d.inode j).use_of → length (d.inode j).log.pages ≤ length
+            (d.inode best).log.pages) e last is) (cases_lt i (suc n)),
+      )
 
       by : ((best : ℕ) × Longest n best) → (IsUsed (d.inode (suc n)).use_of ⊎ (IsUsed (d.inode (suc n)).use_of → ⊥)) → (best : ℕ) × Longest (suc n)
           best
       by (best, was) (inr unused) = (best, keeps best was (λ used. absurd (unused used)))
       by (best, was) (inl used) = ⊎_elim
-          (λ longer. (suc n, (omega arith, used, λ i small is. ⊎_elim (λ below. let le = was.2 i below is in omega (arith, le, longer))
-              (λ top. let e : suc n ≡ i = omega (arith, small, top) in
-              subst (λ (j : ℕ). length (d.inode j).log.pages ≤ length (d.inode (suc n)).log.pages) e (omega arith)) (cases_lt i (suc n)))))
+          (λ longer. (
+            suc n,
+            (
+              omega arith,
+              used,
+              λ i small is. ⊎_elim (λ below. let le = was.2 i below is in omega (arith, le, longer))
+                  (λ top. let e : suc n ≡ i = omega (arith, small, top) in
+                  subst (λ (j : ℕ). length (d.inode j).log.pages ≤ length (d.inode (suc n)).log.pages) e (omega arith)) (cases_lt i (suc n)),
+            ),
+          ))
           (λ le. (best, keeps best was (λ used'. le))) (cases_lt (length (d.inode best).log.pages) (length (d.inode (suc n)).log.pages))
 
   half : (h : ℕ) × IsHalf d h
@@ -351,7 +425,7 @@ module _ (d : Disk) (b : Parts) (s : State) (volume : IsVolume d b s) (none_wait
       taken : (who : ℕ) → Takes b who page → Contains (all_from b 0 14) page
       taken who (for_client f flies has) =
           in_taken b 0 14 (who - 1) page (omega arith) (let lt = few who f flies.is in omega (arith, lt))
-              (subst (λ (x : Option Flight). Contains (taken_at x) page) (sym flies.is) has)
+          (subst (λ (x : Option Flight). Contains (taken_at x) page) (sym flies.is) has)
 
   bounded : (pages : List ℕ) → AllPairs (λ p q. p ≢ q) pages → All (IsFree d) pages → length pages ≤ length b.free.free + count_from b 0 14 + 1
   bounded pages apart free = ⊎_elim one_more none_more (first_row pages)
@@ -378,7 +452,7 @@ module _ (d : Disk) (b : Parts) (s : State) (volume : IsVolume d b s) (none_wait
               let one = row_listed (rows d) p some in
               let two = row_listed (rows d) page has_row in
               let same = shared_same one.0 two.0 one.1 two.1 (free_row p one.0 (free_at p has) one.1 one.2)
-                  (free_row page two.0 (free_at page in_pages) two.1 two.2) in
+              (free_row page two.0 (free_at page in_pages) two.1 two.2) in
               sym one.2 ∙ ap (λ (r : Row). r.page) same ∙ two.2
 
           each : (page : ℕ) → Contains pages page → Contains (p ∷ (b.free.free ++ all_from b 0 14)) page
@@ -414,7 +488,7 @@ module _ (d : Disk) (b : Parts) (s : State) (volume : IsVolume d b s) (none_wait
       said_op i op f flies is =
           let place : i + 1 - 1 ≡ 0 + i = omega arith in
           subst (λ (x : Option Flight). Contains (ops_at x) op) (sym (ap (flight_at b.flights.items) (sym place) ∙ flies.is))
-              (subst (Contains (f.op ∷ [])) is (here f.op []))
+          (subst (Contains (f.op ∷ [])) is (here f.op []))
 
   short : (who : ℕ) (op : Op) → LacksSpace d b op → IsShortOfSpace d (scripts_from b 0 14) op (needed d op) (length b.free.free)
   short who op lacks = record {
@@ -429,5 +503,9 @@ module _ (d : Disk) (b : Parts) (s : State) (volume : IsVolume d b s) (none_wait
   }
 
 pub wants_are_short : WantsAreShort
-wants_are_short d b s who op client volume idle none lacks = (scripts_from b 0 14, flying d b s volume none who client idle, short d b s volume none
-    who op lacks)
+wants_are_short d b s who op client volume idle none lacks = (
+  scripts_from b 0 14,
+  flying d b s volume none who client idle,
+  short d b s volume none
+      who op lacks,
+)

@@ -17,8 +17,19 @@ use Rattle.dn_model.specs.Valid.{IsValid}
 use Rattle.dn_model.specs.declared.op.Op.{Op}
 use Rattle.dn_model.specs.declared.op.Op.TheVariants.{Create, Write, Read, Cut, Remove, Rename, Size, List as ListAll}
 use Rattle.law_write.specs.Events.{IsUnused}
-use Rattle.law_names.specs.NameChange.{NameChange as DiskChange, Turn, Stays, Comes, Goes, FreshNames, in_root, in_inode, turn_words, turn_field,
-    root_after}
+use Rattle.law_names.specs.NameChange.{
+  NameChange as DiskChange,
+  Turn,
+  Stays,
+  Comes,
+  Goes,
+  FreshNames,
+  in_root,
+  in_inode,
+  turn_words,
+  turn_field,
+  root_after,
+}
 use Rattle.dn_volume.specs.declared.flight.Flight.{Flight}
 use Rattle.dn_volume.specs.declared.flight.NameChange.{NameChange}
 use Rattle.dn_volume.specs.Parties.{taken_by, blocks_of}
@@ -86,7 +97,7 @@ module _ (inodes pages : List ℕ) (d e : Disk) (valid : IsValid d) (rest : Keep
         (subst (λ (log : Log). Prepared 0 log (record { pages = log.pages ++ change.fresh; items = log.items ++ change.more }) a v) root_log said)
     fresh_same a v (in_inode said) =
         in_inode (subst (λ (n : Inode). SaysRun (inode_word change.ino (turn_field change.turn)) (turn_words change.turn n.log) a v)
-            (rest.inode change.ino node_out) said)
+        (rest.inode change.ino node_out) said)
 
 module _ (who q : ℕ) (inodes pages : List ℕ) (d e : Disk) (s t : State) (f : Flight) (other : q ≢ who) (valid : IsValid d)
     (long : length s.now ≡ 512 * d.geometry.pages) (leaves : LeavesRest who inodes pages d e s t)
@@ -97,7 +108,7 @@ module _ (who q : ℕ) (inodes pages : List ℕ) (d e : Disk) (s t : State) (f :
   module _ (change : DiskChange) (live : (d.inode 0).use_of ≡ Live) (root_in : 0 < d.geometry.inodes) (root_held : Contains f.held.items 0)
       (room : length ((d.inode 0).log.pages ++ change.fresh) ≡ (count (root_after d change) + 62) / 63)
       (node_in : change.ino < d.geometry.inodes) (node_held : Contains f.held.items change.ino) (among : (page : ℕ) → Contains change.fresh page
-          → Contains (taken_by f) page) where
+      → Contains (taken_by f) page) where
     used : IsUsed (d.inode 0).use_of
     used = subst IsUsed (sym live) tt
 
@@ -124,10 +135,10 @@ module _ (who q : ℕ) (inodes pages : List ℕ) (d e : Disk) (s t : State) (f :
     turn_apart Stays log a v said w = omega (arith, said.0.0, said.0.1)
     turn_apart Comes log a v said w =
         inode_out inodes pages d valid change.ino (a - inode_word change.ino 0) a node_in (omega (arith, said.0.0, said.0.1))
-            (omega (arith, said.0.0)) (out change.ino node_held) unused_pages w
+        (omega (arith, said.0.0)) (out change.ino node_held) unused_pages w
     turn_apart Goes log a v said w =
         inode_out inodes pages d valid change.ino (a - inode_word change.ino 0) a node_in (omega (arith, said.0.0, said.0.1))
-            (omega (arith, said.0.0)) (out change.ino node_held) unused_pages w
+        (omega (arith, said.0.0)) (out change.ino node_held) unused_pages w
 
     fresh_apart : (a v : ℕ) → FreshNames d change a v → IsWordOf inodes pages d a → ⊥
     fresh_apart a v (in_root said) w = prepared_apart a v said w
@@ -136,7 +147,7 @@ module _ (who q : ℕ) (inodes pages : List ℕ) (d e : Disk) (s t : State) (f :
     pub ready_same : IsReady q (FreshNames d change) s → IsReady q (FreshNames e change) t
     ready_same ready =
         ready-weaken q t (FreshNames d change) (FreshNames e change) (fresh_same inodes pages d e valid leaves.rest (out 0 root_held) f change
-            (out change.ino node_held))
+        (out change.ino node_held))
         (record {
           within = λ a v new. omega (arith, ready.within a v new, leaves.only.words);
           reads = λ a v new. leaves.only.read a (fresh_apart a v new) ∙ ready.reads a v new;
@@ -197,9 +208,9 @@ module _ (who q : ℕ) (inodes pages : List ℕ) (d e : Disk) (s t : State) (f :
           → length ((d.inode 0).log.pages ++ change.fresh) ≡ (count (root_after d change) + 62) / 63
       room_of change fresh slots room =
           let grown : IsGrown (d.inode 0).log (root_after d change) = record { fresh = change.fresh; more = change.more; pages = refl; items = refl }
-              in
+          in
           let more = count-grown (d.inode 0).log (root_after d change) grown in
           let long = ap length slots in
           let pages_are : length ((d.inode 0).log.pages ++ change.fresh) ≡ length ((d.inode 0).log.pages ++ f.fresh.items) = ap
-              (λ (xs : List ℕ). length ((d.inode 0).log.pages ++ xs)) fresh in
+          (λ (xs : List ℕ). length ((d.inode 0).log.pages ++ xs)) fresh in
           omega (arith, room, more, long, pages_are)

@@ -49,8 +49,11 @@ top_of d (op ∷ script) = by (top_of d script) (granted_or_not (files d) op)
       most = λ o has granted. ⊎_elim (λ same. absurd (not (subst (IsGranted (files d)) (sym same) granted))) (λ rest. top.most o rest granted)
           (cons_cases op o script has);
       none = ⊎_elim (λ found. inl (shifted n found))
-          (λ none. inr (none.0, λ o has granted. ⊎_elim (λ same. not (subst (IsGranted (files d)) (sym same) granted)) (λ rest. none.1 o rest granted)
-          (cons_cases op o script has))) top.none;
+          (λ none. inr (
+            none.0,
+            λ o has granted. ⊎_elim (λ same. not (subst (IsGranted (files d)) (sym same) granted)) (λ rest. none.1 o rest granted)
+                (cons_cases op o script has),
+          )) top.none;
     }
 
     greater : (n : ℕ) → IsGranted (files d) op → n ≤ needed d op → IsTop d script n → IsTop d (op ∷ script) (needed d op)
@@ -64,7 +67,7 @@ top_of d (op ∷ script) = by (top_of d script) (granted_or_not (files d) op)
     less : (n : ℕ) → IsGranted (files d) op → needed d op < n → IsTop d script n → IsTop d (op ∷ script) n
     less n granted lt top =
         let found : (o : Op) × Contains script o × IsGranted (files d) o × (needed d o ≡ n) = ⊎_elim (λ found. found)
-            (λ is. absurd (omega (arith, lt, is))) top.reached in
+        (λ is. absurd (omega (arith, lt, is))) top.reached in
         record {
           reached = inl (shifted n found);
           most = λ o has is. ⊎_elim (λ same. subst (λ (p : Op). needed d p ≤ n) same (omega (arith, lt))) (λ rest. top.most o rest is)

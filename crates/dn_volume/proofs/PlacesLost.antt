@@ -95,13 +95,13 @@ module _ (d : Disk) (valid : IsValid d) (row : Row) (has : Contains (rows d) row
       by_row (Some r) is = elim (cases_eq m.block row.page) [
         | inl here ↦
             let same : r ≡ row = distinct_same (λ (x : Row). x.page) (rows d) valid.rows_apart.page r row (found_in (rows d) m.block r is) has
-                (page_in (rows d) m.block r is ∙ here) in
+            (page_in (rows d) m.block r is ∙ here) in
             ap (λ (t : Bool). (if t then 1 else 0) + 0) (same_test r.slot row.slot (ap (λ (x : Row). x.slot) same)) ∙ sym
-                (ap (λ (t : Bool). if t then 1 else 0) (same_test m.block row.page here))
+            (ap (λ (t : Bool). if t then 1 else 0) (same_test m.block row.page here))
         | inr there ↦
             ap (λ (t : Bool). (if t then 1 else 0) + 0) (other_test r.slot row.slot (λ e. there (sym (page_in (rows d) m.block r is)
             ∙ ap (λ (x : Row). x.page) (distinct_same (λ (x : Row). x.slot) (rows d) valid.rows_apart.slot r row (found_in (rows d) m.block r is) has
-                e))))
+            e))))
             ∙ sym (ap (λ (t : Bool). if t then 1 else 0) (other_test m.block row.page there))
       ]
 
@@ -116,13 +116,13 @@ module _ (d : Disk) (valid : IsValid d) (row : Row) (has : Contains (rows d) row
   pub places_lost : (e : Disk) (ino first n : ℕ) → RemapsInode ino d e → first + n ≤ 4096 → ((j : ℕ) → j < first → maps e ino j ≡ maps d ino j)
       → ((j : ℕ) → first + n ≤ j → maps e ino j ≡ maps d ino j)
       → ((j : ℕ) → first ≤ j → j < first + n → hit row.page (maps e ino j) ≡ 0) → mappings e row.page + times row.slot (row_slots d ino first n) ≡
-          mappings d row.page
+      mappings d row.page
   places_lost e ino first n remaps fits before behind inside =
       let moved = inode_moves ino d e remaps row.page in
       let split : first + n + (4096 - (first + n)) ≡ 4096 = omega (arith, fits) in
       let lost : places d row.page ino ≡ places e row.page ino + sum_from (λ idx. hit row.page (maps d ino idx)) first n =
       subst (λ (k : ℕ). total k (λ idx. hit row.page (maps d ino idx)) ≡ total k (λ idx. hit row.page (maps e ino idx)) + sum_from
-          (λ idx. hit row.page (maps d ino idx)) first n) split
+      (λ idx. hit row.page (maps d ino idx)) first n) split
       (run_lost (λ idx. hit row.page (maps d ino idx)) (λ idx. hit row.page (maps e ino idx)) first n (4096 - (first + n))
-          (λ j lt. ap (hit row.page) (before j lt)) inside (λ j le. ap (hit row.page) (behind j le))) in
+      (λ j lt. ap (hit row.page) (before j lt)) inside (λ j le. ap (hit row.page) (behind j le))) in
       omega (arith, moved, lost, slots_hit ino first n)

@@ -141,8 +141,8 @@ module _ (who : ℕ) (client : 1 ≤ who) (old new : Option Flight) (b b' : Part
       → owed_sum b' kind + kind (owed_to old) ≡ owed_sum b kind + kind (owed_to new)
   owed_moved kind =
       let moved = total-change (λ k. kind (owed_to (flight_at b.flights.items k)))
-          (λ k. kind (owed_to (flight_at b'.flights.items k))) 14 (who - 1) r.place
-          (λ k other. ap (λ o. kind (owed_to o)) (r.others k other)) in
+      (λ k. kind (owed_to (flight_at b'.flights.items k))) 14 (who - 1) r.place
+      (λ k other. ap (λ o. kind (owed_to o)) (r.others k other)) in
       let before = ap (λ o. kind (owed_to o)) r.was in
       let after = ap (λ o. kind (owed_to o)) r.now in
       omega (arith, moved, before, after)
@@ -151,8 +151,8 @@ module _ (who : ℕ) (client : 1 ≤ who) (old new : Option Flight) (b b' : Part
       → raised b' slot + times slot (raised_by old) ≡ raised b slot + times slot (raised_by new)
   raised_moved up slot =
       let moved = total-change (λ k. times slot (raised_by (flight_at b.flights.items k)))
-          (λ k. times slot (raised_by (flight_at b'.flights.items k))) 14 (who - 1) r.place
-          (λ k other. ap (λ o. times slot (raised_by o)) (r.others k other)) in
+      (λ k. times slot (raised_by (flight_at b'.flights.items k))) 14 (who - 1) r.place
+      (λ k other. ap (λ o. times slot (raised_by o)) (r.others k other)) in
       let before = ap (λ o. times slot (raised_by o)) r.was in
       let after = ap (λ o. times slot (raised_by o)) r.now in
       let shared = ap (λ o. times slot (raised_to_share o)) r.sharing in

@@ -1,6 +1,33 @@
 -- Want of room or of an inode stays accounted for, while scripts are told further.
-use Rattle.std.proofs.Common.{◌≡◌, ◌≢◌, ◌⊎◌, inl, inr, ⊎_elim, ℕ, zero, suc, ◌+◌, ◌-◌, ◌≤◌, List, [], ◌∷◌, ◌++◌, length, drop, refl, sym, ◌∙◌, ap,
-    subst, arith, Option, Some, None}
+use Rattle.std.proofs.Common.{
+  ◌≡◌,
+  ◌≢◌,
+  ◌⊎◌,
+  inl,
+  inr,
+  ⊎_elim,
+  ℕ,
+  zero,
+  suc,
+  ◌+◌,
+  ◌-◌,
+  ◌≤◌,
+  List,
+  [],
+  ◌∷◌,
+  ◌++◌,
+  length,
+  drop,
+  refl,
+  sym,
+  ◌∙◌,
+  ap,
+  subst,
+  arith,
+  Option,
+  Some,
+  None,
+}
 use Rattle.std.specs.Prelude.{Contains, slice_get, ◌↔◌}
 use Rattle.std.proofs.lemmas.Bool.{cases_eq}
 use Rattle.std.proofs.lemmas.List.{drop-append-le}
@@ -80,15 +107,21 @@ module _ (b b' : Parts) (k w who : ℕ) (new : Op) (scripts : List (List Op)) (s
           → Contains ops op ↔ ((i + 1 ≢ w) × IsLater b' k (i + 1) op)
       there_script i ops op apart is = (
         λ has. let told = (are.script i ops is op).0 has in (told.0, (one (i + 1) op).0 (inl told.1)),
-        λ told. (are.script i ops is op).1 (told.0, ⊎_elim (λ was. was) (λ new'. absurd (apart (let e = new'.0 in omega (arith, e))))
-            ((one (i + 1) op).1 told.1)),
+        λ told. (are.script i ops is op).1 (
+          told.0,
+          ⊎_elim (λ was. was) (λ new'. absurd (apart (let e = new'.0 in omega (arith, e))))
+              ((one (i + 1) op).1 told.1),
+        ),
       )
 
       longer_script : (i : ℕ) (old : List Op) (op : Op) → who ≡ i + 1 → slice_get scripts i ≡ Some old
           → Contains (new ∷ old) op ↔ ((i + 1 ≢ w) × IsLater b' k (i + 1) op)
       longer_script i old op same is = (
-        λ has. (λ e. other (same ∙ e), (one (i + 1) op).0 (⊎_elim (λ e. inr (sym same, sym e)) (λ rest. inl ((are.script i old is op).0 rest).1)
-            (cons_cases new op old has))),
+        λ has. (
+          λ e. other (same ∙ e),
+          (one (i + 1) op).0 (⊎_elim (λ e. inr (sym same, sym e)) (λ rest. inl ((are.script i old is op).0 rest).1)
+              (cons_cases new op old has)),
+        ),
         λ told. ⊎_elim (λ was. later new op old ((are.script i old is op).1 (told.0, was))) (λ new'. subst (Contains (new ∷ old)) (sym new'.1)
             (here new old)) ((one (i + 1) op).1 told.1),
       )
@@ -105,7 +138,7 @@ module _ (b b' : Parts) (k w who : ℕ) (new : Op) (scripts : List (List Op)) (s
               let e : Some (new ∷ old) ≡ Some ops = sym (put_here i new scripts old was) ∙ put in
               let same_ops : new ∷ old ≡ ops = cc e in
               subst (λ (xs : List Op). Contains xs op ↔ ((i + 1 ≢ w) × IsLater b' k (i + 1) op)) same_ops
-                  (longer_script i old op (omega (arith, same, some)) was)
+              (longer_script i old op (omega (arith, same, some)) was)
           by_old None was = absurd (past_none scripts i was put)
             where
               past_none : (xs : List (List Op)) (j : ℕ) → slice_get xs j ≡ None → slice_get (put_op j new xs) j ≡ Some ops → ⊥
@@ -139,18 +172,18 @@ module _ (b b' : Parts) (k who : ℕ) (entry : Entry) (few : k ≤ length b.hist
   in_old : (e : Entry) → Contains (drop k b.history.items) e → Contains (drop k b'.history.items) e
   in_old e has = subst (λ (h : List Entry). Contains (drop k h) e) (sym more)
       (subst (λ (h : List Entry). Contains h e) (sym (drop-append-le k b.history.items (entry ∷ []) few))
-          (Contains-append_left (drop k b.history.items) (entry ∷ []) e has))
+      (Contains-append_left (drop k b.history.items) (entry ∷ []) e has))
 
   in_new : Contains (drop k b'.history.items) entry
   in_new = subst (λ (h : List Entry). Contains (drop k h) entry) (sym more)
       (subst (λ (h : List Entry). Contains h entry) (sym (drop-append-le k b.history.items (entry ∷ []) few))
-          (Contains-append_right (drop k b.history.items) (entry ∷ []) entry (here entry [])))
+      (Contains-append_right (drop k b.history.items) (entry ∷ []) entry (here entry [])))
 
   either : (e : Entry) → Contains (drop k b'.history.items) e → Contains (drop k b.history.items) e ⊎ (entry ≡ e)
   either e has = ⊎_elim inl (λ new. inr (⊎_elim (λ same. same) (λ none. absurd (none_listed e none)) (cons_cases entry e [] new)))
       (Contains-append_cases (drop k b.history.items) (entry ∷ []) e
       (subst (λ (h : List Entry). Contains h e) (drop-append-le k b.history.items (entry ∷ []) few) (subst (λ (h : List Entry). Contains (drop k h) e)
-          more has)))
+      more has)))
 
   pub answered_later : (left : ℕ) (op : Op) → entry.op ≡ op → InFlight b who op left → SameOthers who b b'
       → flight_at b'.flights.items (who - 1) ≡ None → SameLater b b' k
@@ -162,7 +195,7 @@ module _ (b b' : Parts) (k who : ℕ) (entry : Entry) (few : k ≤ length b.hist
         (flew.op_is ∙ sym entry_op ∙ ap (λ (x : Entry). x.op) same ∙ e.3))
         (either e.0 e.1))
         (λ f. flight_later b k q o f.0 (record { client = f.1.client; is = sym (others.flights q f.1.client (not_who f.0 f.1)) ∙ f.1.is }) f.2)
-            is.why,
+        is.why,
   )
     where
       not_who : (f : Flight) → Flies b' q f → q ≡ who → ⊥
@@ -172,7 +205,7 @@ module _ (b b' : Parts) (k who : ℕ) (entry : Entry) (few : k ≤ length b.hist
       by_client f flies is (inl same) =
           entry_later b' k q o entry in_new (entry_who ∙ sym same)
           (entry_op ∙ sym flew.op_is ∙ ap (λ (g : Flight). g.op)
-              (one_flight b who flew.flight f flew.flies (subst (λ (n : ℕ). Flies b n f) same flies)) ∙ is)
+          (one_flight b who flew.flight f flew.flies (subst (λ (n : ℕ). Flies b n f) same flies)) ∙ is)
       by_client f flies is (inr other) = flight_later b' k q o f
           (record { client = flies.client; is = others.flights q flies.client other ∙ flies.is }) is
 
@@ -183,7 +216,7 @@ module _ (b b' : Parts) (k who : ℕ) (entry : Entry) (few : k ≤ length b.hist
         (λ new. entry_later b' k q o entry in_new (entry_who ∙ sym new.0) (entry_op ∙ sym new.1)) is,
     λ is. ⊎_elim (λ e. ⊎_elim (λ old. inl (entry_later b k q o e.0 old e.2 e.3))
         (λ new. inr (sym e.2 ∙ sym (ap (λ (x : Entry). x.who) new) ∙ entry_who, sym e.3 ∙ sym (ap (λ (x : Entry). x.op) new) ∙ entry_op))
-            (either e.0 e.1))
+        (either e.0 e.1))
         (λ f. inl (flight_later b k q o f.0 (back f.0 f.1) f.2)) is.why,
   )
     where
@@ -209,8 +242,11 @@ begun_later b b' k who left op same idle flew others q o = (
 
     by_client : (f : Flight) → Flies b' q f → f.op ≡ o → ((q ≡ who) ⊎ (q ≡ who → ⊥)) → IsLater b k q o ⊎ ((q ≡ who) × (o ≡ op))
     by_client f flies is (inl at) =
-        inr (at, sym is ∙ sym (ap (λ (g : Flight). g.op) (one_flight b' who flew.flight f flew.flies (subst (λ (n : ℕ). Flies b' n f) at flies))) ∙
-            flew.op_is)
+        inr (
+          at,
+          sym is ∙ sym (ap (λ (g : Flight). g.op) (one_flight b' who flew.flight f flew.flies (subst (λ (n : ℕ). Flies b' n f) at flies))) ∙
+              flew.op_is,
+        )
     by_client f flies is (inr other) = inl
         (flight_later b k q o f (record { client = flies.client; is = sym (others.flights q flies.client other) ∙ flies.is }) is)
 
@@ -288,7 +324,7 @@ module _ (base : Base) (b b' : Parts) (s t : State) (on : Extends s.past t.past)
   -- an entry more that may be one
   pub wants_short : (op : Op) → 1 ≤ last.who → last.op ≡ op → ((k : ℕ) → k ≤ length b.history.items → OneLater b b' k last.who op)
       → ((needed free : ℕ) → last.reply ≡ Refused (NoSpace needed free) → (e : Disk) × (scripts : List (List Op)) × WasLeft base t e × AreLater b'
-          (length b.history.items) last.who scripts × IsShortOfSpace e scripts last.op needed free)
+      (length b.history.items) last.who scripts × IsShortOfSpace e scripts last.op needed free)
       → (last.reply ≡ Refused NoInode → (e : Disk) × WasLeft base t e × IsShortOfInodes e last.op) → AreShort base b' t
   wants_short op some op_is one space inode = record {
     space = λ k needed free entry is reply. ⊎_elim (λ old. grown_space base b b' s t on short last.who op some one k needed free entry old reply)
@@ -296,16 +332,16 @@ module _ (base : Base) (b b' : Parts) (s t : State) (on : Extends s.past t.past)
         (old_or_last b.history.items last k entry (subst (λ (h : List Entry). slice_get h k ≡ Some entry) more is));
     inode = λ k entry is reply. ⊎_elim (λ old. old_inode base b b' s t on short k entry old reply)
         (λ new. subst (λ (x : Entry). (e : Disk) × WasLeft base t e × IsShortOfInodes e x.op) new.1
-            (inode (ap (λ (x : Entry). x.reply) new.1 ∙ reply)))
+        (inode (ap (λ (x : Entry). x.reply) new.1 ∙ reply)))
         (old_or_last b.history.items last k entry (subst (λ (h : List Entry). slice_get h k ≡ Some entry) more is));
   }
     where
       new_space : (k needed free : ℕ) (entry : Entry) → k ≡ length b.history.items → last ≡ entry → entry.reply ≡ Refused (NoSpace needed free)
           → (e : Disk) × (scripts : List (List Op)) × WasLeft base t e × AreLater b' k entry.who scripts × IsShortOfSpace e scripts entry.op needed
-              free
+          free
       new_space k needed free entry here' same reply =
           subst (λ (n : ℕ). (e : Disk) × (scripts : List (List Op)) × WasLeft base t e × AreLater b' n entry.who scripts × IsShortOfSpace e scripts
-              entry.op needed free) (sym here')
+          entry.op needed free) (sym here')
           (subst (λ (x : Entry). (e : Disk) × (scripts : List (List Op)) × WasLeft base t e × AreLater b' (length b.history.items) x.who
-              scripts × IsShortOfSpace e scripts x.op needed free) same
+          scripts × IsShortOfSpace e scripts x.op needed free) same
           (space needed free (ap (λ (x : Entry). x.reply) same ∙ reply)))

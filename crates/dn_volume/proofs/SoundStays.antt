@@ -1,6 +1,27 @@
 -- An event keeps a volume sound.
-use Rattle.std.proofs.Common.{◌≡◌, ◌⊎◌, inl, inr, ⊎_elim, ℕ, ◌≤◌, List, [], ◌∷◌, ◌++◌, length, refl, sym, ◌∙◌, ap, subst, arith, Option, Some,
-    length-append}
+use Rattle.std.proofs.Common.{
+  ◌≡◌,
+  ◌⊎◌,
+  inl,
+  inr,
+  ⊎_elim,
+  ℕ,
+  ◌≤◌,
+  List,
+  [],
+  ◌∷◌,
+  ◌++◌,
+  length,
+  refl,
+  sym,
+  ◌∙◌,
+  ap,
+  subst,
+  arith,
+  Option,
+  Some,
+  length-append,
+}
 use Rattle.std.specs.Prelude.{Contains, slice_index, if◌then◌else◌, ◌==◌}
 use Rattle.std.proofs.lemmas.List.{take-append-le, take_all}
 use Rattle.pm_device.specs.Past.{Past, Left, LeftOf, moment}
@@ -73,7 +94,7 @@ module _ (print : Print) (base : Base) (history more : List Entry) (d e : Disk) 
   alone_on since ino idx m place alone =
       ⊎_elim (λ was. by_old was (since ino idx was.mapping was.place was.alone))
       (λ twin. inr (files d, way_on (base_files base) history more (files d) (way_here (base_files base) history (files d) legal), twin))
-          (accounts.alone ino idx m place alone)
+      (accounts.alone ino idx m place alone)
     where
       by_old : (was : WasAloneOn d e ino idx m)
           → (WasAlone base ino idx was.mapping.block ⊎ ((f : Files) × IsOnTheWay (base_files base) history f × HasTwin print f
@@ -90,12 +111,16 @@ module _ (print : Print) (base : Base) (history more : List Entry) (d e : Disk) 
   pages_on since row has =
       ⊎_elim (λ had. by_old had (since had.was had.there))
       (λ page. (files d, way_on (base_files base) history more (files d) (way_here (base_files base) history (files d) legal), page))
-          (accounts.row_pages row has)
+      (accounts.row_pages row has)
     where
       by_old : (had : HadRow d e row) → ((f : Files) × IsOnTheWay (base_files base) history f × HasPage f (page_bytes d had.was.page))
           → (f : Files) × IsOnTheWay (base_files base) (history ++ more) f × HasPage f (page_bytes e row.page)
-      by_old had found = (found.0, way_on (base_files base) history more found.0 found.1, subst (HasPage found.0)
-          (ap (page_bytes d) had.page_is ∙ sym had.bytes_are) found.2)
+      by_old had found = (
+        found.0,
+        way_on (base_files base) history more found.0 found.1,
+        subst (HasPage found.0)
+            (ap (page_bytes d) had.page_is ∙ sym had.bytes_are) found.2,
+      )
 
 -- with the same history
 pub alone_since : (print : Print) (base : Base) (history history' : List Entry) (d : Disk) → history' ≡ history → AloneSince print base history d

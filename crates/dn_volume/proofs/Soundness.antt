@@ -69,11 +69,11 @@ module _ {D F : Type 0} (state : D → State) (print : Print) (base : Base) (who
   moved_on quiet ops same =
       sound_then [] (same ∙ sym (append-nil v.parts.history.items))
       (subst (λ (h : List Entry). IsOnCourse print (base_files base) base.start h (files e) (state v'.device))
-          (sym (append-nil v.parts.history.items))
+      (sym (append-nil v.parts.history.items))
       (stay print base v.parts.history.items d e (state v.device) (state v'.device) sound.own sound.course moves.images quiet))
       (told_short base v.parts v'.parts (state v.device) (state v'.device) moves.images.extends sound.short
       (λ short. stays_short base v.parts v'.parts (state v.device) (state v'.device) moves.images.extends short same
-          (λ k few. goes_on_later v.parts v'.parts k same ops)))
+      (λ k few. goes_on_later v.parts v'.parts k same ops)))
 
 not_refused : (r : Reply) (why : Refusal) → r ≡ Done → r ≡ Refused why → ⊥
 not_refused r why is other = let clash : Done ≡ Refused why = sym is ∙ other in cc clash
@@ -93,7 +93,7 @@ answers_stay_sound state agree print base who op reply v v' running sound answer
     subst (λ (o : Op). Step (files was.0) o a.entry.reply (files a.after)) (sym a.op_is)
     (subst (λ (r : Reply). Step (files was.0) op r (files a.after)) (sym a.reply_is) (done a.granted a.grants (a.files_after own))) in
     let now : LeavesNow (state v'.device) (IsImageOf print (files a.after)) = λ c left. image_now print a.after v'.parts (state v'.device)
-        a.moves.volume.fast (a.moves.own own) (agree v'.device) c left in
+    a.moves.volume.fast (a.moves.own own) (agree v'.device) c left in
     is_sound a.after a.moves.volume
     (sound_then state print base who v v' was.0 a.after was.2 a.moves (a.entry ∷ []) a.history
     (go_on print base v.parts.history.items was.0 a.after (state v.device) (state v'.device) own was.2.course a.moves.images a.entry step now)
@@ -113,7 +113,7 @@ breaks_stay_sound state print base who answers v v' running sound breaks =
       legal = subst (λ (h : List Entry). Legal (base_files base) h (files d)) (sym b.history) s.legal;
       short = told_short base v.parts v'.parts (state v.device) (state v'.device) b.images.extends s.short
           (λ short. stays_short base v.parts v'.parts (state v.device) (state v'.device) b.images.extends short b.history
-              (λ k few. goes_on_later v.parts v'.parts k b.history b.ops));
+          (λ k few. goes_on_later v.parts v'.parts k b.history b.ops));
       rose = rose_since base.faults (state v.device).faults (state v'.device).faults s.faults b.rose;
       course = by_answer answers refl d b s;
     })

@@ -59,7 +59,7 @@ module _ (inodes pages : List ℕ) (d e : Disk) (valid : IsValid d) (rest : Keep
   bytes_same =
       ap (λ (log : Log). map (λ j. mapped_byte e (j % 4096) (maps e ino (j / 4096))) (range_with_len 0 (size_of log))) log_same
       ∙ map-same (λ j. mapped_byte e (j % 4096) (maps e ino (j / 4096))) (λ j. mapped_byte d (j % 4096) (maps d ino (j / 4096)))
-          (range_with_len 0 (size_of (d.inode ino).log))
+      (range_with_len 0 (size_of (d.inode ino).log))
       (λ j. ap (mapped_byte e (j % 4096)) (maps_same (j / 4096)) ∙ byte_same (j / 4096) (j % 4096) (maps d ino (j / 4096)) refl)
 
   pub log_of_same : (name : List ℕ) → named d name ≡ Some ino → named e name ≡ Some ino → log_of e name ≡ log_of d name
@@ -69,10 +69,10 @@ module _ (inodes pages : List ℕ) (d e : Disk) (valid : IsValid d) (rest : Keep
   refilled_same : (name : List ℕ) (size : ℕ) → named d name ≡ Some ino → named e name ≡ Some ino → refilled e name size ≡ refilled d name size
   refilled_same name size was is =
       ap (λ (log : Log). if not (size % 4096 == 0) && nat_lt size (size_of log) && is_some (maps e (inode_of (named e name)) (size / 4096)) then 1
-          else 0) (log_of_same name was is)
+      else 0) (log_of_same name was is)
       ∙ ap (λ (m : Option Mapping). if not (size % 4096 == 0) && nat_lt size (size_of (log_of d name)) && is_some m then 1 else 0)
       (ap (λ (r : Option ℕ). maps e (inode_of r) (size / 4096)) is ∙ maps_same (size / 4096) ∙ sym
-          (ap (λ (r : Option ℕ). maps d (inode_of r) (size / 4096)) was))
+      (ap (λ (r : Option ℕ). maps d (inode_of r) (size / 4096)) was))
 
   leads_same : (name : List ℕ) → 1 ≤ ino → named d name ≡ Some ino → named e name ≡ Some ino
   leads_same name file was = (rest.named_so ino name file out).1 was
@@ -117,13 +117,13 @@ module _ (inodes pages : List ℕ) (d e : Disk) (valid : IsValid d) (rest : Keep
   needed_same (Create name) plans = absurd plans
   needed_same (Write name at text) plans =
       ap (λ (log : Log). touched at (length text) + extra (touched at (length text)) log) (log_of_same inodes pages d e valid rest f.ino in_table out
-          name plans.leads (leads_same inodes pages d e valid rest f.ino in_table out name file plans.leads))
+      name plans.leads (leads_same inodes pages d e valid rest f.ino in_table out name file plans.leads))
   needed_same (Read name at count) plans = absurd plans
   needed_same (Cut name to) plans =
       let leads = leads_same inodes pages d e valid rest f.ino in_table out name file plans.leads in
       ap (λ (n : ℕ). n + extra (n + 1) (log_of e name)) (refilled_same inodes pages d e valid rest f.ino in_table out name to plans.leads leads)
       ∙ ap (λ (log : Log). refilled d name to + extra (refilled d name to + 1) log) (log_of_same inodes pages d e valid rest f.ino in_table out name
-          plans.leads leads)
+      plans.leads leads)
   needed_same (Remove name) plans = absurd plans
   needed_same (Rename from to) plans = absurd plans
   needed_same (Size name) plans = absurd plans

@@ -114,5 +114,5 @@ module _ (who : ℕ) (f f' : Flight) (b b' : Parts) (steps : StepsOn who f f' b 
       on : (ino slot : ℕ) → IsWaiting b ino slot → IsWaiting b' ino slot
       on ino slot (in_queue work n has at_ino at_slot at round) =
           in_queue work n (subst (λ x. Contains x.items work) (sym steps.queue) has) at_ino at_slot (subst (λ xs. slice_get xs.items ino ≡ Some n)
-              (sym steps.inodes) at) round
+          (sym steps.inodes) at) round
       on ino slot (is_begun sharing is at_ino at_slot) = is_begun sharing (steps.replaces.sharing ∙ is) at_ino at_slot

@@ -14,8 +14,10 @@ is_table d b s v = record {
   geometry = v.table.geometry;
   accepted = subst IsAccepted v.table.geometry v.fast.valid.accepted;
   size = v.fast.long ∙ ap (λ g. 512 * g.pages) v.table.geometry;
-  says = λ a w said. elim said [ inl chain ↦ v.fast.stands.reads a w (of_chains chain) | inr pointer ↦ v.fast.stands.reads a w (of_pointers pointer)
-      ];
+  says = λ a w said. elim said [
+    | inl chain ↦ v.fast.stands.reads a w (of_chains chain)
+    | inr pointer ↦ v.fast.stands.reads a w (of_pointers pointer)
+  ];
   good = record { table = v.fast.valid.table; apart = v.fast.valid.rows_apart; pointers = v.fast.valid.pointers; leads = v.fast.valid.leads };
   set = v.table.set;
   free = v.table.free;

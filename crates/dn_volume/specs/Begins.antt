@@ -171,24 +171,24 @@ IsFreshChange (Names c) = c.prepared ≡ false
 -- it begins with so many events left; a new inode is the least that is free
 pub record Opens (d : Disk) (who : ℕ) (op : Op) (left : ℕ) (f : Flight) (b b' : Parts) : Type 0
   where
-  pub flies : Flies b' who f
-  pub op_is : f.op ≡ op
-  pub left_is : left ≡ left_of f
-  pub unraised : f.raised ≡ 0
-  pub fresh : IsFreshChange f.change
-  pub least : (i j : ℕ) → Contains f.held.items i → (d.inode i).use_of ≡ Free → 1 ≤ j → j < i
-      → (d.inode j).use_of ≡ Free → ⊥
-  pub same : SameButBegun who f b b'
-  pub takes : length b.free.free ≡ length b'.free.free + needed d op
+    pub flies : Flies b' who f
+    pub op_is : f.op ≡ op
+    pub left_is : left ≡ left_of f
+    pub unraised : f.raised ≡ 0
+    pub fresh : IsFreshChange f.change
+    pub least : (i j : ℕ) → Contains f.held.items i → (d.inode i).use_of ≡ Free → 1 ≤ j → j < i
+        → (d.inode j).use_of ≡ Free → ⊥
+    pub same : SameButBegun who f b b'
+    pub takes : length b.free.free ≡ length b'.free.free + needed d op
 
 -- nothing but the room that is kept differs
 pub record IsUntouched {D F : Type 0} (state : D → State) (v v' : Volume D F) (d : Disk) : Type 0
   where
-  pub volume : IsVolume d v'.parts (state v'.device)
-  pub device : IsSame (state v.device) (state v'.device)
-  pub same : SameButRoom v.parts v'.parts
-  pub history : v'.parts.history.items ≡ v.parts.history.items
-  pub made : v'.parts.made ≡ v.parts.made
+    pub volume : IsVolume d v'.parts (state v'.device)
+    pub device : IsSame (state v.device) (state v'.device)
+    pub same : SameButRoom v.parts v'.parts
+    pub history : v'.parts.history.items ≡ v.parts.history.items
+    pub made : v'.parts.made ≡ v.parts.made
 
 -- the operation has what it needs, and is in flight
 pub record HasBegun {D F : Type 0} (state : D → State) (who : ℕ) (op : Op) (left : ℕ)

@@ -1,8 +1,23 @@
 -- What an event of a machine promises. It leads from the disk of before to a disk of after; the
 -- images on the way hold
 -- the files of the one or of the other.
-use Rattle.std.specs.Prelude.{◌≡◌, ◌⊎◌, ℕ, ◌+◌, ◌-◌, ◌≤◌, if◌then◌else◌, ◌==◌, List, [], ◌∷◌, ◌++◌,
-    Option, Some, None}
+use Rattle.std.specs.Prelude.{
+  ◌≡◌,
+  ◌⊎◌,
+  ℕ,
+  ◌+◌,
+  ◌-◌,
+  ◌≤◌,
+  if◌then◌else◌,
+  ◌==◌,
+  List,
+  [],
+  ◌∷◌,
+  ◌++◌,
+  Option,
+  Some,
+  None,
+}
 use Rattle.pm_device.specs.State.{State, Rose}
 use Rattle.pm_device.specs.Settled.{LeavesOnly}
 use Rattle.fingerprint.specs.Count.{count_word}
@@ -19,8 +34,16 @@ use Rattle.dn_model.specs.declared.op.Entry.{Entry}
 use Rattle.dn_volume.specs.declared.flight.Flight.{Flight}
 use Rattle.dn_model.specs.declared.op.CountChange.{CountChange}
 use Rattle.dn_volume.specs.declared.outcome.Outcome.{Outcome}
-use Rattle.dn_volume.specs.declared.outcome.Outcome.TheVariants.{Running, Done, Busy, Released,
-    Idle, NotYours, NoMemory, Stopped}
+use Rattle.dn_volume.specs.declared.outcome.Outcome.TheVariants.{
+  Running,
+  Done,
+  Busy,
+  Released,
+  Idle,
+  NotYours,
+  NoMemory,
+  Stopped,
+}
 use Rattle.dn_volume.specs.declared.volume.Parts.{Parts}
 use Rattle.dn_volume.specs.declared.volume.Volume.{Volume}
 use Rattle.dn_volume.specs.Parties.{Flies, SameOthers, KeepsOps, flight_at}

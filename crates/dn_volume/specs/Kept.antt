@@ -17,10 +17,10 @@ pub record SameInode (n n' : InodeState) : Type 0 where
 -- each inode's state becomes such a one
 pub record OfInodes (P : ℕ → InodeState → InodeState → Type 0) (old new : List InodeState) : Type 0
   where
-  pub all : length new ≡ length old
-  pub each : (ino : ℕ) (n n' : InodeState) → slice_get old ino ≡ Some n
-      → slice_get new ino ≡ Some n'
-      → P ino n n'
+    pub all : length new ≡ length old
+    pub each : (ino : ℕ) (n n' : InodeState) → slice_get old ino ≡ Some n
+        → slice_get new ino ≡ Some n'
+        → P ino n n'
 
 -- it is the same, and who holds it too
 pub record IsSameInode (ino : ℕ) (n n' : InodeState) : Type 0 where

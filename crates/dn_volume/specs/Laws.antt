@@ -1,6 +1,19 @@
 -- The laws by which an event of a machine is proved.
-use Rattle.std.specs.Prelude.{◌≡◌, ◌⊎◌, ℕ, ◌-◌, ◌*◌, ◌<◌, ◌≤◌, false, List, length, Option, None,
-    Contains}
+use Rattle.std.specs.Prelude.{
+  ◌≡◌,
+  ◌⊎◌,
+  ℕ,
+  ◌-◌,
+  ◌*◌,
+  ◌<◌,
+  ◌≤◌,
+  false,
+  List,
+  length,
+  Option,
+  None,
+  Contains,
+}
 use Rattle.pm_device.specs.State.{State, Agree}
 use Rattle.pm_device.specs.Settled.{LeavesOnly, LeavesNow, StoresOnly}
 use Rattle.pm_layout.specs.declared.Geometry.{Geometry}
@@ -50,8 +63,8 @@ LogStoresChangeNothing = (d : Disk) (ino : ℕ) (new : Log) (s t : State) → St
     → ino < d.geometry.inodes → (d.inode ino).use_of ≡ Live
     → (grown : IsGrown (d.inode ino).log new) → IsPaged d.geometry new
     → ((page : ℕ) → Contains grown.fresh page → IsUnused d page)
-        → StoresOnly (Said (Prepared ino (d.inode ino).log new)) s t → Agree t.now t.past
-        → StandsStill d s t
+    → StoresOnly (Said (Prepared ino (d.inode ino).log new)) s t → Agree t.now t.past
+    → StandsStill d s t
 
 -- A device that stands for a disk leaves images of it alone now.
 abbrev pub FastDevicesLeave : Type 0
@@ -78,20 +91,20 @@ abbrev pub MovesStaySound : (D F : Type 0) → (D → State) → Type 0
 MovesStaySound D F state = (print : Print) (base : Base) (who : ℕ) (v v' : Volume D F)
     → v.parts.stopped ≡ false → Sound state print base v
     → ((d : Disk) → IsVolume d v.parts (state v.device) → MovesOn state print who v v' d)
-        → Sound state print base v'
+    → Sound state print base v'
 
 abbrev pub AnswersStaySound : (D F : Type 0) → (D → State) → Type 0
 AnswersStaySound D F state = ((x : D) → Agree (state x).now (state x).past)
     → (print : Print) (base : Base) (who : ℕ) (op : Op) (reply : Reply) (v v' : Volume D F)
     → v.parts.stopped ≡ false → Sound state print base v
     → ((d : Disk) → IsVolume d v.parts (state v.device) → Answers state print who op reply v v' d)
-        → Sound state print base v'
+    → Sound state print base v'
 
 abbrev pub BreaksStaySound : (D F : Type 0) → (D → State) → Type 0
 BreaksStaySound D F state = (print : Print) (base : Base) (who : ℕ) (answers : Option Op)
     (v v' : Volume D F) → v.parts.stopped ≡ false → Sound state print base v
     → ((d : Disk) → IsVolume d v.parts (state v.device) → Breaks state print who answers v v' d)
-        → Sound state print base v'
+    → Sound state print base v'
 
 -- nothing stands in the way of an operation in flight, and it has taken the pages that it needs
 abbrev pub FlightsAreGranted : Type 0
@@ -105,7 +118,7 @@ abbrev pub WantsAreShort : Type 0
 WantsAreShort = (d : Disk) (b : Parts) (s : State) (who : ℕ) (op : Op) → 1 ≤ who → IsVolume d b s
     → flight_at b.flights.items (who - 1) ≡ None → b.reclaiming.waiting ≡ 0 → LacksSpace d b op
     → (scripts : List (List Op)) × AreFlying b who scripts × IsShortOfSpace d scripts op
-        (needed d op) (length b.free.free)
+    (needed d op) (length b.free.free)
 
 abbrev pub InodesAreShort : Type 0
 InodesAreShort = (d : Disk) (b : Parts) (s : State) (op : Op) → IsVolume d b s
@@ -115,14 +128,14 @@ InodesAreShort = (d : Disk) (b : Parts) (s : State) (op : Op) → IsVolume d b s
 abbrev pub BeginsStaySound : (D F : Type 0) → (D → State) → Type 0
 BeginsStaySound D F state = ((x : D) → Agree (state x).now (state x).past)
     → (print : Print) (base : Base) (who : ℕ) (op : Op) (v v' : Volume D F) (outcome : Outcome)
-        → 1 ≤ who → v.parts.stopped ≡ false → Sound state print base v
+    → 1 ≤ who → v.parts.stopped ≡ false → Sound state print base v
     → ((d : Disk) → IsVolume d v.parts (state v.device) → Begins state who op v v' d outcome)
-        → Sound state print base v'
+    → Sound state print base v'
 
 -- what an advance tells of the history
 abbrev pub AdvancesAreTold : Type 0
 AdvancesAreTold = (print : Print) (who : ℕ) (op : Op) (left n : ℕ) (reply : Reply)
     (v v' : Volume (Unit {0}) (Unit {0})) (state : Unit {0} → State) (d : Disk)
     → (Advances state print who op left v v' d (Done reply) → Answers state print who op reply v v'
-        d) × (Advances state print who op left v v' d (Running n)
-        → v'.parts.history.items ≡ v.parts.history.items)
+    d) × (Advances state print who op left v v' d (Running n)
+    → v'.parts.history.items ≡ v.parts.history.items)

@@ -1,8 +1,22 @@
 -- Who takes part in a volume: what each actor holds, and which pages each has taken. A cleaning of
 -- a log will hold an
 -- inode and take pages as actor 16.
-use Rattle.std.specs.Prelude.{◌≡◌, ℕ, zero, suc, ◌-◌, ◌≤◌, List, [], ◌++◌, slice_get, Option, Some,
-    None, Contains}
+use Rattle.std.specs.Prelude.{
+  ◌≡◌,
+  ℕ,
+  zero,
+  suc,
+  ◌-◌,
+  ◌≤◌,
+  List,
+  [],
+  ◌++◌,
+  slice_get,
+  Option,
+  Some,
+  None,
+  Contains,
+}
 use Rattle.dn_volume.specs.declared.flight.Flight.{Flight}
 use Rattle.dn_volume.specs.declared.flight.Change.{Change}
 use Rattle.dn_volume.specs.declared.flight.Change.TheVariants.{Data, Names}

@@ -1,6 +1,26 @@
 -- What a write or a cut in flight was planned to do, as the disk has it.
-use Rattle.std.specs.Prelude.{◌≡◌, ℕ, zero, suc, ◌+◌, ◌-◌, ◌/◌, ◌≤◌, max, if◌then◌else◌, nat_lt,
-    List, [], ◌∷◌, ◌++◌, length, slice_index, Option, Some, None}
+use Rattle.std.specs.Prelude.{
+  ◌≡◌,
+  ℕ,
+  zero,
+  suc,
+  ◌+◌,
+  ◌-◌,
+  ◌/◌,
+  ◌≤◌,
+  max,
+  if◌then◌else◌,
+  nat_lt,
+  List,
+  [],
+  ◌∷◌,
+  ◌++◌,
+  length,
+  slice_index,
+  Option,
+  Some,
+  None,
+}
 use Rattle.log_entry.specs.Name.{IsLegal}
 use Rattle.log_entry.specs.Spelling.{pages_of}
 use Rattle.log_entry.specs.declared.item.LogItem.{LogItem}
@@ -11,8 +31,16 @@ use Rattle.dn_model.specs.Disk.{Disk, maps, rows}
 use Rattle.dn_model.specs.Files.{named}
 use Rattle.dn_model.specs.History.{touched, refilled}
 use Rattle.dn_model.specs.declared.op.Op.{Op}
-use Rattle.dn_model.specs.declared.op.Op.TheVariants.{Create, Write, Read, Cut, Remove, Rename,
-    Size, List as ListAll}
+use Rattle.dn_model.specs.declared.op.Op.TheVariants.{
+  Create,
+  Write,
+  Read,
+  Cut,
+  Remove,
+  Rename,
+  Size,
+  List as ListAll,
+}
 use Rattle.law_write.specs.Runs.{Run, run_items}
 use Rattle.file_content.specs.Content.{merged_byte}
 use Rattle.dn_volume.specs.declared.flight.Flight.{Flight}

@@ -1,6 +1,17 @@
 -- What reclaim has to do.
-use Rattle.std.specs.Prelude.{◌≡◌, ℕ, ◌+◌, ◌*◌, ◌<◌, if◌then◌else◌, is_some, length, Option, Some,
-    None}
+use Rattle.std.specs.Prelude.{
+  ◌≡◌,
+  ℕ,
+  ◌+◌,
+  ◌*◌,
+  ◌<◌,
+  if◌then◌else◌,
+  is_some,
+  length,
+  Option,
+  Some,
+  None,
+}
 use Rattle.fact_table.specs.Table.{HasRow, IsAtSlot}
 use Rattle.dn_model.specs.Maps.{Mapping}
 use Rattle.dn_model.specs.Table.{Row}

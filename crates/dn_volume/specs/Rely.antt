@@ -2,8 +2,21 @@
 -- stores to or takes
 -- into use; what others hold and have taken is none of these, so that the facts of what they have
 -- in flight stay.
-use Rattle.std.specs.Prelude.{◌≡◌, ◌≢◌, ◌⊎◌, ◌↔◌, ℕ, ◌+◌, ◌*◌, ◌<◌, ◌≤◌, List, length, Contains,
-    Some}
+use Rattle.std.specs.Prelude.{
+  ◌≡◌,
+  ◌≢◌,
+  ◌⊎◌,
+  ◌↔◌,
+  ℕ,
+  ◌+◌,
+  ◌*◌,
+  ◌<◌,
+  ◌≤◌,
+  List,
+  length,
+  Contains,
+  Some,
+}
 use Rattle.pm_device.specs.State.{State}
 use Rattle.pm_device.specs.Settled.{IsFlushed, StoresOnly}
 use Rattle.pm_device.specs.Words.{IsIn}
@@ -81,9 +94,9 @@ abbrev pub FlightsStay : Type 0
 FlightsStay = (who q : ℕ) (inodes pages : List ℕ) (d e : Disk) (s t : State) (f : Flight) → q ≢ who
     → IsValid d → length s.now ≡ 512 * d.geometry.pages → LeavesRest who inodes pages d e s t
     → ((page : ℕ) → Contains pages page → IsUnused d page)
-        → ((i : ℕ) → Contains f.held.items i → Contains inodes i → ⊥)
-        → ((page : ℕ) → Contains (taken_by f) page → Contains pages page → ⊥)
-        → ((page : ℕ) → Contains (taken_by f) page → IsUnused d page)
+    → ((i : ℕ) → Contains f.held.items i → Contains inodes i → ⊥)
+    → ((page : ℕ) → Contains (taken_by f) page → Contains pages page → ⊥)
+    → ((page : ℕ) → Contains (taken_by f) page → IsUnused d page)
     → IsFlight d q f s → IsFlight e q f t
 
 -- what everybody else has in hand afterwards
@@ -96,5 +109,5 @@ abbrev pub OthersStay : Type 0
 OthersStay = (who : ℕ) (inodes pages : List ℕ) (d e : Disk) (b b' : Parts) (s t : State)
     → IsVolume d b s → StandsFast e b.geometry t
     → IsFor d b who inodes pages → LeavesRest who inodes pages d e s t → SameOthers who b b'
-        → (who ≢ 16 → b'.reclaiming.raised ≡ b.reclaiming.raised)
+    → (who ≢ 16 → b'.reclaiming.raised ≡ b.reclaiming.raised)
     → ((q : ℕ) (f : Flight) → q ≢ who → Flies b' q f → IsFlight e q f t) × StayInHand who e b'

@@ -39,8 +39,11 @@ pub record IsBegun (d : Disk) (sharing : Sharing) : Type 0 where
   pub size : ℕ
   pub mask : ℕ
   pub item : Contains (placed (d.inode sharing.work.ino).log)
-      (record { slot = sharing.work.slot; item = Write sharing.first sharing.count block size
-      InProcess mask })
+      (record {
+        slot = sharing.work.slot;
+        item = Write sharing.first sharing.count block size
+            InProcess mask;
+      })
   pub done_few : sharing.done ≤ sharing.count
   pub done_so : (i : ℕ) (m : Mapping) → i < sharing.done
       → maps d sharing.work.ino (sharing.first + i) ≡ Some m → m.slot ≡ sharing.work.slot

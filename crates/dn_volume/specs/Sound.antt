@@ -1,6 +1,20 @@
 -- A volume that keeps to a history from a base.
-use Rattle.std.specs.Prelude.{◌≡◌, ◌≢◌, ◌⊎◌, ◌↔◌, ℕ, ◌+◌, ◌≤◌, List, length, drop, slice_get, Some,
-    None, Contains}
+use Rattle.std.specs.Prelude.{
+  ◌≡◌,
+  ◌≢◌,
+  ◌⊎◌,
+  ◌↔◌,
+  ℕ,
+  ◌+◌,
+  ◌≤◌,
+  List,
+  length,
+  drop,
+  slice_get,
+  Some,
+  None,
+  Contains,
+}
 use Rattle.pm_device.specs.Past.{Past, Left, moment}
 use Rattle.pm_device.specs.State.{State, Rose}
 use Rattle.dn_model.specs.Maps.{Mapping}
@@ -54,7 +68,7 @@ pub record AreShort (base : Base) (b : Parts) (s : State) : Type 0 where
   pub space : (k needed free : ℕ) (entry : Entry) → slice_get b.history.items k ≡ Some entry
       → entry.reply ≡ Refused (NoSpace needed free)
       → (e : Disk) × (scripts : List (List Op)) × WasLeft base s e × AreLater b k entry.who
-          scripts × IsShortOfSpace e scripts entry.op needed free
+      scripts × IsShortOfSpace e scripts entry.op needed free
   pub inode : (k : ℕ) (entry : Entry) → slice_get b.history.items k ≡ Some entry
       → entry.reply ≡ Refused NoInode → (e : Disk) × WasLeft base s e × IsShortOfInodes e entry.op
 
@@ -67,7 +81,7 @@ pub record IsSound (print : Print) (base : Base) (d : Disk) (b : Parts) (s : Sta
   pub short : (p : Past) → s.past ≡ Some p → AreShort base b s
   pub alone : (ino idx : ℕ) (m : Mapping) → LivePlace d ino idx m → IsAlone m
       → WasAlone base ino idx m.block ⊎ ((f : Files) × IsOnTheWay (base_files base) b.history.items
-          f × HasTwin print f (page_bytes d m.block))
+      f × HasTwin print f (page_bytes d m.block))
   pub row_pages : (row : Row) → Contains (rows d) row → (f : Files) × IsOnTheWay (base_files base)
       b.history.items f × HasPage f (page_bytes d row.page)
   pub begun : base.start ≤ moment s.past

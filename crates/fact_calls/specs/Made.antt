@@ -1,12 +1,13 @@
 -- Which table the words hold while calls of it are made.
-use Rattle.std.specs.Prelude.{◌≡◌, ◌⊎◌, ℕ, ◌+◌, ◌≤◌, List, length, Option}
-use Rattle.pm_device.specs.Past.{Past, Left, moment}
+use Rattle.std.specs.Prelude.{◌≡◌, ◌⊎◌, ℕ, ◌+◌, ◌<◌, ◌≤◌, List, length, slice_index}
+use Rattle.pm_device.specs.Past.{Left, moment}
 use Rattle.pm_device.specs.State.{State}
 use Rattle.pm_device.specs.Settled.{Extends, LeavesOnly}
 use Rattle.pm_device.specs.Reading.{Stands}
 use Rattle.dn_model.specs.Table.{Row}
 use Rattle.dn_model.specs.Disk.{Disk, TableSays, rows}
 use Rattle.dn_model.specs.Valid.{HasGoodRows}
+use Rattle.dn_model.specs.Course.{IsCountAt}
 use Rattle.law_table.specs.Changes.{with_table}
 use Rattle.law_table.specs.Words.{HoldsTable}
 use Rattle.fact_table.specs.Table.{Table, IsTable}
@@ -74,18 +75,39 @@ abbrev pub MakesAll : Table → Table → List TableCall → State → State →
 MakesAll t t' calls old new = (d : Disk) → MayCallAll d old.now t calls
     → HasCalledSome d calls (length calls) t' old new
 
--- k calls were made at this moment: each image has the rows after them, or after one more
-pub record IsAtCall (d : Disk) (calls : List TableCall) (past : Option Past) (m : ℕ) : Type 0 where
-  pub k : ℕ
-  pub images : (c : List ℕ) → Left past m c
-      → HoldsRows d c (λ rs. After d.geometry calls (rows d) k rs ⊎ After d.geometry calls (rows d)
-      (k + 1) rs)
+-- Each of n calls has a moment, in order. At each moment since the start, each image has H of the
+-- number of calls whose moments are not later.
+pub record HasMoments (start n : ℕ) (s : State) (H : ℕ → List ℕ → Type 0) : Type 0 where
+  pub moments : List ℕ
+  pub one_each : length moments ≡ n
+  pub rising : (i j : ℕ) → i ≤ j → j < length moments
+      → slice_index moments i ≤ slice_index moments j
+  pub bounds : (i : ℕ) → i < length moments
+      → (start ≤ slice_index moments i) × (slice_index moments i ≤ moment s.past)
+  pub images : (m k : ℕ) (c : List ℕ) → start ≤ m → Left s.past m c → IsCountAt moments m k → H k c
 
-pub record LeavesAfter (d : Disk) (calls : List TableCall) (old new : State) : Type 0 where
+-- the image has the rows after the first k calls, or after one more
+abbrev pub HasRowsAfter : Disk → List TableCall → ℕ → List ℕ → Type 0
+HasRowsAfter d calls k c = HoldsRows d c (λ rs. After d.geometry calls (rows d) k rs
+    ⊎ After d.geometry calls (rows d) (k + 1) rs)
+
+-- the first n calls were made, each at its moment
+pub record LeavesAfter (d : Disk) (calls : List TableCall) (n : ℕ) (old new : State) : Type 0 where
   pub extends : Extends old.past new.past
-  pub each : (m : ℕ) → moment old.past ≤ m → IsAtCall d calls new.past m
+  pub told : HasMoments (moment old.past) n new (HasRowsAfter d calls)
 
--- where the table stood
+-- some of the calls were made, from the first on
+pub record LeavesSome (d : Disk) (calls : List TableCall) (old new : State) : Type 0 where
+  pub made : ℕ
+  pub few : made ≤ length calls
+  pub leaves : LeavesAfter d calls made old new
+
+-- where the table stood, some of the calls were made
 abbrev pub LeavesAll : Table → List TableCall → State → State → Type 0
 LeavesAll t calls old new = (d : Disk) → MayCallAll d old.now t calls → Stands (TableSays d) old
-    → LeavesAfter d calls old new
+    → LeavesSome d calls old new
+
+-- or all of them
+abbrev pub LeavesEach : Table → List TableCall → State → State → Type 0
+LeavesEach t calls old new = (d : Disk) → MayCallAll d old.now t calls → Stands (TableSays d) old
+    → LeavesAfter d calls (length calls) old new

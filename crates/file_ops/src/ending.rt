@@ -108,8 +108,7 @@ pub fn finish_parts(parts: &mut Parts, who: u32, tail: u64, flight: Flight)
     };
     let runs = change.runs.len() as u64;
     let rows = flight.rows.len() as u64;
-    let units =
-        SLOT_UNITS * (flight.slots.len() as u64 + flight.fresh.len() as u64) + TAIL_UNITS;
+    let units = SLOT_UNITS * (flight.slots.len() as u64 + flight.fresh.len() as u64) + TAIL_UNITS;
     let round = parts.inodes[flight.ino as usize].round;
     give_back_pages(&mut parts.free, &flight.spare);
     queue_slots(

@@ -12,6 +12,7 @@ use crate::NoMemory;
 use file_index::{Mapping, PageMap};
 use log_entry::LogItem;
 use log_walk::Placed;
+use pm_layout::PAGE_BYTES;
 use std::alloc::Global;
 
 /// How long a file is, and where its places are.
@@ -28,7 +29,7 @@ fn pages_of(size: u64) -> u64
     requires { size ≤ 16777216 }
     ensures { result ≡ pages_of size }
 {
-    (size + 4095) / 4096
+    size.div_ceil(PAGE_BYTES)
 }
 
 // Maps so many places from `first` on to the pages from `block` on, one after another, by the item at this slot.

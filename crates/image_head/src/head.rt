@@ -7,7 +7,8 @@ ghost use Rattle.image_head.specs.Heads.{IsSized};
 use crate::journal::is_gate;
 use dn_model::ImageFault;
 use pm_layout::{
-    FEWEST_PAGES, Geometry, INODES_WORD, MAGIC, MAGIC_WORD, PAGE_WORDS, PAGES_WORD, VERSION, VERSION_WORD,
+    FEWEST_PAGES, Geometry, INODES_WORD, MAGIC, MAGIC_WORD, PAGE_WORDS, PAGES_WORD, VERSION,
+    VERSION_WORD,
 };
 
 // Whether there are enough words, and the magic comes first.

@@ -10,19 +10,15 @@ ghost use Rattle.file_scan.specs.Names.{IsNamesOf};
 ghost use Rattle.image_logs.specs.Logs.{AreRead, IsFirstFault, IsFaultOfEach, AddsLog, HasRoom, IsOneFault, IsInUse, AddsInode, IsEmptyRead, IsEnd, CountsUse};
 
 use crate::usage::{count_pages, count_places};
-use file_index::{MOST_PLACES, NameMap};
+use file_index::NameMap;
 use file_scan::{FileIndex, index_items, index_names};
 use inode_table::{InodeSlot, read_inode};
+use log_entry::FILE_PAGES;
 use log_walk::{LogRead, Placed, WalkFault, walk_log};
 use pm_device::Pm;
-use pm_layout::Geometry;
+use pm_layout::{FREE, Geometry, LIVE};
 use std::alloc::Global;
 use thiserror::Error;
-
-// The states of an inode, but for that of a dying one.
-const FREE: u64 = 0;
-
-const LIVE: u64 = 1;
 
 /// Why the logs of an image can't be read.
 #[derive(Clone, Copy, Debug, PartialEq, Eq, Error)]
@@ -137,8 +133,8 @@ fn add_log<D: Pm>(
 fn places_end(slot: &InodeSlot) -> u64
     ensures { IsEnd slot.now.state slot.now.cut result }
 {
-    if slot.state == LIVE || slot.cut > MOST_PLACES {
-        MOST_PLACES
+    if slot.state == LIVE || slot.cut > FILE_PAGES {
+        FILE_PAGES
     } else {
         slot.cut
     }

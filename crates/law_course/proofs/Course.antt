@@ -41,13 +41,13 @@ use Rattle.dn_model.specs.declared.op.Entry.{Entry}
 use Rattle.dn_model.specs.OnCourse.{IsImageOf, LeavesOneOf, IsOnCourse}
 
 -- a longer past has no fewer moments
-moment-extends : (p q : Option Past) → Extends p q → moment p ≤ moment q
+pub moment-extends : (p q : Option Past) → Extends p q → moment p ≤ moment q
 moment-extends None None on = omega arith
 moment-extends None (Some q) on = absurd on
 moment-extends (Some p) None on = absurd on
 moment-extends (Some p) (Some q) on = omega (arith, ap length on.calls, length-append p.calls on.more)
 
-left-moment : (p : Option Past) (m : ℕ) (c : List ℕ) → Left p m c → m ≤ moment p
+pub left-moment : (p : Option Past) (m : ℕ) (c : List ℕ) → Left p m c → m ≤ moment p
 left-moment None m c left = absurd left
 left-moment (Some p) m c left = left.past
 
@@ -115,7 +115,7 @@ begins print f s now = record {
 }
 
 -- the count of moments that are past, where one more is put behind them
-count-append : (moments : List ℕ) (last m k : ℕ) → m < last → ((i : ℕ) → i < length moments → slice_index moments i ≤ last)
+pub count-append : (moments : List ℕ) (last m k : ℕ) → m < last → ((i : ℕ) → i < length moments → slice_index moments i ≤ last)
     → IsCountAt (moments ++ last ∷ []) m k → IsCountAt moments m k
 count-append moments last m k early bound count = record {
   few = elim (cases_lt (length moments) k) [

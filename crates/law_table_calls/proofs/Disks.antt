@@ -15,8 +15,10 @@ use Rattle.fact_table.specs.Table.{Table, IsTable}
 use Rattle.fact_calls.specs.declared.call.TableCall.{TableCall}
 use Rattle.fact_calls.specs.Follows.{MayMake, Follows, After, Allows}
 use Rattle.law_table.specs.Words.{IsTableWord}
-use Rattle.fact_calls.specs.Made.{IsSameBut, MayCall, HasCalled, HoldsRows, LeavesCall, MakesCall, MayCallAll, HasCalledSome, LeavesAll, MakesAll}
-use Rattle.law_table_calls.specs.Calls.{MayMakeOn, AllowsOn, HasRows, IsOnDisk, LeavesDisksAfter}
+use Rattle.fact_calls.specs.Made.{IsSameBut, MayCall, HasCalled, HoldsRows, LeavesCall, MakesCall, MayCallAll, HasCalledSome, HasRowsAfter, LeavesAfter}
+use Rattle.fact_calls.specs.Made.{LeavesAll, LeavesEach, MakesAll}
+use Rattle.fact_calls.proofs.Moments.{moments_weaken}
+use Rattle.law_table_calls.specs.Calls.{MayMakeOn, AllowsOn, HasRows, IsOnDisk, HasDiskAfter, LeavesDisksAfter, LeavesDisksSome}
 use Rattle.law_table_calls.proofs.Fitting.{IsFitting, valid_fitting, call_fitting, after_fitting}
 
 module _ (d : Disk) (valid : IsValid d) (s u : State) (stands : Stands (DiskSays d) s) where
@@ -96,17 +98,20 @@ module _ (d : Disk) (valid : IsValid d) (s u : State) (stands : Stands (DiskSays
     either_fitting k rs (inl now) = made_fitting k rs now
     either_fitting k rs (inr next) = made_fitting (k + 1) rs next
 
-    pub calls_images : Agree u.now u.past → LeavesAll t calls s u → LeavesDisksAfter d calls s u
+    images_after : Agree u.now u.past → (n : ℕ) → LeavesAfter d calls n s u → LeavesDisksAfter d calls n s u
+    images_after agree n leaves = record {
+      extends = leaves.extends;
+      told = moments_weaken (moment s.past) n u (HasRowsAfter d calls) (HasDiskAfter d calls)
+          (λ m k c late left is. image_disk t may.table stores _ (either_fitting k) agree m c late left is) leaves.told;
+    }
+
+    pub calls_images : Agree u.now u.past → LeavesAll t calls s u → LeavesDisksSome d calls s u
     calls_images agree leaves =
         let held = leaves d may table_stands in
-        record {
-          extends = held.extends;
-          each = λ m late. let was = held.each m late in record {
-            k = was.k;
-            images = λ c left. image_disk t may.table stores _ (either_fitting was.k)
-                agree m c late left (was.images c left);
-          };
-        }
+        record { made = held.made; few = held.few; leaves = images_after agree held.made held.leaves }
+
+    pub each_images : Agree u.now u.past → LeavesEach t calls s u → LeavesDisksAfter d calls (length calls) s u
+    each_images agree leaves = images_after agree (length calls) (leaves d may table_stands)
 
     pub calls_made : (t' : Table) → MakesAll t t' calls s u → IsOnDisk d t' u (After d.geometry calls (rows d) (length calls))
     calls_made t' makes =

@@ -11,9 +11,8 @@ use Rattle.std.specs.Prelude.{
   slice_get,
   Some,
   Contains,
-  Option,
 }
-use Rattle.pm_device.specs.Past.{Past, Left, moment}
+use Rattle.pm_device.specs.Past.{moment}
 use Rattle.pm_device.specs.State.{State, Agree}
 use Rattle.pm_device.specs.Settled.{Extends, LeavesOnly, StoresOnly}
 use Rattle.pm_device.specs.Reading.{Stands}
@@ -41,7 +40,9 @@ use Rattle.fact_calls.specs.Made.{
   LeavesCall,
   MakesCall,
   MayCallAll,
+  HasMoments,
   LeavesAll,
+  LeavesEach,
   MakesAll,
 }
 
@@ -95,25 +96,36 @@ CallMakesDisk = (d : Disk) (t t' : Table) (call : TableCall) (s u : State) → I
     → StoresOnly (IsTableWord t.geometry) s u → MakesCall t t' call s u
     → IsOnDisk d t' u (Follows d.geometry (rows d) call)
 
--- k calls were made at this moment: each image has the rows after them, or after one more
-pub record HasDisksAt (d : Disk) (calls : List TableCall) (past : Option Past) (m : ℕ) : Type 0
-  where
-    pub k : ℕ
-    pub images : (c : List ℕ) → Left past m c
-        → HasRows d c (λ rs. After d.geometry calls (rows d) k rs ⊎ After d.geometry calls (rows d)
-        (k + 1) rs)
+-- the image has the rows after the first k calls, or after one more
+abbrev pub HasDiskAfter : Disk → List TableCall → ℕ → List ℕ → Type 0
+HasDiskAfter d calls k c = HasRows d c (λ rs. After d.geometry calls (rows d) k rs
+    ⊎ After d.geometry calls (rows d) (k + 1) rs)
 
--- so it is at each moment from old on
-pub record LeavesDisksAfter (d : Disk) (calls : List TableCall) (old new : State) : Type 0 where
-  pub extends : Extends old.past new.past
-  pub each : (m : ℕ) → moment old.past ≤ m → HasDisksAt d calls new.past m
+-- the first n calls were made, each at its moment
+pub record LeavesDisksAfter (d : Disk) (calls : List TableCall) (n : ℕ) (old new : State) : Type 0
+  where
+    pub extends : Extends old.past new.past
+    pub told : HasMoments (moment old.past) n new (HasDiskAfter d calls)
+
+-- some of the calls were made, from the first on
+pub record LeavesDisksSome (d : Disk) (calls : List TableCall) (old new : State) : Type 0 where
+  pub made : ℕ
+  pub few : made ≤ length calls
+  pub leaves : LeavesDisksAfter d calls made old new
 
 -- while calls are made
 abbrev pub CallsLeaveDisks : Type 0
 CallsLeaveDisks = (d : Disk) (t : Table) (calls : List TableCall) (s u : State) → IsValid d
     → Stands (DiskSays d) s → MayCallAll d s.now t calls → AllowsOn d calls
     → Agree u.now u.past → StoresOnly (IsTableWord t.geometry) s u → LeavesAll t calls s u
-    → LeavesDisksAfter d calls s u
+    → LeavesDisksSome d calls s u
+
+-- and where all of them were made
+abbrev pub CallsLeaveEach : Type 0
+CallsLeaveEach = (d : Disk) (t : Table) (calls : List TableCall) (s u : State) → IsValid d
+    → Stands (DiskSays d) s → MayCallAll d s.now t calls → AllowsOn d calls
+    → Agree u.now u.past → StoresOnly (IsTableWord t.geometry) s u → LeavesEach t calls s u
+    → LeavesDisksAfter d calls (length calls) s u
 
 -- in the end the device has the rows after all of them
 abbrev pub CallsMakeDisk : Type 0

@@ -80,8 +80,8 @@ module _ {D F : Type 0} (state : D → State) (w : Volume D F) (slot : ℕ) (to 
       falls x step some =
           let test = less_test x.done x.count some in
           let was : sharing_events (Some x) ≡ 3 * (x.count - x.done - 1) + 1 + 1 =
-              ap (λ (t : Bool). if t then 3 * (x.count - x.done - 1) + step_events x.step + 1 else 1) test
-              ∙ ap (λ (st : SharingStep). 3 * (x.count - x.done - 1) + step_events st + 1) step in
+          ap (λ (t : Bool). if t then 3 * (x.count - x.done - 1) + step_events x.step + 1 else 1) test
+          ∙ ap (λ (st : SharingStep). 3 * (x.count - x.done - 1) + step_events st + 1) step in
           by (nat_lt (x.done + 1) x.count) refl was
         where
           by : (t : Bool) → nat_lt (x.done + 1) x.count ≡ t → sharing_events (Some x) ≡ 3 * (x.count - x.done - 1) + 1 + 1

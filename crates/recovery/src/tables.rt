@@ -10,8 +10,8 @@ use pm_device::Pm;
 use pm_device::page::{PAGE_UNITS, fill_page};
 use pm_device::run::store_words;
 use pm_layout::{
-    FACT_NEXT, FACT_PAGE, FACT_WORDS, GATE_WORD, Geometry, INODE_WORDS, INODES_AT, LIVE, PAGE_WORDS, STATE, TAIL,
-    VERSION, VERSION_WORD,
+    FACT_NEXT, FACT_PAGE, FACT_WORDS, GATE_WORD, Geometry, INODE_WORDS, INODES_AT, LIVE,
+    PAGE_WORDS, STATE, TAIL, VERSION, VERSION_WORD,
 };
 
 // Whether the word is the state of an inode, or the tail of the root.

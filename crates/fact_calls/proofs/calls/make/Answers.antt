@@ -1,4 +1,5 @@
 use Rattle.std.proofs.Common.{arith}
+use Rattle.pm_device.proofs.AllFlushed.{settles_flushes}
 use Rattle.fact_counts.specs.Counted.{MayRaise, MaySettleUp, MaySettleDown, AnyRow}
 use Rattle.fact_counts.proofs.Counting.{on_ok_map}
 use Rattle.fact_calls.specs.declared.call.TableCall.TheVariants.{Insert, Raise, SettleUp, SettleDown, Recount, RemoveZero, ClearStale}
@@ -25,7 +26,7 @@ use Rattle.fact_calls.proofs.Called.{
   of_call-makes,
   of_call-may,
 }
-use Rattle.fact_calls.proofs.Words.{counts_in, insert_in, zero_in, stale_in}
+use Rattle.fact_calls.proofs.Words.{only_table, keeps_table, counts_in, insert_in, zero_in, stale_in}
 use Rattle.fact_calls.proofs.calls.make.Goals as goal
 
 pub insert-requires-clause-can : goal.insert-requires-clause-can
@@ -195,37 +196,81 @@ pub returns-in_err-insert-in-Insert-clause-only : goal.returns-in_err-insert-in-
 returns-in_err-insert-in-Insert-clause-only g c =
     let S = g.D.Pm.state in
     let can = c.requires.can in
-    let may = of_call-may can.disk (S c.args.device.now).now c.args.fact.now c.args.call.now (Insert c.in-Insert.print c.in-Insert.page)
-    c.in-Insert.is can.may in
-    insert_in can.disk (S c.args.device.now).now c.args.fact.now c.insert.new.fact c.in-Insert.print c.in-Insert.page
-    (insert_may can.disk (S c.args.device.now) c.args.fact.now c.in-Insert.print c.in-Insert.page may.table may.may) (S c.args.device.now)
-    (S c.insert.new.device) c.insert.ensures.only
+    let may = of_call-may can.disk (S c.args.device.now).now c.args.fact.now c.args.call.now (Insert c.in-Insert.print c.in-Insert.page) c.in-Insert.is
+    can.may in
+    only_table c.args.fact.now.geometry _ (insert_in can.disk (S c.args.device.now).now c.args.fact.now c.insert.new.fact c.in-Insert.print c.in-Insert.page
+    (insert_may can.disk (S c.args.device.now) c.args.fact.now c.in-Insert.print c.in-Insert.page may.table may.may))
+    (S c.args.device.now) (S c.insert.new.device) c.insert.ensures.only
+
+pub returns-in_err-insert-in-Insert-clause-others : goal.returns-in_err-insert-in-Insert-clause-others
+returns-in_err-insert-in-Insert-clause-others g c =
+    let S = g.D.Pm.state in
+    let can = c.requires.can in
+    let may = of_call-may can.disk (S c.args.device.now).now c.args.fact.now c.args.call.now (Insert c.in-Insert.print c.in-Insert.page) c.in-Insert.is
+    can.may in
+    keeps_table c.args.fact.now.geometry _ (insert_in can.disk (S c.args.device.now).now c.args.fact.now c.insert.new.fact c.in-Insert.print c.in-Insert.page
+    (insert_may can.disk (S c.args.device.now) c.args.fact.now c.in-Insert.print c.in-Insert.page may.table may.may))
+    (S c.args.device.now) (S c.insert.new.device) c.args.who c.insert.ensures.others
 
 pub returns-in_ok-insert-in-Insert-clause-only : goal.returns-in_ok-insert-in-Insert-clause-only
 returns-in_ok-insert-in-Insert-clause-only g c =
     let S = g.D.Pm.state in
     let can = c.requires.can in
-    let may = of_call-may can.disk (S c.args.device.now).now c.args.fact.now c.args.call.now (Insert c.in-Insert.print c.in-Insert.page)
-    c.in-Insert.is can.may in
-    insert_in can.disk (S c.args.device.now).now c.args.fact.now c.insert.new.fact c.in-Insert.print c.in-Insert.page
-    (insert_may can.disk (S c.args.device.now) c.args.fact.now c.in-Insert.print c.in-Insert.page may.table may.may) (S c.args.device.now)
-    (S c.insert.new.device) c.insert.ensures.only
+    let may = of_call-may can.disk (S c.args.device.now).now c.args.fact.now c.args.call.now (Insert c.in-Insert.print c.in-Insert.page) c.in-Insert.is
+    can.may in
+    only_table c.args.fact.now.geometry _ (insert_in can.disk (S c.args.device.now).now c.args.fact.now c.insert.new.fact c.in-Insert.print c.in-Insert.page
+    (insert_may can.disk (S c.args.device.now) c.args.fact.now c.in-Insert.print c.in-Insert.page may.table may.may))
+    (S c.args.device.now) (S c.insert.new.device) c.insert.ensures.only
+
+pub returns-in_ok-insert-in-Insert-clause-others : goal.returns-in_ok-insert-in-Insert-clause-others
+returns-in_ok-insert-in-Insert-clause-others g c =
+    let S = g.D.Pm.state in
+    let can = c.requires.can in
+    let may = of_call-may can.disk (S c.args.device.now).now c.args.fact.now c.args.call.now (Insert c.in-Insert.print c.in-Insert.page) c.in-Insert.is
+    can.may in
+    keeps_table c.args.fact.now.geometry _ (insert_in can.disk (S c.args.device.now).now c.args.fact.now c.insert.new.fact c.in-Insert.print c.in-Insert.page
+    (insert_may can.disk (S c.args.device.now) c.args.fact.now c.in-Insert.print c.in-Insert.page may.table may.may))
+    (S c.args.device.now) (S c.insert.new.device) c.args.who c.insert.ensures.others
 
 pub returns-in-Raise-clause-only : goal.returns-in-Raise-clause-only
 returns-in-Raise-clause-only g c =
     let S = g.D.Pm.state in
     let can = c.requires.can in
-    let may = of_call-may can.disk (S c.args.device.now).now c.args.fact.now c.args.call.now (Raise c.in-Raise.slot) c.in-Raise.is can.may in
-    counts_in can.disk (S c.args.device.now).now c.args.fact.now may.table c.in-Raise.slot may.may.row
-    (record { there = may.may.there; slot_is = may.may.slot_is }) (S c.args.device.now) (S c.raise.new.device) c.raise.ensures.only
+    let may = of_call-may can.disk (S c.args.device.now).now c.args.fact.now c.args.call.now (Raise c.in-Raise.slot) c.in-Raise.is
+    can.may in
+    only_table c.args.fact.now.geometry _ (counts_in can.disk (S c.args.device.now).now c.args.fact.now may.table c.in-Raise.slot may.may.row
+    (record { there = may.may.there; slot_is = may.may.slot_is }))
+    (S c.args.device.now) (S c.raise.new.device) c.raise.ensures.only
+
+pub returns-in-Raise-clause-others : goal.returns-in-Raise-clause-others
+returns-in-Raise-clause-others g c =
+    let S = g.D.Pm.state in
+    let can = c.requires.can in
+    let may = of_call-may can.disk (S c.args.device.now).now c.args.fact.now c.args.call.now (Raise c.in-Raise.slot) c.in-Raise.is
+    can.may in
+    keeps_table c.args.fact.now.geometry _ (counts_in can.disk (S c.args.device.now).now c.args.fact.now may.table c.in-Raise.slot may.may.row
+    (record { there = may.may.there; slot_is = may.may.slot_is }))
+    (S c.args.device.now) (S c.raise.new.device) c.args.who c.raise.ensures.others
 
 pub returns-in-SettleUp-clause-only : goal.returns-in-SettleUp-clause-only
 returns-in-SettleUp-clause-only g c =
     let S = g.D.Pm.state in
     let can = c.requires.can in
-    let may = of_call-may can.disk (S c.args.device.now).now c.args.fact.now c.args.call.now (SettleUp c.in-SettleUp.slot) c.in-SettleUp.is can.may in
-    counts_in can.disk (S c.args.device.now).now c.args.fact.now may.table c.in-SettleUp.slot may.may.row
-    (record { there = may.may.there; slot_is = may.may.slot_is }) (S c.args.device.now) (S c.settle_up.new.device) c.settle_up.ensures.only
+    let may = of_call-may can.disk (S c.args.device.now).now c.args.fact.now c.args.call.now (SettleUp c.in-SettleUp.slot) c.in-SettleUp.is
+    can.may in
+    only_table c.args.fact.now.geometry _ (counts_in can.disk (S c.args.device.now).now c.args.fact.now may.table c.in-SettleUp.slot may.may.row
+    (record { there = may.may.there; slot_is = may.may.slot_is }))
+    (S c.args.device.now) (S c.settle_up.new.device) c.settle_up.ensures.only
+
+pub returns-in-SettleUp-clause-others : goal.returns-in-SettleUp-clause-others
+returns-in-SettleUp-clause-others g c =
+    let S = g.D.Pm.state in
+    let can = c.requires.can in
+    let may = of_call-may can.disk (S c.args.device.now).now c.args.fact.now c.args.call.now (SettleUp c.in-SettleUp.slot) c.in-SettleUp.is
+    can.may in
+    keeps_table c.args.fact.now.geometry _ (counts_in can.disk (S c.args.device.now).now c.args.fact.now may.table c.in-SettleUp.slot may.may.row
+    (record { there = may.may.there; slot_is = may.may.slot_is }))
+    (S c.args.device.now) (S c.settle_up.new.device) c.args.who c.settle_up.ensures.others
 
 pub returns-in-SettleDown-clause-only : goal.returns-in-SettleDown-clause-only
 returns-in-SettleDown-clause-only g c =
@@ -233,17 +278,39 @@ returns-in-SettleDown-clause-only g c =
     let can = c.requires.can in
     let may = of_call-may can.disk (S c.args.device.now).now c.args.fact.now c.args.call.now (SettleDown c.in-SettleDown.slot) c.in-SettleDown.is
     can.may in
-    counts_in can.disk (S c.args.device.now).now c.args.fact.now may.table c.in-SettleDown.slot may.may.row
-    (record { there = may.may.there; slot_is = may.may.slot_is }) (S c.args.device.now) (S c.settle_down.new.device) c.settle_down.ensures.only
+    only_table c.args.fact.now.geometry _ (counts_in can.disk (S c.args.device.now).now c.args.fact.now may.table c.in-SettleDown.slot may.may.row
+    (record { there = may.may.there; slot_is = may.may.slot_is }))
+    (S c.args.device.now) (S c.settle_down.new.device) c.settle_down.ensures.only
+
+pub returns-in-SettleDown-clause-others : goal.returns-in-SettleDown-clause-others
+returns-in-SettleDown-clause-others g c =
+    let S = g.D.Pm.state in
+    let can = c.requires.can in
+    let may = of_call-may can.disk (S c.args.device.now).now c.args.fact.now c.args.call.now (SettleDown c.in-SettleDown.slot) c.in-SettleDown.is
+    can.may in
+    keeps_table c.args.fact.now.geometry _ (counts_in can.disk (S c.args.device.now).now c.args.fact.now may.table c.in-SettleDown.slot may.may.row
+    (record { there = may.may.there; slot_is = may.may.slot_is }))
+    (S c.args.device.now) (S c.settle_down.new.device) c.args.who c.settle_down.ensures.others
 
 pub returns-in-Recount-clause-only : goal.returns-in-Recount-clause-only
 returns-in-Recount-clause-only g c =
     let S = g.D.Pm.state in
     let can = c.requires.can in
-    let may = of_call-may can.disk (S c.args.device.now).now c.args.fact.now c.args.call.now (Recount c.in-Recount.slot c.in-Recount.rfc)
-    c.in-Recount.is can.may in
-    counts_in can.disk (S c.args.device.now).now c.args.fact.now may.table c.in-Recount.slot may.may.row
-    (record { there = may.may.there; slot_is = may.may.slot_is }) (S c.args.device.now) (S c.recount.new.device) c.recount.ensures.only
+    let may = of_call-may can.disk (S c.args.device.now).now c.args.fact.now c.args.call.now (Recount c.in-Recount.slot c.in-Recount.rfc) c.in-Recount.is
+    can.may in
+    only_table c.args.fact.now.geometry _ (counts_in can.disk (S c.args.device.now).now c.args.fact.now may.table c.in-Recount.slot may.may.row
+    (record { there = may.may.there; slot_is = may.may.slot_is }))
+    (S c.args.device.now) (S c.recount.new.device) c.recount.ensures.only
+
+pub returns-in-Recount-clause-others : goal.returns-in-Recount-clause-others
+returns-in-Recount-clause-others g c =
+    let S = g.D.Pm.state in
+    let can = c.requires.can in
+    let may = of_call-may can.disk (S c.args.device.now).now c.args.fact.now c.args.call.now (Recount c.in-Recount.slot c.in-Recount.rfc) c.in-Recount.is
+    can.may in
+    keeps_table c.args.fact.now.geometry _ (counts_in can.disk (S c.args.device.now).now c.args.fact.now may.table c.in-Recount.slot may.may.row
+    (record { there = may.may.there; slot_is = may.may.slot_is }))
+    (S c.args.device.now) (S c.recount.new.device) c.args.who c.recount.ensures.others
 
 pub returns-in-RemoveZero-clause-only : goal.returns-in-RemoveZero-clause-only
 returns-in-RemoveZero-clause-only g c =
@@ -252,12 +319,59 @@ returns-in-RemoveZero-clause-only g c =
     let may = of_call-may can.disk (S c.args.device.now).now c.args.fact.now c.args.call.now (RemoveZero c.in-RemoveZero.slot) c.in-RemoveZero.is
     can.may in
     let zero = zero_may can.disk (S c.args.device.now) c.args.fact.now c.in-RemoveZero.slot may.table may.may in
-    zero_in can.disk may.may.row (S c.args.device.now).now c.args.fact.now c.in-RemoveZero.slot zero (S c.args.device.now)
-    (S c.remove_zero.new.device) (c.remove_zero.ensures.only can.disk may.may.row zero)
+    only_table c.args.fact.now.geometry _ (zero_in can.disk may.may.row (S c.args.device.now).now c.args.fact.now c.in-RemoveZero.slot zero)
+    (S c.args.device.now) (S c.remove_zero.new.device) (c.remove_zero.ensures.only can.disk may.may.row zero)
 
 pub returns-in-ClearStale-clause-only : goal.returns-in-ClearStale-clause-only
 returns-in-ClearStale-clause-only g c =
     let S = g.D.Pm.state in
     let can = c.requires.can in
-    stale_in can.disk c.args.fact.now.geometry can.may.table.geometry (S c.args.device.now) (S c.clear_stale.new.device)
-    (c.clear_stale.ensures.only can.disk can.may.table)
+    only_table c.args.fact.now.geometry _ (stale_in can.disk c.args.fact.now.geometry can.may.table.geometry)
+    (S c.args.device.now) (S c.clear_stale.new.device) (c.clear_stale.ensures.only can.disk can.may.table)
+
+pub returns-in-RemoveZero-clause-others : goal.returns-in-RemoveZero-clause-others
+returns-in-RemoveZero-clause-others g c =
+    let S = g.D.Pm.state in
+    let can = c.requires.can in
+    let may = of_call-may can.disk (S c.args.device.now).now c.args.fact.now c.args.call.now (RemoveZero c.in-RemoveZero.slot) c.in-RemoveZero.is
+    can.may in
+    let zero = zero_may can.disk (S c.args.device.now) c.args.fact.now c.in-RemoveZero.slot may.table may.may in
+    keeps_table c.args.fact.now.geometry _ (zero_in can.disk may.may.row (S c.args.device.now).now c.args.fact.now c.in-RemoveZero.slot zero)
+    (S c.args.device.now) (S c.remove_zero.new.device) c.args.who (c.remove_zero.ensures.others can.disk may.may.row zero)
+
+pub returns-in-ClearStale-clause-others : goal.returns-in-ClearStale-clause-others
+returns-in-ClearStale-clause-others g c =
+    let S = g.D.Pm.state in
+    let can = c.requires.can in
+    keeps_table c.args.fact.now.geometry _ (stale_in can.disk c.args.fact.now.geometry can.may.table.geometry)
+    (S c.args.device.now) (S c.clear_stale.new.device) c.args.who (c.clear_stale.ensures.others can.disk can.may.table)
+
+pub returns-in-Raise-clause-flushes : goal.returns-in-Raise-clause-flushes
+returns-in-Raise-clause-flushes g c =
+    let S = g.D.Pm.state in
+    on_ok_map c.raise.result _ _ (settles_flushes c.args.who (S c.args.device.now) (S c.raise.new.device)) c.raise.ensures.settles
+
+pub returns-in-SettleUp-clause-flushes : goal.returns-in-SettleUp-clause-flushes
+returns-in-SettleUp-clause-flushes g c =
+    let S = g.D.Pm.state in
+    on_ok_map c.settle_up.result _ _ (settles_flushes c.args.who (S c.args.device.now) (S c.settle_up.new.device)) c.settle_up.ensures.settles
+
+pub returns-in-SettleDown-clause-flushes : goal.returns-in-SettleDown-clause-flushes
+returns-in-SettleDown-clause-flushes g c =
+    let S = g.D.Pm.state in
+    on_ok_map c.settle_down.result _ _ (settles_flushes c.args.who (S c.args.device.now) (S c.settle_down.new.device)) c.settle_down.ensures.settles
+
+pub returns-in-Recount-clause-flushes : goal.returns-in-Recount-clause-flushes
+returns-in-Recount-clause-flushes g c =
+    let S = g.D.Pm.state in
+    on_ok_map c.recount.result _ _ (settles_flushes c.args.who (S c.args.device.now) (S c.recount.new.device)) c.recount.ensures.settles
+
+pub returns-in-RemoveZero-clause-flushes : goal.returns-in-RemoveZero-clause-flushes
+returns-in-RemoveZero-clause-flushes g c =
+    let S = g.D.Pm.state in
+    on_ok_map c.remove_zero.result _ _ (settles_flushes c.args.who (S c.args.device.now) (S c.remove_zero.new.device)) c.remove_zero.ensures.settles
+
+pub returns-in_ok-insert-in-Insert-clause-flushes : goal.returns-in_ok-insert-in-Insert-clause-flushes
+returns-in_ok-insert-in-Insert-clause-flushes g c =
+    let S = g.D.Pm.state in
+    settles_flushes c.args.who (S c.args.device.now) (S c.insert.new.device) c.in_ok-insert-in-Insert.ensures.settles

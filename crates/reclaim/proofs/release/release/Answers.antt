@@ -24,8 +24,7 @@ returns-else-ready_release-clause-agrees g c =
 
 pub returns-else-ready_release-clause-event : goal.returns-else-ready_release-clause-event
 returns-else-ready_release-clause-event g c = λ d v.
-    let made : MakesRoom g.D.Pm.state c.args.v.now c.ready_release.new.v = record { same = c.ready_release.ensures.same; parts = c.ready_release.ensures.parts; trace = c.ready_release.ensures.trace; len = c.ready_release.ensures.len; capacity = c.ready_release.ensures.capacity; spare = c.ready_release.ensures.spare } in
-    (
+    let made : MakesRoom g.D.Pm.state c.args.v.now c.ready_release.new.v = record { same = c.ready_release.ensures.same; parts = c.ready_release.ensures.parts; trace = c.ready_release.ensures.trace; len = c.ready_release.ensures.len; capacity = c.ready_release.ensures.capacity; spare = c.ready_release.ensures.spare } in (
       room_untouched g.D.Pm.state c.args.v.now c.ready_release.new.v made (g.met.D.Pm.agree c.args.v.now.device) d v,
       release_work d c.args.v.now.parts (g.D.Pm.state c.args.v.now.device) v c.requires.some c.requires.unraised,
       not_begun c.args.v.now.parts c.requires.unchecked c.requires.unraised,
