@@ -1,8 +1,9 @@
 // Images word by word: the first fault of each, and what the inodes of a sound one are used for.
-use crate::head::{MAGIC, geometry_of, head_fault};
+use crate::head::{geometry_of, head_fault};
 use crate::inodes::{InodeUse, inode_fault, use_of_inode};
 use crate::journal::rolled_copy;
 use dn_model::ImageFault;
+use pm_layout::MAGIC;
 use std::alloc::{AllocError, Global};
 use std::test::Fail;
 
