@@ -17,12 +17,12 @@ module _ (nodes : List InodeState) (i : ℕ) (x : InodeState) (lt : i < length n
   least_here dies = record { is = record { node = x; there = read_at nodes i x lt is; has = dies }; least = before }
 
   pub none_before : (dies : Bool) → dies ≡ false → (IsDyingState x → dies ≡ true) → (k : ℕ) → k < i + 1 → IsDying nodes k → ⊥
-  none_before dies no tells k below at = elim (cases_lt k i) [
+  none_before dies isnt tells k below at = elim (cases_lt k i) [
     | inl low ↦ before k low at
     | inr high ↦
         let same : k ≡ i = omega (arith, below, high) in
         let node : at.node ≡ x = same_some (slice_get nodes i) at.node x (ap (slice_get nodes) (sym same) ∙ at.there) (read_at nodes i x lt is) in
-        false≢true (sym no ∙ tells (subst IsDyingState node at.has))
+        false≢true (sym isnt ∙ tells (subst IsDyingState node at.has))
   ]
 
 pub none_at_all : (nodes : List InodeState) (i : ℕ) → length nodes ≤ i → ((k : ℕ) → k < i → IsDying nodes k → ⊥) → (k : ℕ) → IsDying nodes k → ⊥

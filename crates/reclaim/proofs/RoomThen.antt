@@ -14,7 +14,7 @@ use Rattle.dn_volume.specs.Parties.{SameOthers, KeepsOps, flight_at}
 use Rattle.dn_volume.specs.Agrees.{IsVolume, Agrees, agrees_with}
 use Rattle.dn_volume.specs.Begins.{IsUntouched}
 use Rattle.dn_volume.specs.Events.{Counts, Moves, MovesOn, Breaks}
-use Rattle.dn_volume.specs.Works.{Works}
+use Rattle.dn_volume.specs.Works.{Works, ReclaimRests}
 use Rattle.reclaim.specs.RoomMade.{MakesRoom}
 use Rattle.reclaim.proofs.Roomy.{leaves_since, rose_since, room_volume}
 
@@ -110,6 +110,12 @@ module _ {D F : Type 0} (state : D → State) (w w1 : Volume D F) (made : MakesR
     works_since left rests held NotYours is = absurd is
     works_since left rests held NoMemory is = untouched_since is
     works_since left rests held Stopped is = breaks_since None is
+
+  -- so it is where it rests as nothing waits
+  pub rests_since : (w2 : Volume D F) (print : Print) (who : ℕ) (d : Disk) (left : Volume D F → ℕ → Type 0) (held : ℕ → Type 0) (outcome : Outcome)
+      → Works state print who left (ReclaimRests w1.parts) held w1 w2 d outcome → Works state print who left (ReclaimRests w.parts) held w w2 d outcome
+  rests_since w2 print who d left held outcome is =
+      works_since w2 print who d left (ReclaimRests w.parts) held outcome (subst (λ (n : ℕ). Works state print who left (n ≡ 0) held w1 w2 d outcome) (same_part (λ p. p.reclaiming.waiting) refl) is)
 
   pub room_agrees : Agree (state w.device).now (state w.device).past → (d : Disk) → IsVolume d w.parts (state w.device) → Agrees state w1
   room_agrees agree d v = agrees_with d (room_is agree d v)

@@ -142,7 +142,7 @@ images_now print d s g fast agree = record {
     old = unread_images d 0 0 (λ a v told inside. omega (arith, inside.1)) s s (stores_only-none (IsIn 0 0) s agree) fast.stands fast.valid agree fast.long
 
 -- the word that decides is told still
-before_at : (slot b : ℕ) (rs : List Row) → (slot_before b rs slot ≡ b) ⊎ ((r : Row) × Contains rs r × (r.slot ≡ slot_before b rs slot) × (r.slot ≢ slot))
+pub before_at : (slot b : ℕ) (rs : List Row) → (slot_before b rs slot ≡ b) ⊎ ((r : Row) × Contains rs r × (r.slot ≡ slot_before b rs slot) × (r.slot ≢ slot))
 before_at slot b [] = inl refl
 before_at slot b (x ∷ rs) = elim (cases_eq x.slot slot) [
   | inl here ↦ inl (before_here slot b x rs here)
@@ -151,7 +151,7 @@ before_at slot b (x ∷ rs) = elim (cases_eq x.slot slot) [
       ⊎_elim (λ first. inr (x, listed_here x rs, sym (step ∙ first), there)) (λ later. inr (later.0, listed_later x rs later.0 later.1, later.2 ∙ sym step, later.3)) (before_at slot x.slot rs)
 ]
 
-without_kept : (slot : ℕ) (rs : List Row) (r : Row) → Contains rs r → r.slot ≢ slot → Contains (without slot rs) r
+pub without_kept : (slot : ℕ) (rs : List Row) (r : Row) → Contains rs r → r.slot ≢ slot → Contains (without slot rs) r
 without_kept slot [] r has ne = absurd (omega (arith, has.1))
 without_kept slot (x ∷ rs) r has ne = ⊎_elim
     (λ (first : x ≡ r).
@@ -163,7 +163,7 @@ without_kept slot (x ∷ rs) r has ne = ⊎_elim
       | inr there ↦ subst (λ (ys : List Row). Contains ys r) (sym (without_other slot x rs there)) (listed_later x (without slot rs) r still)
     ]) (listed_cases x rs r has)
 
-next_told : (g : Geometry) (rs : List Row) (r : Row) → Contains rs r → (v : ℕ) × RowsSay g rs (slot_word g r.slot 5) v
+pub next_told : (g : Geometry) (rs : List Row) (r : Row) → Contains rs r → (v : ℕ) × RowsSay g rs (slot_word g r.slot 5) v
 next_told g [] r has = absurd (omega (arith, has.1))
 next_told g (x ∷ rs) r has = ⊎_elim
     (λ (first : x ≡ r). (_, at_next (ap (λ (y : Row). slot_word g y.slot 5) (sym first)) refl))

@@ -1,24 +1,22 @@
-use Rattle.std.proofs.Common.{rules, ◌≡◌, ◌⊎◌, ◌≤◌, true, false, None, vec_len, vec_capacity, ℕ, ◌+◌, ◌-◌, ◌*◌, ◌<◌, length, ◌/◌, ◌%◌, Bool, nat_eq, nat_lt, List, [], ◌∷◌, ◌++◌, slice_index_or, slice_set, bit_and, bit_or, Fits, w8, w32, w64, Bor, MutBor}
-use Rattle.std.specs.VecDeque.{deque_len, deque_capacity}
-use Rattle.pm_device.specs.State.{IsSame}
-use Rattle.dn_model.specs.Disk.{Disk}
-use Rattle.dn_volume.specs.Agrees.{Agrees, IsVolume}
-use Rattle.dn_volume.specs.Works.{Works, ReclaimLeft, ReclaimRests}
-use Rattle.reclaim.specs.RoomMade.{MakesRoom, HasRoomFor}
+use Rattle.dn_volume.specs.Works.{ReclaimLeft}
+use Rattle.dn_volume.proofs.Tables.{running_disk}
+use Rattle.reclaim.proofs.RoomThen.{room_is, room_untouched, room_agrees, rests_since}
 use Rattle.reclaim.proofs.order.reclaim.Goals as goal
 
--- src/order.rt:78:9
 pub begin_work-requires-clause-agrees : goal.begin_work-requires-clause-agrees
-begin_work-requires-clause-agrees g c = ?
+begin_work-requires-clause-agrees g c =
+    let found = running_disk g.D.Pm.state c.args.v.now c.requires.running c.requires.agrees in
+    room_agrees g.D.Pm.state c.args.v.now c.make_room.new.v c.make_room.ensures.makes (g.met.D.Pm.agree c.args.v.now.device) found.0 found.1
 
--- src/order.rt:62:1
 pub returns-then-make_room-clause-event : goal.returns-then-make_room-clause-event
-returns-then-make_room-clause-event g c = ?
+returns-then-make_room-clause-event g c = λ d v.
+    rests_since g.D.Pm.state c.args.v.now c.make_room.new.v c.make_room.ensures.makes c.begin_work.new.v g.F.Fingerprint.print 16 d ReclaimLeft (λ q. ⊥) c.begin_work.result
+    (c.begin_work.ensures.event d (room_is g.D.Pm.state c.args.v.now c.make_room.new.v c.make_room.ensures.makes (g.met.D.Pm.agree c.args.v.now.device) d v))
 
--- src/order.rt:62:1
 pub returns-else-make_room-clause-agrees : goal.returns-else-make_room-clause-agrees
-returns-else-make_room-clause-agrees g c = ?
+returns-else-make_room-clause-agrees g c =
+    let found = running_disk g.D.Pm.state c.args.v.now c.requires.running c.requires.agrees in
+    room_agrees g.D.Pm.state c.args.v.now c.make_room.new.v c.make_room.ensures.makes (g.met.D.Pm.agree c.args.v.now.device) found.0 found.1
 
--- src/order.rt:62:1
 pub returns-else-make_room-clause-event : goal.returns-else-make_room-clause-event
-returns-else-make_room-clause-event g c = ?
+returns-else-make_room-clause-event g c = λ d v. room_untouched g.D.Pm.state c.args.v.now c.make_room.new.v c.make_room.ensures.makes (g.met.D.Pm.agree c.args.v.now.device) d v
