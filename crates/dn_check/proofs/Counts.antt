@@ -50,13 +50,15 @@ module _ (f : ℕ → ℕ) where
       list = old.list;
       small = λ k has. omega (arith, old.small k has);
       some = old.some;
-      all = λ k lt is. ⊎_elim (λ (e : n ≡ k). absurd (is (ap f (sym e) ∙ none))) (λ (ne : n ≡ k → ⊥). old.all k (omega (arith, lt, ne)) is) (cases_eq n k);
+      all = λ k lt is. ⊎_elim (λ (e : n ≡ k). absurd (is (ap f (sym e) ∙ none))) (λ (ne : n ≡ k → ⊥). old.all k (omega (arith, lt, ne)) is)
+          (cases_eq n k);
       different = old.different;
       count = let last : one_at n ≡ 0 = ap (λ (b : Bool). if b then 0 else 1) (same_test (f n) 0 none) in omega (arith, old.count, last);
     }
     | inr is ↦ record {
       list = n ∷ old.list;
-      small = λ k has. ⊎_elim (λ (e : n ≡ k). omega (arith, e)) (λ (more : Contains old.list k). omega (arith, old.small k more)) (cons_cases n k old.list has);
+      small = λ k has. ⊎_elim (λ (e : n ≡ k). omega (arith, e)) (λ (more : Contains old.list k). omega (arith, old.small k more))
+          (cons_cases n k old.list has);
       some = λ k has. ⊎_elim (λ (e : n ≡ k). subst (λ (j : ℕ). f j ≢ 0) e is) (old.some k) (cons_cases n k old.list has);
       all = λ k lt some. ⊎_elim
           (λ (e : n ≡ k). subst (Contains (n ∷ old.list)) e (here n old.list))
@@ -75,6 +77,8 @@ pub mapped_total : (d : Disk) (n : ℕ) → ((page : ℕ) → IsMapped d page �
 unfolding mapped_in
 mapped_total d n inside so =
     let all = listed (mappings d) d.geometry.pages in
-    let more = distinct-le so.0 all.list so.2 (λ page has. let is = (so.1 page).0 has in all.all page (inside page is) (λ none. let some = (counts_mappings d page).1 is in omega (arith, some, none))) in
-    let less = distinct-le all.list so.0 all.different (λ page has. let some = all.some page has in (so.1 page).1 ((counts_mappings d page).0 (omega (arith, some)))) in
+    let more = distinct-le so.0 all.list so.2 (λ page has. let is = (so.1 page).0 has in all.all page (inside page is)
+    (λ none. let some = (counts_mappings d page).1 is in omega (arith, some, none))) in
+    let less = distinct-le all.list so.0 all.different (λ page has. let some = all.some page has in
+    (so.1 page).1 ((counts_mappings d page).0 (omega (arith, some)))) in
     omega (arith, more, less, so.3, all.count)

@@ -54,16 +54,23 @@ module _ (c : List ℕ) (g : Geometry) (read : ImageRead) (whole : IsWhole g rea
   pages_are = ap (λ (h : Geometry). h.pages) p.geometry
 
   pub counted : IsCounted d read.logs.in_logs.items read.logs.mapped.items
-  counted = record { long_logs = whole.long_logs ∙ sym pages_are; long_mapped = whole.long_mapped ∙ sym pages_are; logs = p.counted.in_logs; places = p.counted.mapped }
+  counted = record {
+    long_logs = whole.long_logs ∙ sym pages_are;
+    long_mapped = whole.long_mapped ∙ sym pages_are;
+    logs = p.counted.in_logs;
+    places = p.counted.mapped;
+  }
 
   logs_read : HasReadLogs d
   logs_read = p.pointers.table.links.logs.logs
 
   -- pages
-  pub double_is : (page : ℕ) → ((e : Disk) → IsCounted e read.logs.in_logs.items read.logs.mapped.items → MarksRows e read.table.has_row.items → IsLeast e.geometry.pages (IsDouble e) page) → FaultOf c (DoubleMapped page)
+  pub double_is : (page : ℕ) → ((e : Disk) → IsCounted e read.logs.in_logs.items read.logs.mapped.items → MarksRows e read.table.has_row.items
+      → IsLeast e.geometry.pages (IsDouble e) page) → FaultOf c (DoubleMapped page)
   double_is page least = double_mapped d page p.pointers (least d counted p.marks)
 
-  module _ (single : (e : Disk) → IsCounted e read.logs.in_logs.items read.logs.mapped.items → MarksRows e read.table.has_row.items → HasReadLogs e → (page : ℕ) → IsDouble e page → ⊥) where
+  module _ (single : (e : Disk) → IsCounted e read.logs.in_logs.items read.logs.mapped.items → MarksRows e read.table.has_row.items → HasReadLogs e
+      → (page : ℕ) → IsDouble e page → ⊥) where
     none : (page : ℕ) → IsDouble d page → ⊥
     none = single d counted p.marks logs_read
 
@@ -72,13 +79,16 @@ module _ (c : List ℕ) (g : Geometry) (read : ImageRead) (whole : IsWhole g rea
     inside row there = let lt = All-contains (λ (r : Row). r.page < g.pages) found row whole.pages there in omega (arith, lt, pages_are)
 
     near_is : (row : Row) → Contains found row → IsNearBy mapped row → IsNear d (as_row row)
-    near_is row there near = subst (λ (n : ℕ). (n ≤ row.count.rfc + row.count.uc) × (row.count.rfc ≤ n + row.count.uc)) (p.counted.mapped row.page (inside row there)) near
+    near_is row there near = subst (λ (n : ℕ). (n ≤ row.count.rfc + row.count.uc) × (row.count.rfc ≤ n + row.count.uc))
+        (p.counted.mapped row.page (inside row there)) near
 
     is_near : (row : Row) → Contains found row → IsNear d (as_row row) → IsNearBy mapped row
-    is_near row there near = subst (λ (n : ℕ). (n ≤ row.count.rfc + row.count.uc) × (row.count.rfc ≤ n + row.count.uc)) (sym (p.counted.mapped row.page (inside row there))) near
+    is_near row there near = subst (λ (n : ℕ). (n ≤ row.count.rfc + row.count.uc) × (row.count.rfc ≤ n + row.count.uc))
+        (sym (p.counted.mapped row.page (inside row there))) near
 
     all_near : (rs : List Row) → ((row : Row) → Contains rs row → Contains found row) → All (IsNearBy mapped) rs → All (IsNear d) (map as_row rs)
-    all_near rs there near = All-map (IsNear d) as_row rs (all_listed (λ row. IsNear d (as_row row)) rs (λ row at. near_is row (there row at) (All-contains (IsNearBy mapped) rs row near at)))
+    all_near rs there near = All-map (IsNear d) as_row rs (all_listed (λ row. IsNear d (as_row row)) rs
+        (λ row at. near_is row (there row at) (All-contains (IsNearBy mapped) rs row near at)))
 
     pub far_is : (slot : ℕ) → IsFirstFar mapped found slot → FaultOf c (BadCount slot)
     far_is slot far =
@@ -86,9 +96,11 @@ module _ (c : List ℕ) (g : Geometry) (read : ImageRead) (whole : IsWhole g rea
         let in_front : (row : Row) → Contains far.front row → Contains found row =
         λ row there. subst (λ (rs : List Row). Contains rs row) (sym far.split) (Contains-append_left far.front rest row there) in
         let here : Contains found far.row = subst (λ (rs : List Row). Contains rs far.row) (sym far.split) (in_rest far.front far.row far.rest) in
-        let split : rows d ≡ map as_row far.front ++ as_row far.row ∷ map as_row far.rest = sym p.rows_are ∙ ap (map as_row) far.split ∙ map-append as_row far.front rest in
+        let split : rows d ≡ map as_row far.front ++ as_row far.row ∷ map as_row far.rest = sym p.rows_are ∙ ap (map as_row) far.split ∙ map-append
+        as_row far.front rest in
         subst (λ (n : ℕ). FaultOf c (BadCount n)) (sym far.slot_is)
-        (bad_count d (map as_row far.front) (map as_row far.rest) (as_row far.row) p.pointers none split (all_near far.front in_front far.near) (λ near. far.far (is_near far.row here near)))
+        (bad_count d (map as_row far.front) (map as_row far.rest) (as_row far.row) p.pointers none split (all_near far.front in_front far.near)
+        (λ near. far.far (is_near far.row here near)))
       where
         in_rest : (front : List Row) (row : Row) (rest : List Row) → Contains (front ++ row ∷ rest) row
         in_rest front row rest = Contains-append_right front (row ∷ rest) row (listed_here row rest)
@@ -98,16 +110,19 @@ module _ (c : List ℕ) (g : Geometry) (read : ImageRead) (whole : IsWhole g rea
       near_d = subst (All (IsNear d)) p.rows_are (all_near found (λ row there. there) near)
 
       -- free pages
-      pub crowded_is : (free : ℕ) → ((e : Disk) → e.geometry ≡ g → IsCounted e read.logs.in_logs.items read.logs.mapped.items → HasFree e free) → free < 2 → FaultOf c (Crowded free)
+      pub crowded_is : (free : ℕ) → ((e : Disk) → e.geometry ≡ g → IsCounted e read.logs.in_logs.items read.logs.mapped.items → HasFree e free)
+          → free < 2 → FaultOf c (Crowded free)
       crowded_is free has few = crowded d free p.pointers none near_d (has d p.geometry counted) few
 
-      module _ (free : ℕ) (has : (e : Disk) → e.geometry ≡ g → IsCounted e read.logs.in_logs.items read.logs.mapped.items → HasFree e free) (many : 2 ≤ free) where
+      module _ (free : ℕ) (has : (e : Disk) → e.geometry ≡ g → IsCounted e read.logs.in_logs.items read.logs.mapped.items → HasFree e free)
+          (many : 2 ≤ free) where
         has_free : HasFree d free
         has_free = has d p.geometry counted
 
         by_free : FreePages d → StandsFor c d
         by_free (are_few n is few) = let same = free_one d n free is has_free in absurd (omega (arith, same, few, many))
-        by_free (are_two one other ne free_one free_other) = passing c d p.pointers p.pages (single_from d none) near_d one other ne free_one free_other
+        by_free (are_two one other ne free_one free_other) = passing c d p.pointers p.pages (single_from d none) near_d one other ne free_one
+            free_other
 
         stands : StandsFor c d
         stands = by_free (free_pages_are_counted d)
@@ -124,13 +139,16 @@ module _ (c : List ℕ) (g : Geometry) (read : ImageRead) (whole : IsWhole g rea
 
         exact_disk : All (IsExactBy mapped) found → Exact d
         exact_disk all = record {
-          counts = subst (All IsExactRow) p.rows_are (All-map IsExactRow as_row found (all_listed (λ row. IsExactRow (as_row row)) found (λ row there. exact_row row there (All-contains (IsExactBy mapped) found row all there))));
+          counts = subst (All IsExactRow) p.rows_are
+              (All-map IsExactRow as_row found (all_listed (λ row. IsExactRow (as_row row)) found
+              (λ row there. exact_row row there (All-contains (IsExactBy mapped) found row all there))));
           unshared = (single_from d none).unshared;
         }
 
         disk_exact : Exact d → All (IsExactBy mapped) found
         disk_exact exact = all_listed (IsExactBy mapped) found (λ row there.
-            row_exact row there (All-contains IsExactRow (map as_row found) (as_row row) (subst (All IsExactRow) (sym p.rows_are) exact.counts) (map_there found row there)))
+            row_exact row there (All-contains IsExactRow (map as_row found) (as_row row) (subst (All IsExactRow) (sym p.rows_are) exact.counts)
+            (map_there found row there)))
 
         mapped_inside : (page : ℕ) → IsMapped d page → page < d.geometry.pages
         mapped_inside page is = (mapped_in_data d logs_read page is).high

@@ -13,11 +13,13 @@ pub record HasMarked (wanted : List ℕ) (n : ℕ) (marks : List Bool) : Type 0 
 pub none_marked : (wanted : List ℕ) (marks : List Bool) → length marks ≡ length wanted → HasMarked wanted 0 marks
 none_marked wanted marks long = record { long = long; marked = λ k lt. absurd (omega (arith, lt)) }
 
-pub one_more : (wanted : List ℕ) (n : ℕ) (marks : List Bool) (b : Bool) → HasMarked wanted n marks → n < length wanted → b ≡ not (slice_index wanted n == 0) → HasMarked wanted (n + 1) (slice_set marks n b)
+pub one_more : (wanted : List ℕ) (n : ℕ) (marks : List Bool) (b : Bool) → HasMarked wanted n marks → n < length wanted
+    → b ≡ not (slice_index wanted n == 0) → HasMarked wanted (n + 1) (slice_set marks n b)
 one_more wanted n marks b has lt is = record {
   long = length-set marks n b ∙ has.long;
   marked = λ k low. elim (cases_eq k n) [
-    | inl e ↦ ap (λ (j : ℕ). slice_index_or (slice_set marks n b) j false) e ∙ get_or-set_same marks n b false (omega (arith, lt, has.long)) ∙ is ∙ ap (λ (j : ℕ). not (slice_index wanted j == 0)) (sym e)
+    | inl e ↦ ap (λ (j : ℕ). slice_index_or (slice_set marks n b) j false) e ∙ get_or-set_same marks n b false (omega (arith, lt, has.long)) ∙ is ∙ ap
+        (λ (j : ℕ). not (slice_index wanted j == 0)) (sym e)
     | inr ne ↦ get_or-set_other marks n k b false ne ∙ has.marked k (omega (arith, low, ne))
   ];
 }

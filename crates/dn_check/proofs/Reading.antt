@@ -7,7 +7,27 @@ use Rattle.dn_model.specs.Rolled.{rolled}
 use Rattle.dn_model.specs.LogFault.{LogFault}
 use Rattle.dn_model.specs.Disk.{Disk, Use, Free, Live, Dying, at_state, IsUsed, state_number}
 use Rattle.dn_model.specs.Valid.{IsLinked}
-use Rattle.dn_model.specs.Faults.{IsLeast, HasGate, IsBadInode, HasInodes, HasLogs, geometry_of, FaultOf, not_an_image, wrong_version, bad_geometry, bad_journal, bad_inode, bad_log, bad_link, bad_table, bad_pointer, double_mapped, bad_count, crowded}
+use Rattle.dn_model.specs.Faults.{
+  IsLeast,
+  HasGate,
+  IsBadInode,
+  HasInodes,
+  HasLogs,
+  geometry_of,
+  FaultOf,
+  not_an_image,
+  wrong_version,
+  bad_geometry,
+  bad_journal,
+  bad_inode,
+  bad_log,
+  bad_link,
+  bad_table,
+  bad_pointer,
+  double_mapped,
+  bad_count,
+  crowded,
+}
 use Rattle.dn_model.specs.declared.fault.ImageFault.{ImageFault}
 use Rattle.dn_model.specs.declared.fault.ImageFault.TheVariants.{BadInode, BadLink}
 use Rattle.law_image_read.proofs.ImageRead.{read_to_links}
@@ -35,10 +55,12 @@ module _ (c : List ℕ) (gate : HasGate c) (inodes : (ino : ℕ) → ino < slice
   inodes_are = has_inodes c gate inodes
 
   module _ (faultless : (ino place : ℕ) → ino < slice_index c 3 → IsInUse (rolled c) ino → LogFault (geometry_of c) (rolled c) ino place → ⊥) where
-    no_fault : (d : Disk) (ino place : ℕ) → HasInodes c d → ino < d.geometry.inodes → IsUsed (d.inode ino).use_of → LogFault d.geometry (rolled c) ino place → ⊥
+    no_fault : (d : Disk) (ino place : ℕ) → HasInodes c d → ino < d.geometry.inodes → IsUsed (d.inode ino).use_of → LogFault d.geometry (rolled c) ino
+        place → ⊥
     no_fault d ino place has lt used fault =
         faultless ino place (subst (λ (g : Geometry). ino < g.inodes) has.geometry lt)
-        (used_state (d.inode ino).use_of (slice_index (rolled c) (inode_word ino 0)) (has.reads (inode_word ino 0) (state_number (d.inode ino).use_of) (at_state ino lt refl refl)) used)
+        (used_state (d.inode ino).use_of (slice_index (rolled c) (inode_word ino 0)) (has.reads (inode_word ino 0) (state_number (d.inode ino).use_of)
+        (at_state ino lt refl refl)) used)
         (subst (λ (g : Geometry). LogFault g (rolled c) ino place) has.geometry fault)
 
     by_fault : (f : ImageFault) → FaultOf c f → (d : Disk) × HasLogs c d
@@ -76,7 +98,8 @@ module _ (g : Geometry) (r : List ℕ) (good : HasGoodInodes g r) where
 
   module _ (logs : LogsRead) (read : AreRead g r logs) where
     has_logs : (c : List ℕ) → IsRolled c g r → (d : Disk) × HasLogs c d
-    has_logs c is = logs_are c is.gate (good_in c is) (along c g r is (λ h words. (ino place : ℕ) → ino < h.inodes → IsInUse words ino → LogFault h words ino place → ⊥) read.faultless)
+    has_logs c is = logs_are c is.gate (good_in c is) (along c g r is (λ h words. (ino place : ℕ) → ino < h.inodes → IsInUse words ino
+        → LogFault h words ino place → ⊥) read.faultless)
 
     named_in : (c : List ℕ) (is : IsRolled c g r) (d : Disk) → HasLogs c d → IsNamed (geometry_of c) (rolled c) logs.names.map d
     named_in c is d has = record {
@@ -87,16 +110,19 @@ module _ (g : Geometry) (r : List ℕ) (good : HasGoodInodes g r) where
 
     -- the first bad link is the image's fault, or there is none
     abbrev pub IsBadLink : ℕ → Geometry → List ℕ → Type 0
-    IsBadLink ino h words = (d : Disk) → IsNamed h words logs.names.map d → IsLeast d.geometry.inodes (λ i. (1 ≤ i) × (IsLinked d i (d.inode i).use_of → ⊥)) ino
+    IsBadLink ino h words = (d : Disk) → IsNamed h words logs.names.map d
+        → IsLeast d.geometry.inodes (λ i. (1 ≤ i) × (IsLinked d i (d.inode i).use_of → ⊥)) ino
 
     abbrev pub AreWellLinked : Geometry → List ℕ → Type 0
     AreWellLinked h words = (d : Disk) → IsNamed h words logs.names.map d → (i : ℕ) → 1 ≤ i → i < d.geometry.inodes → IsLinked d i (d.inode i).use_of
 
     pub link_halts : (ino : ℕ) → IsBadLink ino g r → (c : List ℕ) → IsRolled c g r → FaultOf c (BadLink ino)
-    link_halts ino bad c is = let has = has_logs c is in bad_link has.0 ino has.1 (along c g r is (IsBadLink ino) bad has.0 (named_in c is has.0 has.1))
+    link_halts ino bad c is = let has = has_logs c is in bad_link has.0 ino has.1
+        (along c g r is (IsBadLink ino) bad has.0 (named_in c is has.0 has.1))
 
     pub are_linked : AreWellLinked g r → AreLinked g r
-    are_linked well c is = let has = has_logs c is in (has.0, record { logs = has.1; links = along c g r is AreWellLinked well has.0 (named_in c is has.0 has.1) })
+    are_linked well c is = let has = has_logs c is in
+        (has.0, record { logs = has.1; links = along c g r is AreWellLinked well has.0 (named_in c is has.0 has.1) })
 
 -- an inode with a fault is the image's
 pub inode_halts : (c : List ℕ) (g : Geometry) (r : List ℕ) (ino : ℕ) → IsRolled c g r → IsLeast g.inodes (IsBadInode r) ino → FaultOf c (BadInode ino)

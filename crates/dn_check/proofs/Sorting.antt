@@ -45,13 +45,16 @@ module _ (found sorted : List Row) (same : IsPermutation found sorted) (order : 
   rising : AreApart (map as_row found) → AllPairs (λ (r s : TableRow). r.slot < s.slot) (map as_row sorted)
   rising apart i j d lt jl =
       let long = length-map sorted as_row in
-      let at_i : get_or (map as_row sorted) i d ≡ as_row (get_or sorted i no_row) = get_or-map as_row sorted i no_row d (omega (arith, lt, jl, long)) in
+      let at_i : get_or (map as_row sorted) i d ≡ as_row (get_or sorted i no_row) = get_or-map as_row sorted i no_row d (omega (arith, lt, jl, long))
+      in
       let at_j : get_or (map as_row sorted) j d ≡ as_row (get_or sorted j no_row) = get_or-map as_row sorted j no_row d (omega (arith, jl, long)) in
       let up : (get_or sorted i no_row).slot ≤ (get_or sorted j no_row).slot = order i j no_row (omega (arith, lt)) (omega (arith, jl, long)) in
-      let distinct = IsDistinct-IsPermutation same_slot (λ r s. test_flips r.slot s.slot) (map as_row found) (map as_row sorted) same_rows (distinct_slots (map as_row found) apart) in
+      let distinct = IsDistinct-IsPermutation same_slot (λ r s. test_flips r.slot s.slot) (map as_row found) (map as_row sorted) same_rows
+      (distinct_slots (map as_row found) apart) in
       let other = apart_from_distinct same_slot (map as_row sorted) i j d distinct lt jl in
       below (get_or (map as_row sorted) i d).slot (get_or (map as_row sorted) j d).slot
-      (subst (λ (r : TableRow). r.slot ≤ (get_or (map as_row sorted) j d).slot) (sym at_i) (subst (λ (s : TableRow). (get_or sorted i no_row).slot ≤ s.slot) (sym at_j) up)) other
+      (subst (λ (r : TableRow). r.slot ≤ (get_or (map as_row sorted) j d).slot) (sym at_i)
+      (subst (λ (s : TableRow). (get_or sorted i no_row).slot ≤ s.slot) (sym at_j) up)) other
     where
       below : (m n : ℕ) → m ≤ n → (m == n) ≡ false → m < n
       below m n le test = elim (cases_eq m n) [
@@ -62,6 +65,8 @@ module _ (found sorted : List Row) (same : IsPermutation found sorted) (order : 
   pub rows_sorted : (d : Disk) → map as_row found ≡ rows d → AreApart (rows d) → AreRowsOf d (map as_row sorted)
   rows_sorted d are apart = record {
     sorted = rising (subst AreApart (sym are) apart);
-    of_disk = λ row there. subst (λ (rs : List TableRow). Contains rs row) are (Contains-permutation (map as_row sorted) (map as_row found) row (IsPermutation-sym (map as_row found) (map as_row sorted) same_rows) there);
-    all = λ row there. Contains-permutation (map as_row found) (map as_row sorted) row same_rows (subst (λ (rs : List TableRow). Contains rs row) (sym are) there);
+    of_disk = λ row there. subst (λ (rs : List TableRow). Contains rs row) are (Contains-permutation (map as_row sorted) (map as_row found) row
+        (IsPermutation-sym (map as_row found) (map as_row sorted) same_rows) there);
+    all = λ row there. Contains-permutation (map as_row found) (map as_row sorted) row same_rows (subst (λ (rs : List TableRow). Contains rs row)
+        (sym are) there);
   }

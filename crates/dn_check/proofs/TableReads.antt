@@ -31,7 +31,8 @@ use Rattle.dn_check.proofs.Reading.{along, said}
 -- the fault of the rows is the image's, where it passes the rules before
 pub rows_halt : (g : Geometry) (r : List ℕ) (fault : ScanFault) → IsFaultOf g r fault → IsTableHalt g r (halt_of_scan fault)
 rows_halt g r (BadRows slot) is = λ c d rolled_is links.
-    bad_table d slot links (subst (λ (h : Geometry). TableFault h (rolled c) slot) (sym links.logs.inodes.geometry) (along c g r rolled_is (λ h words. TableFault h words slot) is))
+    bad_table d slot links (subst (λ (h : Geometry). TableFault h (rolled c) slot) (sym links.logs.inodes.geometry)
+    (along c g r rolled_is (λ h words. TableFault h words slot) is))
 rows_halt g r NoMemoryForRows is = tt
 
 -- a pointer is wrong where the page is misled
@@ -51,7 +52,8 @@ module _ (g : Geometry) (r : List ℕ) (rs : List TableRow) (has : HasRows g r (
 
   pub wrong_from : (page : ℕ) → IsMisled g r rs page → IsWrong g r wanted page
   wrong_from page (inl past) = inl past
-  wrong_from page (inr bad) = bad_wrong g r rs has wanted are page (inr (bad.0, subst (λ (xs : List TableRow). Contains xs bad.0) (sym rows_are) bad.1, bad.2, bad.3))
+  wrong_from page (inr bad) = bad_wrong g r rs has wanted are page
+      (inr (bad.0, subst (λ (xs : List TableRow). Contains xs bad.0) (sym rows_are) bad.1, bad.2, bad.3))
 
   some_row : (o : Option TableRow) → IsSome o → is_some o ≡ true
   some_row None some = cc
@@ -71,8 +73,10 @@ module _ (g : Geometry) (r : List ℕ) (rs : List TableRow) (has : HasRows g r (
   ]
 
 -- what a table's words hold, as it is read
-pub table_is_read : (g : Geometry) (r : List ℕ) (found : Vec Row Global) (has : HasRows g r (directs g) (map as_row found.items)) (wanted : List ℕ) → ArePointers g (map as_row found.items) wanted
-    → ((page : ℕ) → page < g.pages → IsWrong g r wanted page → ⊥) → (marks : Vec Bool Global) → Marks wanted marks.items → IsTableRead g r (record { rows = found; has_row = marks })
+pub table_is_read : (g : Geometry) (r : List ℕ) (found : Vec Row Global) (has : HasRows g r (directs g) (map as_row found.items)) (wanted : List ℕ)
+    → ArePointers g (map as_row found.items) wanted
+    → ((page : ℕ) → page < g.pages → IsWrong g r wanted page → ⊥) → (marks : Vec Bool Global) → Marks wanted marks.items
+    → IsTableRead g r (record { rows = found; has_row = marks })
 table_is_read g r found has wanted are right marks marked = record {
   has = has;
   long = marked.long ∙ are.all;
@@ -108,7 +112,8 @@ module _ (c : List ℕ) (d : Disk) (links : HasLinks c d) (rs : List TableRow) (
   bad_same page = subst (λ (xs : List TableRow). IsMisled d.geometry (rolled c) xs page → IsMisled d.geometry (rolled c) rs page) e_rows (λ bad. bad)
 
   pub pointer_halts : (page : ℕ) → IsLeast d.geometry.pages IsBadPointer page → FaultOf c (BadPointer page)
-  pointer_halts page least = bad_pointer e page table (pointers_read (rolled c) d has.chain) (record { below = least.below; has = same_bad page least.has; least = λ m lt bad. least.least m lt (bad_same m bad) })
+  pointer_halts page least = bad_pointer e page table (pointers_read (rolled c) d has.chain)
+      (record { below = least.below; has = same_bad page least.has; least = λ m lt bad. least.least m lt (bad_same m bad) })
 
   module _ (led : (page : ℕ) → page < d.geometry.pages → IsBadPointer page → ⊥) where
     small : (page : ℕ) → page < d.geometry.pages → slice_index (rolled c) (pointer_word d.geometry page) ≤ slots d.geometry
@@ -151,7 +156,8 @@ module _ (c : List ℕ) (g : Geometry) (r : List ℕ) (is : IsRolled c g r) (d :
     IsMisledAt h words page = IsLeast h.pages (IsMisled h words rs) page
 
     pub misled_halts : (page : ℕ) → IsLeast g.pages (IsMisled g r rs) page → FaultOf c (BadPointer page)
-    misled_halts page least = pointer_halts c d links rs (here (λ h words. HasRows h words (directs h) rs) has) page (here (λ h words. IsMisledAt h words page) least)
+    misled_halts page least = pointer_halts c d links rs (here (λ h words. HasRows h words (directs h) rs) has) page
+        (here (λ h words. IsMisledAt h words page) least)
 
   module _ (logs : LogsRead) (logs_read : AreRead g r logs) (read : TableRead) (table_read : IsTableRead g r read) where
     t : IsTableRead d.geometry (rolled c) read
@@ -170,16 +176,20 @@ module _ (c : List ℕ) (g : Geometry) (r : List ℕ) (is : IsRolled c g r) (d :
       pointers = has_pointers;
       pages = pages c d links (map as_row read.rows.items) t.has t.led;
       counted = l.counted (e c d links (map as_row read.rows.items) t.has)
-          (subst (λ (h : Geometry). IsSaid h (rolled c) (e c d links (map as_row read.rows.items) t.has)) (sym links.logs.inodes.geometry) (said c (e c d links (map as_row read.rows.items) t.has) has_pointers.table.links.logs));
+          (subst (λ (h : Geometry). IsSaid h (rolled c) (e c d links (map as_row read.rows.items) t.has)) (sym links.logs.inodes.geometry)
+          (said c (e c d links (map as_row read.rows.items) t.has) has_pointers.table.links.logs));
       rows_are = e_rows c d links (map as_row read.rows.items) t.has;
-      marks = λ page lt. t.marked page lt ∙ ap (λ (xs : List TableRow). is_some (row_of xs page)) (e_rows c d links (map as_row read.rows.items) t.has);
+      marks = λ page lt. t.marked page lt ∙ ap (λ (xs : List TableRow). is_some (row_of xs page)) (e_rows c d links (map as_row read.rows.items)
+          t.has);
     }
 
-pub read_of_each : (g : Geometry) (r : List ℕ) (logs : LogsRead) (read : TableRead) → AreLinked g r → AreRead g r logs → IsTableRead g r read → IsReadOfEach g r (record { logs = logs; table = read })
+pub read_of_each : (g : Geometry) (r : List ℕ) (logs : LogsRead) (read : TableRead) → AreLinked g r → AreRead g r logs → IsTableRead g r read
+    → IsReadOfEach g r (record { logs = logs; table = read })
 read_of_each g r logs read linked logs_read table_read c is = let d = linked c is in passes c g r is d.0 d.1 logs logs_read read table_read
 
 -- the least wrong pointer is the image's fault
-pub pointer_fault_halts : (g : Geometry) (r : List ℕ) (rs : List TableRow) (has : HasRows g r (directs g) rs) (wanted : List ℕ) → ArePointers g rs wanted → (page : ℕ) → IsLeast g.pages (IsWrong g r wanted) page
+pub pointer_fault_halts : (g : Geometry) (r : List ℕ) (rs : List TableRow) (has : HasRows g r (directs g) rs) (wanted : List ℕ)
+    → ArePointers g rs wanted → (page : ℕ) → IsLeast g.pages (IsWrong g r wanted) page
     → (c : List ℕ) (d : Disk) → IsRolled c g r → HasLinks c d → FaultOf c (BadPointer page)
 pointer_fault_halts g r rs has wanted are page least c d is links = misled_halts c g r is d links rs has page (record {
   below = least.below;
@@ -188,5 +198,6 @@ pointer_fault_halts g r rs has wanted are page least c d is links = misled_halts
 })
 
 -- each row's page is one of the image
-pub pages_inside : (g : Geometry) (r : List ℕ) (found : List Row) → HasRows g r (directs g) (map as_row found) → All (λ (row : Row). row.page < g.pages) found
+pub pages_inside : (g : Geometry) (r : List ℕ) (found : List Row) → HasRows g r (directs g) (map as_row found)
+    → All (λ (row : Row). row.page < g.pages) found
 pages_inside g r found has = all_found found (λ row. row.page < g.pages) (page_small g r (map as_row found) has)

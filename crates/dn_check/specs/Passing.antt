@@ -1,5 +1,26 @@
 -- How far an image passes the rules.
-use Rattle.std.specs.Prelude.{◌≡◌, ◌≢◌, ◌⊎◌, ℕ, ◌+◌, ◌<◌, List, length, slice_index, map, Contains, All, Bool, true, false, not, is_some, slice_index_or, ◌↔◌, ◌==◌}
+use Rattle.std.specs.Prelude.{
+  ◌≡◌,
+  ◌≢◌,
+  ◌⊎◌,
+  ℕ,
+  ◌+◌,
+  ◌<◌,
+  List,
+  length,
+  slice_index,
+  map,
+  Contains,
+  All,
+  Bool,
+  true,
+  false,
+  not,
+  is_some,
+  slice_index_or,
+  ◌↔◌,
+  ◌==◌,
+}
 use Rattle.std.specs.List.Sorted.{IsPermutation, IsNonDecreasingBy}
 use Rattle.pm_device.specs.Reading.{Reads}
 use Rattle.pm_layout.specs.declared.Geometry.{Geometry}
@@ -23,7 +44,8 @@ use Rattle.dn_check.specs.declared.finding.Finding.TheVariants.{Sound}
 use Rattle.dn_check.specs.Finding.{Tells}
 use Rattle.dn_check.specs.RowCounts.{IsExactBy}
 
--- the image passes the rules of its head and its journal, with this geometry, and these are its words once it is rolled back
+-- the image passes the rules of its head and its journal, with this geometry, and these are its
+-- words once it is rolled back
 pub record IsRolled (c : List ℕ) (g : Geometry) (r : List ℕ) : Type 0 where
   pub gate : HasGate c
   pub geometry : g ≡ geometry_of c
@@ -44,23 +66,29 @@ AreLinked g r = (c : List ℕ) → IsRolled c g r → (d : Disk) × HasLinks c d
 
 -- this is the first fault of each that does
 abbrev pub IsTableHalt : Geometry → List ℕ → Halt → Type 0
-IsTableHalt g r (Fault fault) = (c : List ℕ) (d : Disk) → IsRolled c g r → HasLinks c d → FaultOf c fault
+IsTableHalt g r (Fault fault) = (c : List ℕ) (d : Disk) → IsRolled c g r → HasLinks c d
+    → FaultOf c fault
 IsTableHalt g r NoMemory = Unit {0}
 
--- a page whose pointer is above the number of slots, or that has a row to which its pointer doesn't lead
+-- a page whose pointer is above the number of slots, or that has a row to which its pointer doesn't
+-- lead
 abbrev pub IsMisled : Geometry → List ℕ → List TableRow → ℕ → Type 0
-IsMisled g r rs page = (slots g < slice_index r (pointer_word g page)) ⊎ ((row : TableRow) × Contains rs row × (row.page ≡ page) × (slice_index r (pointer_word g page) ≢ row.slot + 1))
+IsMisled g r rs page = (slots g < slice_index r (pointer_word g page))
+    ⊎ ((row : TableRow) × Contains rs row × (row.page ≡ page) × (slice_index r (pointer_word g page)
+    ≢ row.slot + 1))
 
 -- numbers other than 0 are marked
 pub record Marks (wanted : List ℕ) (marks : List Bool) : Type 0 where
   pub long : length marks ≡ length wanted
-  pub marked : (k : ℕ) → k < length wanted → slice_index_or marks k false ≡ not (slice_index wanted k == 0)
+  pub marked : (k : ℕ) → k < length wanted → slice_index_or marks k false ≡ not
+      (slice_index wanted k == 0)
 
 -- these are all rows of a table, the pages that have one are marked, and no page is misled
 pub record IsTableRead (g : Geometry) (r : List ℕ) (read : TableRead) : Type 0 where
   pub has : HasRows g r (directs g) (map as_row read.rows.items)
   pub long : length read.has_row.items ≡ g.pages
-  pub marked : (page : ℕ) → page < g.pages → slice_index_or read.has_row.items page false ≡ is_some (row_of (map as_row read.rows.items) page)
+  pub marked : (page : ℕ) → page < g.pages → slice_index_or read.has_row.items page false ≡ is_some
+      (row_of (map as_row read.rows.items) page)
   pub led : (page : ℕ) → page < g.pages → IsMisled g r (map as_row read.rows.items) page → ⊥
 
 -- what is read has a place for each page of the image
@@ -93,12 +121,14 @@ abbrev pub TellsEach : Geometry → List ℕ → Finding → Type 0
 TellsEach g r finding = (c : List ℕ) → IsRolled c g r → Tells c finding
 
 -- the numbers of what is read, and its rows in the order of their slots
-pub record AreNumbersRead (logs : LogsRead) (found : List Row) (free : ℕ) (finding : Finding) : Type 0 where
+pub record AreNumbersRead (logs : LogsRead) (found : List Row) (free : ℕ) (finding : Finding) : Type
+    0 where
   pub sorted : List Row
   pub mapped : ℕ
   pub exact : Bool
   pub is : finding ≡ Sound logs.files logs.dying sorted mapped free exact
   pub same : IsPermutation found sorted
   pub order : IsNonDecreasingBy (λ (row : Row). row.slot) sorted
-  pub mapped_is : (d : Disk) (in_logs : List ℕ) → IsCounted d in_logs logs.mapped.items → HasReadLogs d → HasSo (IsMapped d) mapped
+  pub mapped_is : (d : Disk) (in_logs : List ℕ) → IsCounted d in_logs logs.mapped.items
+      → HasReadLogs d → HasSo (IsMapped d) mapped
   pub exact_is : (exact ≡ true) ↔ All (IsExactBy logs.mapped.items) found

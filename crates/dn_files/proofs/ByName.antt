@@ -1,5 +1,49 @@
 -- The map that a list of files is, as files come, change and go.
-use Rattle.std.proofs.Common.{◌≡◌, ◌≢◌, ℕ, suc, ◌+◌, ◌<◌, Bool, true, false, List, [], ◌∷◌, ◌++◌, length, get_or, take, drop, set, is_ok, IsTrue, Option, Some, None, IsSome, Result, Ok, Err, IfOk, IfErr, refl, sym, ap, subst, ◌∙◌, inl, inr, arith, take-append-drop, drop-cons, get_or-take, get_or-drop, length-take, length-drop}
+use Rattle.std.proofs.Common.{
+  ◌≡◌,
+  ◌≢◌,
+  ℕ,
+  suc,
+  ◌+◌,
+  ◌<◌,
+  Bool,
+  true,
+  false,
+  List,
+  [],
+  ◌∷◌,
+  ◌++◌,
+  length,
+  get_or,
+  take,
+  drop,
+  set,
+  is_ok,
+  IsTrue,
+  Option,
+  Some,
+  None,
+  IsSome,
+  Result,
+  Ok,
+  Err,
+  IfOk,
+  IfErr,
+  refl,
+  sym,
+  ap,
+  subst,
+  ◌∙◌,
+  inl,
+  inr,
+  arith,
+  take-append-drop,
+  drop-cons,
+  get_or-take,
+  get_or-drop,
+  length-take,
+  length-drop,
+}
 use Rattle.std.specs.Prelude.{All, if◌then◌else◌}
 use Rattle.std.specs.List.{AllWithin, insert, remove}
 use Rattle.std.specs.List.Sorted.{IsSearchInRange, IsBinarySearchResult, IsSortedBy}
@@ -44,14 +88,17 @@ IsOther q file = same_name file.name q ≡ false
 none_of_others : (q : List ℕ) (xs : List FileText) → All (IsOther q) xs → files_of xs q ≡ None
 none_of_others q [] others = refl
 none_of_others q (x ∷ xs) others =
-    ap (λ (b : Bool). if b then Some x.bytes else files_of xs q) (All-head (IsOther q) x xs others) ∙ none_of_others q xs (All-tail (IsOther q) x xs others)
+    ap (λ (b : Bool). if b then Some x.bytes else files_of xs q) (All-head (IsOther q) x xs others) ∙ none_of_others q xs
+    (All-tail (IsOther q) x xs others)
 
 past_others : (q : List ℕ) (xs ys : List FileText) → All (IsOther q) xs → files_of (xs ++ ys) q ≡ files_of ys q
 past_others q [] ys others = refl
 past_others q (x ∷ xs) ys others =
-    ap (λ (b : Bool). if b then Some x.bytes else files_of (xs ++ ys) q) (All-head (IsOther q) x xs others) ∙ past_others q xs ys (All-tail (IsOther q) x xs others)
+    ap (λ (b : Bool). if b then Some x.bytes else files_of (xs ++ ys) q) (All-head (IsOther q) x xs others) ∙ past_others q xs ys
+    (All-tail (IsOther q) x xs others)
 
-without_other : (q : List ℕ) (xs : List FileText) (e : FileText) (ys : List FileText) → IsOther q e → files_of (xs ++ e ∷ ys) q ≡ files_of (xs ++ ys) q
+without_other : (q : List ℕ) (xs : List FileText) (e : FileText) (ys : List FileText) → IsOther q e → files_of (xs ++ e ∷ ys) q ≡ files_of (xs ++ ys)
+    q
 without_other q [] e ys other = ap (λ (b : Bool). if b then Some e.bytes else files_of ys q) other
 without_other q (x ∷ xs) e ys other = ap (λ (r : Option (List ℕ)). if same_name x.name q then Some x.bytes else r) (without_other q xs e ys other)
 
@@ -72,9 +119,11 @@ pub record Ends (list : List FileText) (name : List ℕ) (r : Result ℕ ℕ) : 
   pub absent : IfErr r (IsPlaceFor list name)
 
 is_sorted : (list : List FileText) → AreRising list → IsSortedBy (λ a b. is_lt (compare a.name b.name)) list
-is_sorted list rising k d low high = ap is_lt (nat_list_cmp_total.antisymm (get_or list (k + 1) d).name (get_or list k d).name ∙ ap ordering_reverse (rising k (k + 1) d (omega arith) high))
+is_sorted list rising k d low high = ap is_lt (nat_list_cmp_total.antisymm (get_or list (k + 1) d).name (get_or list k d).name ∙ ap ordering_reverse
+    (rising k (k + 1) d (omega arith) high))
 
-pub searched : (list : List FileText) (name : List ℕ) → AreRising list → (r : Result ℕ ℕ) → IsSearchInRange r (length list) → IsBinarySearchResult (λ file. compare file.name name) list r → Ends list name r
+pub searched : (list : List FileText) (name : List ℕ) → AreRising list → (r : Result ℕ ℕ) → IsSearchInRange r (length list)
+    → IsBinarySearchResult (λ file. compare file.name name) list r → Ends list name r
 searched list name rising (Ok at) within equal = record {
   found = record { within = within; name_is = λ d. slice_cmp-IsAntisymmetric nat_cmp-IsAntisymmetric _ _ (equal d) };
   absent = tt;
@@ -100,7 +149,8 @@ module _ (list : List FileText) (name : List ℕ) (at : ℕ) where
 
     pub none_there : files_of list name ≡ None
     none_there =
-        sym (ap (λ (xs : List FileText). files_of xs name) (take-append-drop at list)) ∙ past_others name (take at list) (drop at list) front_other ∙ none_of_others name (drop at list) back_other
+        sym (ap (λ (xs : List FileText). files_of xs name) (take-append-drop at list)) ∙ past_others name (take at list) (drop at list) front_other ∙
+        none_of_others name (drop at list) back_other
 
     pub inserted : (e : FileText) → e.name ≡ name → IsSameFiles (files_of (insert list at e)) (with_file (files_of list) name (Some e.bytes))
     inserted e is q = by_test (same_name name q) refl
@@ -127,15 +177,19 @@ module _ (list : List FileText) (name : List ℕ) (at : ℕ) where
       where
         by_test : (t : Bool) → same_name name q ≡ t → files_of list q ≡ with_file (files_of list) name None q
         by_test true same =
-            subst (λ (n : List ℕ). files_of list n ≡ None) (same_name-true name q same) none_there ∙ sym (ap (λ (b : Bool). if b then None else files_of list q) same)
+            subst (λ (n : List ℕ). files_of list n ≡ None) (same_name-true name q same) none_there ∙ sym
+            (ap (λ (b : Bool). if b then None else files_of list q) same)
         by_test false other = sym (ap (λ (b : Bool). if b then None else files_of list q) other)
 
   module _ (rising : AreRising list) (there : IsFileAt list name at) where
     before : All (IsOther name) (take at list)
-    before = all_front (IsOther name) list at (λ k d low high. lower_other _ name (subst (λ (n : List ℕ). compare (get_or list k d).name n ≡ Less) (there.name_is d) (rising k at d high there.within)))
+    before = all_front (IsOther name) list at (λ k d low high. lower_other _ name (subst (λ (n : List ℕ). compare (get_or list k d).name n ≡ Less)
+        (there.name_is d) (rising k at d high there.within)))
 
     after : All (IsOther name) (drop (suc at) list)
-    after = all_back (IsOther name) list (suc at) (λ k d low high. higher_other _ name (subst (λ (n : List ℕ). compare n (get_or list k d).name ≡ Less) (there.name_is d) (rising at k d (omega arith) high)))
+    after = all_back (IsOther name) list (suc at)
+        (λ k d low high. higher_other _ name (subst (λ (n : List ℕ). compare n (get_or list k d).name ≡ Less) (there.name_is d)
+        (rising at k d (omega arith) high)))
 
     split : (d : FileText) → take at list ++ get_or list at d ∷ drop (suc at) list ≡ list
     split d = ap (λ (ys : List FileText). take at list ++ ys) (sym (drop-cons list at d there.within)) ∙ take-append-drop at list
@@ -145,11 +199,13 @@ module _ (list : List FileText) (name : List ℕ) (at : ℕ) where
         let is : (get_or list at d).name ≡ name = there.name_is d in
         let others : All (IsOther (get_or list at d).name) (take at list) = subst (λ (n : List ℕ). All (IsOther n) (take at list)) (sym is) before in
         ap (λ (xs : List FileText). files_of xs name) (sym (split d))
-        ∙ subst (λ (n : List ℕ). files_of (take at list ++ get_or list at d ∷ drop (suc at) list) n ≡ Some (get_or list at d).bytes) is (at_first (take at list) (get_or list at d) (drop (suc at) list) others)
+        ∙ subst (λ (n : List ℕ). files_of (take at list ++ get_or list at d ∷ drop (suc at) list) n ≡ Some (get_or list at d).bytes) is
+        (at_first (take at list) (get_or list at d) (drop (suc at) list) others)
 
     rest_same : (d : FileText) (q : List ℕ) → same_name name q ≡ false → files_of (take at list ++ drop (suc at) list) q ≡ files_of list q
     rest_same d q other =
-        sym (without_other q (take at list) (get_or list at d) (drop (suc at) list) (subst (λ (n : List ℕ). same_name n q ≡ false) (sym (there.name_is d)) other))
+        sym (without_other q (take at list) (get_or list at d) (drop (suc at) list) (subst (λ (n : List ℕ). same_name n q ≡ false)
+        (sym (there.name_is d)) other))
         ∙ ap (λ (xs : List FileText). files_of xs q) (split d)
 
     pub removed : FileText → IsSameFiles (files_of (remove list at)) (with_file (files_of list) name None)
@@ -157,7 +213,8 @@ module _ (list : List FileText) (name : List ℕ) (at : ℕ) where
       where
         by_test : (t : Bool) → same_name name q ≡ t → files_of (remove list at) q ≡ with_file (files_of list) name None q
         by_test true same =
-            subst (λ (n : List ℕ). files_of (remove list at) n ≡ None) (same_name-true name q same) (past_others name (take at list) (drop (suc at) list) before ∙ none_of_others name (drop (suc at) list) after)
+            subst (λ (n : List ℕ). files_of (remove list at) n ≡ None) (same_name-true name q same)
+            (past_others name (take at list) (drop (suc at) list) before ∙ none_of_others name (drop (suc at) list) after)
             ∙ sym (ap (λ (b : Bool). if b then None else files_of list q) same)
         by_test false other = rest_same d q other ∙ sym (ap (λ (b : Bool). if b then None else files_of list q) other)
 
@@ -169,7 +226,8 @@ module _ (list : List FileText) (name : List ℕ) (at : ℕ) where
             let q_is : e.name ≡ q = is ∙ same_name-true name q same in
             let others : All (IsOther e.name) (take at list) = subst (λ (n : List ℕ). All (IsOther n) (take at list)) (sym is) before in
             ap (λ (xs : List FileText). files_of xs q) (set_split list at e there.within)
-            ∙ subst (λ (n : List ℕ). files_of (take at list ++ e ∷ drop (suc at) list) n ≡ Some e.bytes) q_is (at_first (take at list) e (drop (suc at) list) others)
+            ∙ subst (λ (n : List ℕ). files_of (take at list ++ e ∷ drop (suc at) list) n ≡ Some e.bytes) q_is
+            (at_first (take at list) e (drop (suc at) list) others)
             ∙ sym (ap (λ (b : Bool). if b then Some e.bytes else files_of list q) same)
         by_test false other =
             ap (λ (xs : List FileText). files_of xs q) (set_split list at e there.within)
@@ -181,10 +239,15 @@ no_file : FileText
 no_file = record { name = []; bytes = [] }
 
 -- a search tells whether the name leads to a file
-pub search_tells : (list : List FileText) (name : List ℕ) → AreRising list → (r : Result ℕ ℕ) → IfOk r (IsFileAt list name) → IfErr r (IsPlaceFor list name)
+pub search_tells : (list : List FileText) (name : List ℕ) → AreRising list → (r : Result ℕ ℕ) → IfOk r (IsFileAt list name)
+    → IfErr r (IsPlaceFor list name)
     → (IsTrue (is_ok r) → IsSome (files_of list name)) × (IsSome (files_of list name) → IsTrue (is_ok r))
 search_tells list name rising (Ok at) there place = (λ _. subst IsSome (sym (file_there list name at rising there no_file)) refl, λ _. refl)
-search_tells list name rising (Err at) there place = (λ wrong. cc, λ some. absurd (none_some (files_of list name) (none_there list name at place) some))
+search_tells list name rising (Err at) there place = (
+  λ wrong. cc,
+  λ some. absurd (none_some (files_of list name) (none_there list name at place)
+      some),
+)
   where
     none_some : (o : Option (List ℕ)) → o ≡ None → IsSome o → ⊥
     none_some None none some = cc

@@ -1,5 +1,18 @@
 -- Files as a list, by name.
-use Rattle.std.specs.Prelude.{◌≡◌, ℕ, ◌<◌, ◌≤◌, if◌then◌else◌, List, [], ◌∷◌, length, Some, None, AllPairs}
+use Rattle.std.specs.Prelude.{
+  ◌≡◌,
+  ℕ,
+  ◌<◌,
+  ◌≤◌,
+  if◌then◌else◌,
+  List,
+  [],
+  ◌∷◌,
+  length,
+  Some,
+  None,
+  AllPairs,
+}
 use Rattle.std.specs.List.{AllWithin, HoldsAt}
 use Rattle.std.specs.Ordering.{nat_cmp}
 use Rattle.std.specs.Cmp.Lexicographic.{slice_cmp}
@@ -14,7 +27,8 @@ use Rattle.dn_files.specs.declared.files.FileText.{FileText}
 -- the map from names to bytes that a list of files is
 abbrev pub files_of : List FileText → Files
 files_of [] name = None
-files_of (file ∷ rest) name = if same_name file.name name then Some file.bytes else files_of rest name
+files_of (file ∷ rest) name = if same_name file.name name then Some file.bytes else files_of rest
+    name
 
 -- the names rise in the order of their bytes
 abbrev pub AreRising : List FileText → Type 0
@@ -31,8 +45,10 @@ pub record IsPlaceFor (list : List FileText) (name : List ℕ) (at : ℕ) : Type
   pub lower : AllWithin (λ file. slice_cmp nat_cmp file.name name ≡ Less) list 0 at
   pub higher : AllWithin (λ file. slice_cmp nat_cmp name file.name ≡ Less) list at (length list)
 
--- What an operation answers, without want of room, and what it makes of the files: a refusal leaves them.
+-- What an operation answers, without want of room, and what it makes of the files: a refusal leaves
+-- them.
 pub record Applies (old new : List FileText) (op : Op) (reply : Reply) : Type 0 where
   pub replies : Replies (files_of old) op reply
-  pub granted : IsGranted (files_of old) op → IsSameFiles (files_of new) (after_op (files_of old) op)
+  pub granted : IsGranted (files_of old) op
+      → IsSameFiles (files_of new) (after_op (files_of old) op)
   pub refused : (IsGranted (files_of old) op → ⊥) → new ≡ old

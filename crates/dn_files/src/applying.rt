@@ -6,15 +6,10 @@ ghost use Rattle.dn_model.specs.Apply.{Replies, Grants, IsGranted, after_op, Fin
 ghost use Rattle.dn_files.specs.FileLists.{files_of, Applies};
 
 use crate::files::Files;
-use dn_model::{ByteText, NoMemory, Op, Refusal, Reply};
+use dn_model::{ByteText, MOST_BYTES, NoMemory, Op, Refusal, Reply};
+use log_entry::MOST_SIZE;
 use log_entry::name::is_legal;
 use std::alloc::Global;
-
-/// The most bytes that one operation reads or writes.
-const MOST_BYTES: u64 = 65536;
-
-/// The most bytes that a file has.
-const MOST_SIZE: u64 = 16_777_216;
 
 // Whether the names of the operation are names that a file may have.
 fn has_legal_names(op: &Op) -> bool
@@ -115,7 +110,8 @@ fn byte_at(bytes: &[u8], j: usize) -> u8
 // A byte of a file after a write.
 fn written_byte(old: &[u8], at: usize, new: &[u8], j: usize) -> u8
     requires { at + length new.now ≤ MOST_SIZE }
-    ensures { result ≡ (if nat_le at j && nat_lt j (at + length new.now) then slice_index new.now (j - at) else slice_index old.now j) }
+    ensures { result ≡ (if nat_le at j && nat_lt j (at + length new.now) then slice_index new.now
+        (j - at) else slice_index old.now j) }
 {
     if at <= j && j < at + new.len() {
         new[j - at]
@@ -162,7 +158,9 @@ fn part(alloc: Global, bytes: &[u8], at: u64, count: u64) -> Result<Vec<u8>, NoM
 fn write(alloc: Global, files: &mut Files, name: &[u8], at: u64, new: &[u8]) -> Result<(), NoMemory>
     requires legal { IsLegal name.now }
     requires inside { (new.now ≡ []) ⊎ (at + length new.now ≤ MOST_SIZE) }
-    ensures ok { OnOk result (IsSameFiles (files_of files.new) (after_op (files_of files.old) (Op.Write name.now at new.now))) }
+    ensures ok { OnOk result
+        (IsSameFiles (files_of files.new)
+        (after_op (files_of files.old) (Op.Write name.now at new.now))) }
     ensures err { OnErr result (files.new ≡ files.old) }
 {
     if new.is_empty() {
@@ -183,7 +181,9 @@ fn is_same(name: &[u8], other: &[u8]) -> bool
 fn rename(alloc: Global, files: &mut Files, from: &[u8], to: &[u8]) -> Result<(), NoMemory>
     requires legal { IsLegal to.now }
     requires found { IsSome (files_of files.old from.now) }
-    ensures ok { OnOk result (IsSameFiles (files_of files.new) (after_op (files_of files.old) (Op.Rename from.now to.now))) }
+    ensures ok { OnOk result
+        (IsSameFiles (files_of files.new)
+        (after_op (files_of files.old) (Op.Rename from.now to.now))) }
     ensures err { OnErr result (files.new ≡ files.old) }
 {
     if is_same(from, to) {
@@ -198,7 +198,8 @@ fn rename(alloc: Global, files: &mut Files, from: &[u8], to: &[u8]) -> Result<()
 // Makes of the files what the operation asks, where nothing stands in its way.
 fn change(alloc: Global, files: &mut Files, op: &Op) -> Result<(), NoMemory>
     requires { IsGranted (files_of files.old) op.now }
-    ensures ok { OnOk result (IsSameFiles (files_of files.new) (after_op (files_of files.old) op.now)) }
+    ensures ok { OnOk result
+        (IsSameFiles (files_of files.new) (after_op (files_of files.old) op.now)) }
     ensures err { OnErr result (files.new ≡ files.old) }
 {
     match op {

@@ -81,7 +81,9 @@ impl Files {
     /// Lets the name lead to these bytes, and to no others.
     pub(crate) fn put(&mut self, alloc: Global, name: &[u8], bytes: Vec<u8>) -> Result<(), NoMemory>
         requires { IsLegal name.now }
-        ensures ok { OnOk result (IsSameFiles (files_of self.new) (with_file (files_of self.old) name.now (Some bytes.items))) }
+        ensures ok { OnOk result
+            (IsSameFiles (files_of self.new)
+            (with_file (files_of self.old) name.now (Some bytes.items))) }
         ensures err { OnErr result (self.new ≡ self.old) }
     {
         match search(&self.files, name) {

@@ -20,9 +20,16 @@ empty_inode (suc k) = record { use_of = Free; log = no_log }
 
 -- no page has a row, no pointer leads anywhere, and no page is mapped
 abbrev pub empty_disk : Geometry → Disk
-empty_disk g = record { geometry = g; inode = empty_inode; chain = λ p. []; pointer = λ page. 0; word = λ page k. 0 }
+empty_disk g = record {
+  geometry = g;
+  inode = empty_inode;
+  chain = λ p. [];
+  pointer = λ page. 0;
+  word = λ page k. 0;
+}
 
--- An image that a stop leaves while words w are formatted: they are as they were, or the image isn't one yet, or it
+-- An image that a stop leaves while words w are formatted: they are as they were, or the image
+-- isn't one yet, or it
 -- is one without files.
 abbrev pub IsFormatting : Geometry → List ℕ → List ℕ → Type 0
 IsFormatting g w c = (c ≡ w) ⊎ FaultOf c NotAnImage ⊎ StandsFor c (empty_disk g)
@@ -34,4 +41,5 @@ pub record IsFormatted (g : Geometry) (w : List ℕ) (s : State) : Type 0 where
   pub still : Still s
   pub own : (print : Print) → Own s.now print
   pub no_files : (name : List ℕ) → files (empty_disk g) name ≡ None
-  pub unread : (a : ℕ) → (Said (DiskSays (empty_disk g)) a → ⊥) → slice_index s.now a ≡ slice_index w a
+  pub unread : (a : ℕ) → (Said (DiskSays (empty_disk g)) a → ⊥) → slice_index s.now a ≡ slice_index
+      w a

@@ -1,5 +1,19 @@
 -- The numbers of a disk, as a check tells them.
-use Rattle.std.specs.Prelude.{◌≡◌, ◌↔◌, ℕ, zero, suc, ◌<◌, Bool, true, if◌then◌else◌, ◌==◌, List, Contains, AllPairs}
+use Rattle.std.specs.Prelude.{
+  ◌≡◌,
+  ◌↔◌,
+  ℕ,
+  zero,
+  suc,
+  ◌<◌,
+  Bool,
+  true,
+  if◌then◌else◌,
+  ◌==◌,
+  List,
+  Contains,
+  AllPairs,
+}
 use Rattle.dn_model.specs.Table.{Row}
 use Rattle.dn_model.specs.Disk.{Disk, Use, Free, Live, Dying, rows}
 use Rattle.dn_model.specs.Counts.{total, mappings, Exact}
@@ -35,7 +49,8 @@ pub record AreRowsOf (d : Disk) (rs : List Row) : Type 0 where
   pub all : (row : Row) → Contains (rows d) row → Contains rs row
 
 -- the numbers of a disk
-pub record AreNumbersOf (d : Disk) (files dying : ℕ) (rs : List Row) (mapped free : ℕ) (exact : Bool) : Type 0 where
+pub record AreNumbersOf (d : Disk) (files dying : ℕ) (rs : List Row) (mapped free : ℕ)
+    (exact : Bool) : Type 0 where
   pub files_are : files ≡ files_in d
   pub dying_are : dying ≡ dying_in d
   pub rows_are : AreRowsOf d rs

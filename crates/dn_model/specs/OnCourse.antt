@@ -22,9 +22,11 @@ pub record IsImageOf (print : Print) (f : Files) (c : List ℕ) : Type 0 where
 abbrev pub LeavesOneOf : Print → Files → Files → State → State → Type 0
 LeavesOneOf print f g s t = LeavesOnly s t (λ c. IsImageOf print f c ⊎ IsImageOf print g c)
 
--- The history leads from old to f, and so does each longer one to what it leads to from f; each image that a stop
+-- The history leads from old to f, and so does each longer one to what it leads to from f; each
+-- image that a stop
 -- may leave now has the files f.
-pub record IsOnCourse (print : Print) (old : Files) (start : ℕ) (history : List Entry) (f : Files) (s : State) : Type 0 where
+pub record IsOnCourse (print : Print) (old : Files) (start : ℕ) (history : List Entry) (f : Files)
+    (s : State) : Type 0 where
   pub course : Course print old start history None s
   pub leads : (more : List Entry) (g : Files) → Legal f more g → Legal old (history ++ more) g
   pub now : LeavesNow s (IsImageOf print f)

@@ -21,7 +21,8 @@ pub record HasOneFile (d : Disk) (name : List ℕ) : Type 0 where
   pub no_rows : (p : ℕ) → d.chain p ≡ []
   pub no_pointers : (page : ℕ) → page < d.geometry.pages → d.pointer page ≡ 0
 
--- The words have no fault and stand for this disk of one file, which has this name. The gate is closed, and the name
+-- The words have no fault and stand for this disk of one file, which has this name. The gate is
+-- closed, and the name
 -- fits into one slot.
 pub record IsOneFile (w : List ℕ) (d : Disk) (name : List ℕ) : Type 0 where
   pub stands_for : StandsFor w d

@@ -19,7 +19,7 @@ use Rattle.dn_volume.specs.declared.flight.Flight.{Flight}
 use Rattle.dn_volume.specs.declared.volume.Parts.{Parts}
 use Rattle.dn_volume.specs.declared.volume.Room.{Room}
 use Rattle.dn_volume.specs.declared.volume.InodeState.{InodeState}
-use Rattle.dn_volume.specs.declared.outcome.CountChange.{CountChange}
+use Rattle.dn_model.specs.declared.op.CountChange.{CountChange}
 use Rattle.dn_volume.specs.declared.background.Sharing.{Sharing}
 use Rattle.dn_volume.specs.Parties.{Flies, flight_at, Holds, by_client, by_daemon, Takes, for_client}
 use Rattle.dn_volume.specs.Agrees.{IsVolume, NamesSlots, StandsFast}
@@ -213,6 +213,7 @@ module _ (d : Disk) (scan : Scan) (s : State) (is : IsScanOf d scan s) (b : Part
     queue = queue;
     sharing = λ sharing some. absurd (none_is_some b.sharing sharing fresh.sharing some);
     reclaiming = reclaiming;
+    pointers = is.pointers;
     room = room;
     trace = trace;
   }

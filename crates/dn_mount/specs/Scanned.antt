@@ -11,7 +11,7 @@ use Rattle.dn_model.specs.Counts.{total, IsFree, Exact}
 use Rattle.dn_model.specs.Own.{LivePlace}
 use Rattle.dn_volume.specs.declared.flight.Flight.{Flight}
 use Rattle.dn_volume.specs.declared.volume.InodeState.{InodeState}
-use Rattle.dn_volume.specs.Agrees.{StandsFast}
+use Rattle.dn_volume.specs.Agrees.{StandsFast, HasNoStale}
 use Rattle.dn_volume.specs.Inodes.{AreInodesOf, AreNamesOf}
 use Rattle.dn_volume.specs.Space.{AreSlotsOf}
 use Rattle.dn_volume.specs.Parties.{flight_at}
@@ -43,6 +43,7 @@ pub record IsScanOf (d : Disk) (scan : Scan) (s : State) : Type 0 where
   pub fast : StandsFast d scan.geometry s
   pub still : Still s
   pub exact : Exact d
+  pub pointers : HasNoStale d
   pub free : AreFreePages d scan.free
   pub names : AreNamesOf d scan.names.map
   pub inodes : AreInodesOf d scan.inodes.items

@@ -3,11 +3,24 @@ use Rattle.std.specs.Prelude.{ℕ, List, [], ◌∷◌, ◌++◌, length, codes,
 use Rattle.std.specs.List.{flat_map}
 use Rattle.hex.specs.Hex.{encode_lower}
 use Rattle.dn_model.specs.declared.op.Refusal.{Refusal}
-use Rattle.dn_model.specs.declared.op.Refusal.TheVariants.{BadName, NotFound, Exists, TooLong, TooBig, NoInode, NoSpace}
+use Rattle.dn_model.specs.declared.op.Refusal.TheVariants.{
+  BadName,
+  NotFound,
+  Exists,
+  TooLong,
+  TooBig,
+  NoInode,
+  NoSpace,
+}
 use Rattle.dn_model.specs.declared.op.Reply.{Reply}
 use Rattle.dn_model.specs.declared.op.Reply.TheVariants.{Done, Bytes, Number, Names, Refused}
 use Rattle.dn_report.specs.declared.report.Cause.{Cause}
-use Rattle.dn_report.specs.declared.report.Cause.TheVariants.{TooFewPages, TooManyPages, BadInodes, WrongSize}
+use Rattle.dn_report.specs.declared.report.Cause.TheVariants.{
+  TooFewPages,
+  TooManyPages,
+  BadInodes,
+  WrongSize,
+}
 
 -- a text behind a space
 abbrev pub spaced : List ℕ → List ℕ
@@ -52,7 +65,8 @@ line_end = 10 ∷ []
 
 -- the line of one operation: the client, its line of the job, and the reply
 unfoldable pub history_line : ℕ → ℕ → Reply → List ℕ
-history_line who line reply = decimal who ++ spaced_number line ++ spaced (reply_text reply) ++ line_end
+history_line who line reply = decimal who ++ spaced_number line ++ spaced (reply_text reply) ++
+    line_end
 
 -- the last line: how many operations there were, and the free pages
 abbrev pub last_line : ℕ → ℕ → List ℕ
@@ -92,7 +106,8 @@ refused_text cause = codes "refused" ++ spaced (cause_text cause) ++ line_end
 
 -- the text of a file system that was made: its pages, inodes and free pages
 abbrev pub formatted_text : ℕ → ℕ → ℕ → List ℕ
-formatted_text pages inodes free = codes "formatted" ++ spaced_number pages ++ spaced_number inodes ++ spaced_number free ++ line_end
+formatted_text pages inodes free = codes "formatted" ++ spaced_number pages ++ spaced_number
+    inodes ++ spaced_number free ++ line_end
 
 -- the texts of the other statuses
 abbrev pub usage_text : List ℕ

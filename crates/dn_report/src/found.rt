@@ -86,7 +86,8 @@ pub struct Numbers {
 }
 
 fn write_numbers(text: &mut Vec<u8>, n: Numbers, rows: u64) -> Result<(), AllocError>
-    ensures { OnOk result (text.new.items ≡ text.old.items ++ numbers_line n.files n.dying rows n.mapped n.free n.exact) }
+    ensures { OnOk result (text.new.items ≡ text.old.items ++ numbers_line n.files n.dying rows
+        n.mapped n.free n.exact) }
 {
     write_count(text, b"ok files", n.files)?;
     write_count(text, b" dying", n.dying)?;
@@ -99,7 +100,8 @@ fn write_numbers(text: &mut Vec<u8>, n: Numbers, rows: u64) -> Result<(), AllocE
 
 /// Appends what is written where an image has no fault: its numbers, and a line for each row.
 pub fn write_found(text: &mut Vec<u8>, n: Numbers, rows: &[Row]) -> Result<(), AllocError>
-    ensures { OnOk result (text.new.items ≡ text.old.items ++ found_text n.files n.dying rows.now n.mapped n.free n.exact) }
+    ensures { OnOk result (text.new.items ≡ text.old.items ++ found_text n.files n.dying rows.now
+        n.mapped n.free n.exact) }
 {
     write_numbers(text, n, rows.len() as u64)?;
     for row in rows {

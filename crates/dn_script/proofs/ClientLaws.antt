@@ -46,7 +46,8 @@ lines_of_others m n (x ∷ os) ne = elim (cases_eq x.who n) [
 ]
 
 -- one client more
-clients_to_more : (n : ℕ) (named : List ℕ) (owned : List Owned) → clients_to (n + 1) named owned ≡ clients_to n named owned ++ option_to_list (client_with named (n + 1) (lines_of (n + 1) owned))
+clients_to_more : (n : ℕ) (named : List ℕ) (owned : List Owned) → clients_to (n + 1) named owned ≡ clients_to n named owned ++ option_to_list
+    (client_with named (n + 1) (lines_of (n + 1) owned))
 unfolding clients_to
 clients_to_more n named owned = rw add-one refl
 
@@ -58,7 +59,8 @@ clients_to_next n named owned clients new own before lines pushed =
     ∙ ap (λ ls. clients_to n named owned ++ option_to_list (client_with named (n + 1) ls)) lines ∙ sym (clients_to_more n named owned)
 
 -- what the others keep of a later client
-pub lines_of_left : (m n : ℕ) (left others owned : List Owned) → n + 1 < m → others ≡ others_of (n + 1) left → lines_of m left ≡ lines_of m owned → lines_of m others ≡ lines_of m owned
+pub lines_of_left : (m n : ℕ) (left others owned : List Owned) → n + 1 < m → others ≡ others_of (n + 1) left → lines_of m left ≡ lines_of m owned
+    → lines_of m others ≡ lines_of m owned
 lines_of_left m n left others owned later kept same =
     let apart : m ≢ n + 1 = omega arith in
     ap (lines_of m) kept ∙ lines_of_others m (n + 1) left apart ∙ same

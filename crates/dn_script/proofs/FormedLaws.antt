@@ -1,5 +1,38 @@
 -- Every job is formed.
-use Rattle.std.proofs.Common.{◌≡◌, ◌≢◌, ℕ, zero, suc, ◌+◌, ◌≤◌, Bool, true, false, cond, not, ◌||◌, eqb, List, [], ◌∷◌, ◌++◌, Option, Some, None, Result, Ok, Err, refl, sym, ap, ◌∙◌, subst, inl, inr, arith}
+use Rattle.std.proofs.Common.{
+  ◌≡◌,
+  ◌≢◌,
+  ℕ,
+  zero,
+  suc,
+  ◌+◌,
+  ◌≤◌,
+  Bool,
+  true,
+  false,
+  cond,
+  not,
+  ◌||◌,
+  eqb,
+  List,
+  [],
+  ◌∷◌,
+  ◌++◌,
+  Option,
+  Some,
+  None,
+  Result,
+  Ok,
+  Err,
+  refl,
+  sym,
+  ap,
+  ◌∙◌,
+  subst,
+  inl,
+  inr,
+  arith,
+}
 use Rattle.std.specs.List.{All, AllByRecursion, list_any}
 use Rattle.std.specs.Option.{option_to_list}
 use Rattle.std.specs.Result.{IfOk}
@@ -18,7 +51,23 @@ use Rattle.dn_script.specs.declared.line.LineMeaning.{LineMeaning}
 use Rattle.dn_script.specs.declared.line.LineMeaning.TheVariants.{Skip, Do, Count, Client, Turns, Bad}
 use Rattle.dn_script.specs.Text.{lines}
 use Rattle.dn_script.specs.Line.{meaning_of}
-use Rattle.dn_script.specs.Job.{◌>>=◌, Draft, start, after_line, after_lines, lines_of, has_lines, client_with, clients_to, is_actor, checked, stranger_of, schedule_of, job_of_draft, Answers}
+use Rattle.dn_script.specs.Job.{
+  ◌>>=◌,
+  Draft,
+  start,
+  after_line,
+  after_lines,
+  lines_of,
+  has_lines,
+  client_with,
+  clients_to,
+  is_actor,
+  checked,
+  stranger_of,
+  schedule_of,
+  job_of_draft,
+  Answers,
+}
 use Rattle.dn_script.specs.Formed.{Rises, IsAlone, IsJob}
 use Rattle.dn_script.proofs.Meanings.{Allows, meaning_allowed}
 
@@ -44,7 +93,8 @@ rises_more : (low n : ℕ) (cs : List (ℕ × List Line)) (own : List Line) → 
 rises_more low n [] own below h = (omega arith, omega arith, tt)
 rises_more low n (c ∷ cs) own below h = (h.0, omega arith, rises_more c.0 n cs own h.1 h.2)
 
-rises_maybe : (n : ℕ) (cs : List (ℕ × List Line)) (named : List ℕ) (own : List Line) → Rises 0 n cs → Rises 0 (suc n) (cs ++ option_to_list (client_with named (suc n) own))
+rises_maybe : (n : ℕ) (cs : List (ℕ × List Line)) (named : List ℕ) (own : List Line) → Rises 0 n cs
+    → Rises 0 (suc n) (cs ++ option_to_list (client_with named (suc n) own))
 rises_maybe n cs named own h =
     cond_both (list_any (λ m. eqb m (suc n)) named || has_lines own) (Some (suc n, own)) None (λ o. Rises 0 (suc n) (cs ++ option_to_list o))
     (λ _. rises_more 0 n cs own (omega arith) h) (λ _. rw append-nil (rises_above 0 n cs h))
@@ -134,7 +184,8 @@ alone_to (suc (suc n)) named owned none all =
 
 -- ---- all of it
 
-draft_formed : (form : JobForm) (text : List ℕ) (d : Draft) (job : Job) → after_lines form 1 (lines text) start ≡ Ok d → job_of_draft d ≡ Ok job → IsJob form job
+draft_formed : (form : JobForm) (text : List ℕ) (d : Draft) (job : Job) → after_lines form 1 (lines text) start ≡ Ok d → job_of_draft d ≡ Ok job
+    → IsJob form job
 draft_formed form text d job read said =
     let clients = clients_to 14 d.named d.owned in
     let kept = lines_keep form 1 (lines text) start d (start_kept form) read in
@@ -148,6 +199,7 @@ draft_formed form text d job read said =
       unscheduled = λ ne. sym fits.1 ∙ kept.turns ne;
     })
 
-pub answer_formed : (form : JobForm) (text : List ℕ) (d : Draft) (result : Result Job JobFault) → after_lines form 1 (lines text) start ≡ Ok d → Answers result (job_of_draft d) → IfOk result (IsJob form)
+pub answer_formed : (form : JobForm) (text : List ℕ) (d : Draft) (result : Result Job JobFault) → after_lines form 1 (lines text) start ≡ Ok d
+    → Answers result (job_of_draft d) → IfOk result (IsJob form)
 answer_formed form text d (Ok job) read said = draft_formed form text d job read said
 answer_formed form text d (Err e) read said = tt

@@ -9,7 +9,28 @@ use Rattle.dn_script.specs.declared.line.Keyword.TheVariants as keyword
 use Rattle.dn_script.specs.declared.line.LineMeaning.{LineMeaning}
 use Rattle.dn_script.specs.declared.line.LineMeaning.TheVariants.{Skip, Do, Count, Client, Turns, Bad}
 use Rattle.dn_script.specs.Text.{words, one_of, two_of, three_of, four_of, number_of, hex_of, byte_of, name_of}
-use Rattle.dn_script.specs.Line.{◌>>=◌, keyword_of, has, create_of, write_of, fill_of, read_of, cut_of, remove_of, rename_of, size_of, list_of, client_of, numbers_of, turns_of, count_of, after_keyword, command_of, or_bad, meaning_of}
+use Rattle.dn_script.specs.Line.{
+  ◌>>=◌,
+  keyword_of,
+  has,
+  create_of,
+  write_of,
+  fill_of,
+  read_of,
+  cut_of,
+  remove_of,
+  rename_of,
+  size_of,
+  list_of,
+  client_of,
+  numbers_of,
+  turns_of,
+  count_of,
+  after_keyword,
+  command_of,
+  or_bad,
+  meaning_of,
+}
 
 -- what a form allows: clients but in `apply`, turns in `replay`
 abbrev pub Allows : JobForm → LineMeaning → Type 0
@@ -39,7 +60,8 @@ write_allowed form ws =
 fill_allowed : (form : JobForm) (ws : List (List ℕ)) → IfSome (fill_of ws) (Allows form)
 fill_allowed form ws =
     if_bind (Allows form) (four_of ws) _ (λ w. if_bind (Allows form) (name_of w.0) _ (λ name. if_bind (Allows form) (number_of w.1) _ (λ at.
-    if_bind (Allows form) (number_of w.2) _ (λ count. if_bind (Allows form) (byte_of w.3) _ (λ byte. if_guard (Allows form) (nat_le count 131072) _ tt)))))
+    if_bind (Allows form) (number_of w.2) _ (λ count. if_bind (Allows form) (byte_of w.3) _ (λ byte. if_guard (Allows form) (nat_le count 131072) _
+    tt)))))
 
 read_allowed : (form : JobForm) (ws : List (List ℕ)) → IfSome (read_of ws) (Allows form)
 read_allowed form ws =
@@ -66,7 +88,8 @@ list_allowed form (w ∷ ws) = tt
 
 client_allowed : (form : JobForm) (ws : List (List ℕ)) → form ≢ Apply → IfSome (client_of ws) (Allows form)
 client_allowed form ws ne =
-    if_bind (Allows form) (one_of ws) _ (λ word. if_bind (Allows form) (number_of word) _ (λ n. if_guard (Allows form) (nat_le 1 n && nat_le n 14) _ ne))
+    if_bind (Allows form) (one_of ws) _ (λ word. if_bind (Allows form) (number_of word) _ (λ n. if_guard (Allows form) (nat_le 1 n && nat_le n 14) _
+    ne))
 
 turns_allowed : (form : JobForm) (ws : List (List ℕ)) → form ≡ Replay → IfSome (turns_of ws) (Allows form)
 turns_allowed form [] e = tt
@@ -105,4 +128,5 @@ or_bad_allowed form (Some m) h = h
 pub meaning_allowed : (form : JobForm) (line : List ℕ) → Allows form (meaning_of form line)
 meaning_allowed form [] = tt
 meaning_allowed form (c ∷ cs) =
-    cond_both (eqb c 35) Skip (or_bad (command_of form (words (c ∷ cs)))) (Allows form) (λ _. tt) (λ _. or_bad_allowed form (command_of form (words (c ∷ cs))) (command_allowed form (words (c ∷ cs))))
+    cond_both (eqb c 35) Skip (or_bad (command_of form (words (c ∷ cs)))) (Allows form) (λ _. tt)
+    (λ _. or_bad_allowed form (command_of form (words (c ∷ cs))) (command_allowed form (words (c ∷ cs))))

@@ -14,15 +14,19 @@ with_read-none None = refl
 with_read-none (Some ns) = refl
 
 -- one number more
-with_read_more : (front : List ℕ) (n : ℕ) (more : Option (List ℕ)) → with_read front (more >>= (λ ns. Some (n ∷ ns))) ≡ with_read (front ++ n ∷ []) more
+with_read_more : (front : List ℕ) (n : ℕ) (more : Option (List ℕ)) → with_read front (more >>= (λ ns. Some (n ∷ ns))) ≡ with_read (front ++ n ∷ [])
+    more
 with_read_more front n None = refl
 with_read_more front n (Some ns) = ap Some (sym (append_assoc front (n ∷ []) ns))
 
-pub with_read_next : (front : List ℕ) (all ws : List (List ℕ)) (w : List ℕ) (n : ℕ) → all ≡ w ∷ ws → number_of w ≡ Some n → with_read front (numbers_of all) ≡ with_read (front ++ n ∷ []) (numbers_of ws)
+pub with_read_next : (front : List ℕ) (all ws : List (List ℕ)) (w : List ℕ) (n : ℕ) → all ≡ w ∷ ws → number_of w ≡ Some n
+    → with_read front (numbers_of all) ≡ with_read (front ++ n ∷ []) (numbers_of ws)
 with_read_next front all ws w n e found =
-    ap (λ a. with_read front (numbers_of a)) e ∙ ap (λ o. with_read front (o >>= (λ m. numbers_of ws >>= (λ ns. Some (m ∷ ns))))) found ∙ with_read_more front n (numbers_of ws)
+    ap (λ a. with_read front (numbers_of a)) e ∙ ap (λ o. with_read front (o >>= (λ m. numbers_of ws >>= (λ ns. Some (m ∷ ns)))))
+    found ∙ with_read_more front n (numbers_of ws)
 
-pub with_read_bad : (front : List ℕ) (all ws : List (List ℕ)) (w : List ℕ) → all ≡ w ∷ ws → number_of w ≡ None → with_read front (numbers_of all) ≡ None
+pub with_read_bad : (front : List ℕ) (all ws : List (List ℕ)) (w : List ℕ) → all ≡ w ∷ ws → number_of w ≡ None
+    → with_read front (numbers_of all) ≡ None
 with_read_bad front all ws w e none =
     ap (λ a. with_read front (numbers_of a)) e ∙ ap (λ o. with_read front (o >>= (λ m. numbers_of ws >>= (λ ns. Some (m ∷ ns))))) none
 

@@ -17,11 +17,13 @@ with_back-with_back None a b = refl
 with_back-with_back (Some taken) a b = ap Some (append_assoc taken a b)
 
 -- a front of a list, and then more of it
-pub with_back_further : (o : Option (List ℕ)) (xs : List ℕ) (m n : ℕ) → with_back (with_back o (take m xs)) (take n (drop m xs)) ≡ with_back o (take (m + n) xs)
+pub with_back_further : (o : Option (List ℕ)) (xs : List ℕ) (m n : ℕ) → with_back (with_back o (take m xs)) (take n (drop m xs)) ≡ with_back o
+    (take (m + n) xs)
 with_back_further o xs m n = with_back-with_back o (take m xs) (take n (drop m xs)) ∙ ap (λ ys. with_back o ys) (sym (take-add m n xs))
 
 -- what is left, as a front that was copied and the rest
-pub drop_copied : (xs ys front : List ℕ) (m n : ℕ) → ys ≡ xs → front ≡ take n (take (length ys - m) (drop m ys)) → drop m xs ≡ front ++ drop (m + n) xs
+pub drop_copied : (xs ys front : List ℕ) (m n : ℕ) → ys ≡ xs → front ≡ take n (take (length ys - m) (drop m ys)) → drop m xs ≡ front ++ drop (m + n)
+    xs
 drop_copied xs ys front m n same copied =
     let e : front ≡ take n (drop m xs) = copied ∙ rw (same, take_rest xs m) refl in
     rw (e, ← drop-drop n m xs) (sym (take-append-drop n (drop m xs)))

@@ -1,5 +1,31 @@
 -- The job that a text is.
-use Rattle.std.specs.Prelude.{◌≡◌, ℕ, zero, suc, ◌+◌, Bool, true, false, not, ◌||◌, ◌==◌, nat_lt, if◌then◌else◌, List, [], ◌∷◌, ◌++◌, length, find, Option, Some, None, Result, Ok, Err}
+use Rattle.std.specs.Prelude.{
+  ◌≡◌,
+  ℕ,
+  zero,
+  suc,
+  ◌+◌,
+  Bool,
+  true,
+  false,
+  not,
+  ◌||◌,
+  ◌==◌,
+  nat_lt,
+  if◌then◌else◌,
+  List,
+  [],
+  ◌∷◌,
+  ◌++◌,
+  length,
+  find,
+  Option,
+  Some,
+  None,
+  Result,
+  Ok,
+  Err,
+}
 use Rattle.std.specs.List.{list_any}
 use Rattle.std.specs.Option.{option_to_list}
 use Rattle.dn_script.specs.declared.job.Command.{Command}
@@ -11,7 +37,14 @@ use Rattle.dn_script.specs.declared.job.JobFault.TheVariants as fault
 use Rattle.dn_script.specs.declared.draft.Owned.{Owned}
 use Rattle.dn_script.specs.declared.line.JobForm.{JobForm}
 use Rattle.dn_script.specs.declared.line.LineMeaning.{LineMeaning}
-use Rattle.dn_script.specs.declared.line.LineMeaning.TheVariants.{Skip, Do, Count, Client, Turns, Bad}
+use Rattle.dn_script.specs.declared.line.LineMeaning.TheVariants.{
+  Skip,
+  Do,
+  Count,
+  Client,
+  Turns,
+  Bad,
+}
 use Rattle.dn_script.specs.declared.stream.ReadFault.{ReadFault}
 use Rattle.dn_script.specs.declared.stream.ReadFault.TheVariants as reading
 use Rattle.dn_script.specs.Text.{lines}
@@ -22,7 +55,8 @@ abbrev pub ◌>>=◌ : {A B : Type 0} → Result A JobFault → (A → Result B 
 (Ok x) >>= f = f x
 (Err e) >>= f = Err e
 
--- what lines say so far: the client that commands now belong to, the clients of `client` lines, the commands
+-- what lines say so far: the client that commands now belong to, the clients of `client` lines, the
+-- commands
 -- with the clients that they belong to, the schedule, and the sum of the weights
 pub record Draft : Type 0 where
   pub current : ℕ
@@ -37,13 +71,19 @@ start = record { current = 1; named = []; owned = []; turns = []; weight = 0 }
 
 -- one command more, in the line with this number
 abbrev pub with_command : ℕ → Command → Draft → Draft
-with_command number said d = record d { owned = d.owned ++ record { who = d.current; line = record { number = number; command = said } } ∷ [] }
+with_command number said d = record d {
+  owned = d.owned ++ record {
+    who = d.current;
+    line = record { number = number; command = said };
+  } ∷ [];
+}
 
 -- one line more
 abbrev pub after_line : ℕ → LineMeaning → Draft → Result Draft JobFault
 after_line number Skip d = Ok d
 after_line number (Do op weight) d =
-    if nat_lt 268435456 (d.weight + weight) then Err fault.TooLong else Ok (record (with_command number (command.Do op) d) { weight = d.weight + weight })
+    if nat_lt 268435456 (d.weight + weight) then Err fault.TooLong else Ok
+    (record (with_command number (command.Do op) d) { weight = d.weight + weight })
 after_line number (Count slot) d = Ok (with_command number (command.Count slot) d)
 after_line number (Client n) d = Ok (record d { current = n; named = d.named ++ n ∷ [] })
 after_line number (Turns ns) d = Ok (record d { turns = d.turns ++ ns })
@@ -52,7 +92,8 @@ after_line number Bad d = Err (fault.BadLine number)
 -- more lines, of which the first has this number
 unfoldable pub after_lines : JobForm → ℕ → List (List ℕ) → Draft → Result Draft JobFault
 after_lines form number [] d = Ok d
-after_lines form number (line ∷ more) d = after_line number (meaning_of form line) d >>= after_lines form (number + 1) more
+after_lines form number (line ∷ more) d = after_line number (meaning_of form line) d >>= after_lines
+    form (number + 1) more
 
 -- the lines of a client
 abbrev pub lines_of : ℕ → List Owned → List Line
@@ -70,12 +111,14 @@ has_lines (line ∷ more) = true
 
 -- a client with these lines, where it is named or has any
 abbrev pub client_with : List ℕ → ℕ → List Line → Option (ℕ × List Line)
-client_with named n own = if list_any (λ m. m == n) named || has_lines own then Some (n, own) else None
+client_with named n own = if list_any (λ m. m == n) named || has_lines own then Some (n, own) else
+    None
 
 -- the clients from 1 to this number, with their lines
 unfoldable pub clients_to : ℕ → List ℕ → List Owned → List (ℕ × List Line)
 clients_to zero named owned = []
-clients_to (suc n) named owned = clients_to n named owned ++ option_to_list (client_with named (suc n) (lines_of (suc n) owned))
+clients_to (suc n) named owned = clients_to n named owned ++ option_to_list
+    (client_with named (suc n) (lines_of (suc n) owned))
 
 -- whether a number is an actor of a job with these clients: 15 is the daemon, 16 is reclaim
 abbrev pub is_actor : List (ℕ × List Line) → ℕ → Bool

@@ -1,5 +1,26 @@
 -- What a line of a job says.
-use Rattle.std.specs.Prelude.{◌≡◌, ℕ, Bool, true, false, ◌&&◌, ◌==◌, nat_le, if◌then◌else◌, List, [], ◌∷◌, codes, Option, Some, None, Result, Ok, Err, replicate}
+use Rattle.std.specs.Prelude.{
+  ◌≡◌,
+  ℕ,
+  Bool,
+  true,
+  false,
+  ◌&&◌,
+  ◌==◌,
+  nat_le,
+  if◌then◌else◌,
+  List,
+  [],
+  ◌∷◌,
+  codes,
+  Option,
+  Some,
+  None,
+  Result,
+  Ok,
+  Err,
+  replicate,
+}
 use Rattle.std.specs.Option.{option_and_then}
 use Rattle.std.specs.Str.{bytes_eq}
 use Rattle.dn_model.specs.declared.op.Op.TheVariants as op
@@ -8,10 +29,27 @@ use Rattle.dn_script.specs.declared.line.JobForm.TheVariants.{Apply, Replay, Run
 use Rattle.dn_script.specs.declared.line.Keyword.{Keyword}
 use Rattle.dn_script.specs.declared.line.Keyword.TheVariants as keyword
 use Rattle.dn_script.specs.declared.line.LineMeaning.{LineMeaning}
-use Rattle.dn_script.specs.declared.line.LineMeaning.TheVariants.{Skip, Do, Count, Client, Turns, Bad}
+use Rattle.dn_script.specs.declared.line.LineMeaning.TheVariants.{
+  Skip,
+  Do,
+  Count,
+  Client,
+  Turns,
+  Bad,
+}
 use Rattle.dn_script.specs.declared.line.LineFault.{LineFault}
 use Rattle.dn_script.specs.declared.line.LineFault.TheVariants as fault
-use Rattle.dn_script.specs.Text.{words, one_of, two_of, three_of, four_of, number_of, hex_of, byte_of, name_of}
+use Rattle.dn_script.specs.Text.{
+  words,
+  one_of,
+  two_of,
+  three_of,
+  four_of,
+  number_of,
+  hex_of,
+  byte_of,
+  name_of,
+}
 
 infixl 10 ◌>>=◌
 abbrev pub ◌>>=◌ : {A B : Type 0} → Option A → (A → Option B) → Option B

@@ -11,7 +11,8 @@ abbrev pub with_back : Option (List ℕ) → List ℕ → Option (List ℕ)
 with_back None back = None
 with_back (Some taken) back = Some (taken ++ back)
 
--- calls that are numbered from 1: those that fail, the number of the next one, and the faults so far
+-- calls that are numbered from 1: those that fail, the number of the next one, and the faults so
+-- far
 pub record Calls : Type 0 where
   pub fail_at : List ℕ
   pub next : ℕ

@@ -1,5 +1,22 @@
 -- Lines, words, and the numbers and bytes that words spell.
-use Rattle.std.specs.Prelude.{ℕ, ◌+◌, ◌-◌, ◌*◌, ◌&&◌, ◌==◌, nat_lt, if◌then◌else◌, List, [], ◌∷◌, codes, Option, Some, None, slice_index}
+use Rattle.std.specs.Prelude.{
+  ℕ,
+  ◌+◌,
+  ◌-◌,
+  ◌*◌,
+  ◌&&◌,
+  ◌==◌,
+  nat_lt,
+  if◌then◌else◌,
+  List,
+  [],
+  ◌∷◌,
+  codes,
+  Option,
+  Some,
+  None,
+  slice_index,
+}
 use Rattle.std.specs.Char.{is_ascii_digit}
 use Rattle.std.specs.List.{onto_first, slice_split, list_all}
 use Rattle.std.specs.Option.{option_map}
@@ -49,11 +66,13 @@ value_after n (d ∷ ds) = value_after (10 * n + (d - 48)) ds
 
 -- the number n and one digit more, as a number of 64 bits
 abbrev pub next_of : ℕ → ℕ → Option ℕ
-next_of n d = if is_ascii_digit d && nat_lt (10 * n + (d - 48)) 18446744073709551616 then Some (10 * n + (d - 48)) else None
+next_of n d = if is_ascii_digit d && nat_lt (10 * n + (d - 48)) 18446744073709551616 then Some
+    (10 * n + (d - 48)) else None
 
 -- digits that go on from n, as a number of 64 bits
 abbrev pub digits_after : ℕ → List ℕ → Option ℕ
-digits_after n ds = if list_all is_ascii_digit ds && nat_lt (value_after n ds) 18446744073709551616 then Some (value_after n ds) else None
+digits_after n ds = if list_all is_ascii_digit ds && nat_lt (value_after n ds) 18446744073709551616
+    then Some (value_after n ds) else None
 
 -- the number that a word spells, in decimal digits without a sign or a leading zero
 abbrev pub number_of : List ℕ → Option ℕ

@@ -67,7 +67,8 @@ impl JobDraft {
 
     // An operation of the present client.
     fn push_weighty(&mut self, number: u64, command: Command, weight: u64) -> Result<(), JobFault>
-        ensures ok { OnOk result (self.new ≡ record (with_command number command self.old) { weight = self.old.weight + weight }) }
+        ensures ok { OnOk result (self.new ≡ record (with_command number command self.old)
+            { weight = self.old.weight + weight }) }
         ensures fits { OnOk result (self.old.weight + weight ≤ 268435456) }
         ensures long { result ≡ Err JobFault.TooLong → 268435456 < self.old.weight + weight }
         ensures err { IfErr result (λ e. (e ≡ NoMemory) ⊎ (e ≡ TooLong)) }
@@ -82,7 +83,8 @@ impl JobDraft {
 
     // The lines after this one belong to a client.
     fn name(&mut self, client: u32) -> Result<(), JobFault>
-        ensures ok { OnOk result (self.new ≡ record self.old { current = client; named = self.old.named ++ client ∷ [] }) }
+        ensures ok { OnOk result
+            (self.new ≡ record self.old { current = client; named = self.old.named ++ client ∷ [] }) }
         ensures err { IfErr result (λ e. e ≡ NoMemory) }
     {
         self.named.push(client).map_err(|_| JobFault::NoMemory)?;
@@ -92,7 +94,8 @@ impl JobDraft {
 
     // More turns of the schedule.
     fn schedule(&mut self, turns: &[u64]) -> Result<(), JobFault>
-        ensures ok { OnOk result (self.new ≡ record self.old { turns = self.old.turns ++ turns.now }) }
+        ensures ok { OnOk result
+            (self.new ≡ record self.old { turns = self.old.turns ++ turns.now }) }
         ensures err { IfErr result (λ e. e ≡ NoMemory) }
     {
         self.turns
@@ -123,8 +126,10 @@ impl JobDraft {
         number: u64,
         line: &[u8],
     ) -> Result<(), JobFault>
-        ensures ok { OnOk result (after_line number (meaning_of form line.now) self.old ≡ Ok self.new) }
-        ensures err { IfErr result (λ e. FailsBy e (after_line number (meaning_of form line.now) self.old)) }
+        ensures ok { OnOk result (after_line number (meaning_of form line.now) self.old ≡ Ok
+            self.new) }
+        ensures err { IfErr result
+            (λ e. FailsBy e (after_line number (meaning_of form line.now) self.old)) }
     {
         match line_meaning(alloc, form, line) {
             Ok(meaning) => self.add(number, meaning),
@@ -181,7 +186,8 @@ fn push_client(
     number: u32,
     lines: Vec<Line>,
 ) -> Result<(), AllocError>
-    ensures { OnOk result (clients.new.items ≡ clients.old.items ++ option_to_list (client_with named.now number lines.items)) }
+    ensures { OnOk result (clients.new.items ≡ clients.old.items ++ option_to_list
+        (client_with named.now number lines.items)) }
 {
     if named.contains(&number) || !lines.is_empty() {
         clients.push((number, Lines::of(lines)))?;

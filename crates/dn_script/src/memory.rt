@@ -121,7 +121,8 @@ impl Source for MemSource {
 
     fn take(&mut self, into: &mut [u8]) -> Result<usize, Failed>
         ensures bound { IfOk result (λ n. n ≤ length into.old) }
-        ensures moves { IfOk result (λ n. Some self.old.left ≡ with_front (take n into.new) (Some self.new.left)) }
+        ensures moves { IfOk result (λ n. Some self.old.left ≡ with_front (take n into.new)
+            (Some self.new.left)) }
         ensures end { IfOk result (λ n. n ≡ 0 → 0 < length into.old → self.new.left ≡ []) }
         ensures err { OnErr result (Some self.new.left ≡ Some self.old.left) }
         ensures counts { self.old.calls.faults ≤ self.new.calls.faults }
@@ -164,7 +165,8 @@ impl MemSink {
     pub fn of(alloc: Global, room: u64, fail_at: Vec<u64>) -> Result<MemSink, AllocError>
         ensures taken { IfOk result (λ s. s.taken ≡ []) }
         ensures room { IfOk result (λ s. s.room ≡ room) }
-        ensures calls { IfOk result (λ s. s.calls ≡ record { fail_at = fail_at.items; next = 1; faults = 0 }) }
+        ensures calls { IfOk result
+            (λ s. s.calls ≡ record { fail_at = fail_at.items; next = 1; faults = 0 }) }
     {
         Ok(MemSink {
             bytes: Vec::with_capacity(alloc, room as usize)?,
@@ -201,12 +203,14 @@ impl Sink for MemSink {
 
     fn put(&mut self, bytes: &[u8]) -> Result<usize, Failed>
         ensures bound { IfOk result (λ n. n ≤ length bytes.now) }
-        ensures appends { IfOk result (λ n. Some self.new.taken ≡ with_back (Some self.old.taken) (take n bytes.now)) }
+        ensures appends { IfOk result (λ n. Some self.new.taken ≡ with_back (Some self.old.taken)
+            (take n bytes.now)) }
         ensures some { IfOk result (λ n. 0 < length bytes.now → 0 < n) }
         ensures err { OnErr result (Some self.new.taken ≡ Some self.old.taken) }
         ensures counts { self.old.calls.faults ≤ self.new.calls.faults }
         ensures cause { OnErr result (Rose self.old.calls.faults self.new.calls.faults) }
-        ensures fits { IfOk result (λ n. n ≡ min (length bytes.now) (self.old.room - length self.old.taken)) }
+        ensures fits { IfOk result
+            (λ n. n ≡ min (length bytes.now) (self.old.room - length self.old.taken)) }
         ensures fails { Contains self.old.calls.fail_at self.old.calls.next → IsErr result }
         ensures full { IsErr result → Contains self.old.calls.fail_at self.old.calls.next
             ⊎ ((0 < length bytes.now) × (self.old.room ≡ length self.old.taken)) }

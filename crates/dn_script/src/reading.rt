@@ -73,7 +73,8 @@ fn job_fault(fault: ReadFault) -> JobFault
 /// `TooLong`, where its weight makes the sum more than 268,435,456; last `BadTurn`, with the first number of the
 /// schedule that is no actor's.
 pub fn read_job<S: Source>(alloc: Global, from: &mut S, form: JobForm) -> Result<Job, JobFault>
-    ensures answer { IfSome (S.left from.old) (λ text. (result ≡ Err JobFault.ReadFault) ⊎ Answers result (job_of form text)) }
+    ensures answer { IfSome (S.left from.old) (λ text. (result ≡ Err JobFault.ReadFault) ⊎ Answers
+        result (job_of form text)) }
     ensures formed { IfOk result (IsJob form) }
     ensures ended { OnOk result (IfSome (S.left from.old) (λ _. S.left from.new ≡ Some [])) }
     ensures counts { S.faults from.old ≤ S.faults from.new }

@@ -19,8 +19,10 @@ pub trait Source {
     /// empty is the end of the input.
     fn take(&mut self, into: &mut [u8]) -> Result<usize, Failed>
         ensures bound { IfOk result (λ n. n ≤ length into.old) }
-        ensures moves { IfOk result (λ n. left self.old ≡ with_front (take n into.new) (left self.new)) }
-        ensures end { IfOk result (λ n. n ≡ 0 → 0 < length into.old → IfSome (left self.new) (λ rest. rest ≡ [])) }
+        ensures moves { IfOk result (λ n. left self.old ≡ with_front (take n into.new)
+            (left self.new)) }
+        ensures end { IfOk result (λ n. n ≡ 0 → 0 < length into.old
+            → IfSome (left self.new) (λ rest. rest ≡ [])) }
         ensures err { OnErr result (left self.new ≡ left self.old) }
         ensures counts { faults self.old ≤ faults self.new }
         ensures cause { OnErr result (Rose (faults self.old) (faults self.new)) };
@@ -38,7 +40,8 @@ pub trait Sink {
     /// is a fault.
     fn put(&mut self, bytes: &[u8]) -> Result<usize, Failed>
         ensures bound { IfOk result (λ n. n ≤ length bytes.now) }
-        ensures appends { IfOk result (λ n. taken self.new ≡ with_back (taken self.old) (take n bytes.now)) }
+        ensures appends { IfOk result (λ n. taken self.new ≡ with_back (taken self.old)
+            (take n bytes.now)) }
         ensures some { IfOk result (λ n. 0 < length bytes.now → 0 < n) }
         ensures err { OnErr result (taken self.new ≡ taken self.old) }
         ensures counts { faults self.old ≤ faults self.new }
@@ -73,11 +76,13 @@ fn read_piece<S: Source>(
 ) -> Result<bool, ReadFault>
     requires some { 0 < length piece.old }
     requires few { vec_len bytes.old ≤ 16777216 }
-    ensures together { OnOk result (with_front bytes.old.items (S.left from.old) ≡ with_front bytes.new.items (S.left from.new)) }
+    ensures together { OnOk result (with_front bytes.old.items (S.left from.old) ≡ with_front
+        bytes.new.items (S.left from.new)) }
     ensures few { OnOk result (vec_len bytes.new ≤ 16777216) }
     ensures more { IfOk result (λ more. more ≡ true → vec_len bytes.old < vec_len bytes.new) }
     ensures end { IfOk result (λ more. more ≡ false → IfSome (S.left from.new) (λ rest. rest ≡ [])) }
-    ensures long { result ≡ Err ReadFault.TooLong → IfSome (with_front bytes.old.items (S.left from.old)) (λ all. 16777216 < length all) }
+    ensures long { result ≡ Err ReadFault.TooLong
+        → IfSome (with_front bytes.old.items (S.left from.old)) (λ all. 16777216 < length all) }
     ensures counts { S.faults from.old ≤ S.faults from.new }
     ensures cause { result ≡ Err ReadFault.Failed → Rose (S.faults from.old) (S.faults from.new) }
 {
@@ -105,7 +110,8 @@ pub fn read_to_end<S: Source>(alloc: Global, from: &mut S) -> Result<Vec<u8>, Re
     ensures whole { IfOk result (λ bytes. IfSome (S.left from.old) (λ rest. bytes.items ≡ rest)) }
     ensures few { IfOk result (λ bytes. vec_len bytes ≤ 16777216) }
     ensures ended { OnOk result (IfSome (S.left from.old) (λ _. S.left from.new ≡ Some [])) }
-    ensures long { result ≡ Err ReadFault.TooLong → IfSome (S.left from.old) (λ rest. 16777216 < length rest) }
+    ensures long { result ≡ Err ReadFault.TooLong
+        → IfSome (S.left from.old) (λ rest. 16777216 < length rest) }
     ensures counts { S.faults from.old ≤ S.faults from.new }
     ensures cause { result ≡ Err ReadFault.Failed → Rose (S.faults from.old) (S.faults from.new) }
 {
@@ -119,7 +125,9 @@ pub fn read_to_end<S: Source>(alloc: Global, from: &mut S) -> Result<Vec<u8>, Re
 /// Writes all bytes. At `Failed` a front of them was taken.
 pub fn write_all<K: Sink>(out: &mut K, bytes: &[u8]) -> Result<(), Failed>
     ensures ok { OnOk result (K.taken out.new ≡ with_back (K.taken out.old) bytes.now) }
-    ensures err { OnErr result ((n : ℕ) × (n ≤ length bytes.now) × (K.taken out.new ≡ with_back (K.taken out.old) (take n bytes.now))) }
+    ensures err { OnErr result
+        ((n : ℕ) × (n ≤ length bytes.now) × (K.taken out.new ≡ with_back (K.taken out.old)
+        (take n bytes.now))) }
     ensures counts { K.faults out.old ≤ K.faults out.new }
     ensures cause { OnErr result (Rose (K.faults out.old) (K.faults out.new)) }
 {

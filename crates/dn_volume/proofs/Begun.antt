@@ -30,15 +30,16 @@ use Rattle.law_unique.proofs.Listings.{none_listed, cons_cases}
 use Rattle.dn_volume.specs.declared.flight.Flight.{Flight}
 use Rattle.dn_volume.specs.declared.outcome.Outcome.{Outcome}
 use Rattle.dn_volume.specs.declared.outcome.Outcome.TheVariants as out
-use Rattle.dn_volume.specs.declared.outcome.CountChange.{CountChange}
+use Rattle.dn_model.specs.declared.op.CountChange.{CountChange}
 use Rattle.dn_volume.specs.declared.volume.Parts.{Parts}
 use Rattle.dn_volume.specs.declared.volume.Volume.{Volume}
 use Rattle.dn_volume.specs.Parties.{Flies, KeepsOps, flight_at}
 use Rattle.dn_volume.specs.Agrees.{IsVolume}
 use Rattle.dn_volume.specs.Begins.{IsAtOnce, IsUntouched, HasBegun, IsAnswerOf, of_files, no_inode as answers_no_inode, no_space as answers_no_space, AreFlying, AnswersAtOnce, Begins}
-use Rattle.dn_volume.specs.Events.{word_at, word_after}
+use Rattle.dn_volume.specs.Events.{InFlight, word_at, word_after}
 use Rattle.dn_volume.specs.Sound.{WasLeft, IsLater, AreLater, AreShort, IsSound, Sound, is_sound}
 use Rattle.dn_volume.specs.Laws.{WantsAreShort, InodesAreShort, BeginsStaySound}
+use Rattle.dn_volume.proofs.Kept.{ops_same}
 use Rattle.dn_volume.proofs.Courses.{same_device, one_entry}
 use Rattle.dn_volume.proofs.Shorts.{stays_short, goes_on_later, begun_later, begins_short, at_once_later, wants_short}
 use Rattle.dn_volume.proofs.SoundStays.{AloneSince, PagesSince, way_on, was_left_now}
@@ -122,17 +123,18 @@ lasting_done f ListAll lasts = absurd (lasts tt)
 
 answer_step : (d : Disk) (b : Parts) (op : Op) (reply : Reply) → IsAnswerOf d b op reply → Step (files d) op reply (files d)
 answer_step d b op reply (of_files _ replies once) = at_once_step (files d) op reply replies once
-answer_step d b op _ (answers_no_inode granted lasts loose none lacks) = no_inode granted (lasting_done (files d) op lasts) refl (λ name. refl)
-answer_step d b op _ (answers_no_space granted lasts loose none lacks) = no_space (needed d op) (length b.free.free) granted (lasting_done (files d) op lasts) refl (λ name. refl)
+answer_step d b op _ (answers_no_inode it none lacks) = no_inode it.granted (lasting_done (files d) op it.lasts) refl (λ name. refl)
+answer_step d b op _ (answers_no_space it none inode lacks) =
+    no_space (needed d op) (length b.free.free) it.granted (lasting_done (files d) op it.lasts) refl (λ name. refl)
 
 -- what the others have in flight is known of their scripts behind the last entry
-flying_later : (b b' : Parts) (who : ℕ) (entry : Entry) (scripts : List (List Op)) → b'.history.items ≡ b.history.items ++ entry ∷ [] → entry.who ≡ who → b'.flights ≡ b.flights
+flying_later : (b b' : Parts) (who : ℕ) (entry : Entry) (scripts : List (List Op)) → b'.history.items ≡ b.history.items ++ entry ∷ [] → entry.who ≡ who → b'.flights.items ≡ b.flights.items
     → AreFlying b who scripts → AreLater b' (length b.history.items) who scripts
 flying_later b b' who entry scripts more entry_who same are = record {
   clients = are.clients;
   script = λ i ops is op. (
     λ has. let told = (are.script i ops is op).0 has in
-        (told.0, record { why = inr (told.1, record { client = told.2.client; is = ap (λ x. flight_at x.items (i + 1 - 1)) same ∙ told.2.is }, told.3) }),
+        (told.0, record { why = inr (told.1, record { client = told.2.client; is = ap (λ fs. flight_at fs (i + 1 - 1)) same ∙ told.2.is }, told.3) }),
     λ told. let found = flying (i + 1) op told.0 told.1 in (are.script i ops is op).1 (told.0, found.0, found.1, found.2),
   );
 }
@@ -144,7 +146,7 @@ flying_later b b' who entry scripts more entry_who same are = record {
 
     flying : (q : ℕ) (op : Op) → q ≢ who → IsLater b' (length b.history.items) q op → (f : Flight) × Flies b q f × (f.op ≡ op)
     flying q op other is = ⊎_elim (λ e. absurd (other (sym e.2 ∙ last_who e.0 e.1)))
-        (λ f. (f.0, record { client = f.1.client; is = ap (λ x. flight_at x.items (q - 1)) (sym same) ∙ f.1.is }, f.2)) is.why
+        (λ f. (f.0, record { client = f.1.client; is = ap (λ fs. flight_at fs (q - 1)) (sym same) ∙ f.1.is }, f.2)) is.why
 
 module _ {D F : Type 0} (state : D → State) (print : Print) (base : Base) (v v' : Volume D F) (d : Disk) (sound : IsSound print base d v.parts (state v.device))
     (device : IsSame (state v.device) (state v'.device)) (trace_same : v'.parts.trace.items ≡ v.parts.trace.items) where
@@ -182,18 +184,17 @@ module _ {D F : Type 0} (state : D → State) (print : Print) (base : Base) (v v
       (told_short base v.parts v'.parts (state v.device) (state v'.device) extends sound.short short)
 
   untouched : IsUntouched state v v' d → IsSound print base d v'.parts (state v'.device)
-  untouched u = same_history u.history (λ short. stays_short base v.parts v'.parts (state v.device) (state v'.device) extends short u.history (λ k few. goes_on_later v.parts v'.parts k u.history ops))
-    where
-      ops : KeepsOps v.parts v'.parts
-      ops = record {
-        kept = λ q f flies. (f, record { client = flies.client; is = ap (λ x. flight_at x.items (q - 1)) u.flights ∙ flies.is }, refl);
-        only = λ q f flies. (f, record { client = flies.client; is = ap (λ x. flight_at x.items (q - 1)) (sym u.flights) ∙ flies.is }, refl);
-      }
+  untouched u = same_history u.history (λ short.
+      stays_short base v.parts v'.parts (state v.device) (state v'.device) extends short u.history
+      (λ k few. goes_on_later v.parts v'.parts k u.history (ops_same v.parts v'.parts u.same.flights)))
 
   begun : (who : ℕ) (op : Op) (left : ℕ) → 1 ≤ who → HasBegun state who op left v v' d → IsSound print base d v'.parts (state v'.device)
   begun who op left some h =
       same_history h.history (λ short. begins_short base v.parts v'.parts (state v.device) (state v'.device) extends short who op some h.history
-      (λ k few. begun_later v.parts v'.parts k who left op h.history h.idle h.flies h.others))
+      (λ k few. begun_later v.parts v'.parts k who left op h.history h.idle flies h.opens.same.others))
+    where
+      flies : InFlight v'.parts who op left
+      flies = record { flight = h.flight; flies = h.opens.flies; op_is = h.opens.op_is; left_is = h.opens.left_is }
 
   module _ (who : ℕ) (op : Op) (reply : Reply) (some : 1 ≤ who) (agree : Agree (state v.device).now (state v.device).past) (wants : WantsAreShort) (inodes : InodesAreShort)
       (volume : IsVolume d v.parts (state v.device)) (a : AnswersAtOnce state who op reply v v' d) where
@@ -218,45 +219,45 @@ module _ {D F : Type 0} (state : D → State) (print : Print) (base : Base) (v v
         same_then (a.entry ∷ []) a.history (one_entry print base v.parts.history.items (files d) a.entry (state v.device) (state v'.device) sound.course device step)
         (λ p told. told_short base v.parts v'.parts (state v.device) (state v'.device) extends sound.short
         (λ short. wants_short base v.parts v'.parts (state v.device) (state v'.device) extends short a.entry a.history op (omega (arith, some, a.who_is)) a.op_is
-        (λ k few. at_once_later v.parts v'.parts k a.entry.who a.entry few a.history refl op a.op_is a.flights)
+        (λ k few. at_once_later v.parts v'.parts k a.entry.who a.entry few a.history refl op a.op_is a.same.flights)
         (λ needed free is. by_space p told needed free reply a.why (sym a.reply_is ∙ is))
         (λ is. by_inode p told reply a.why (sym a.reply_is ∙ is))) p told)
       where
         by_space : (p : Past) → (state v'.device).past ≡ Some p → (needs free : ℕ) (r : Reply) → IsAnswerOf d v.parts op r → r ≡ Refused (NoSpace needs free)
             → (e : Disk) × (scripts : List (List Op)) × WasLeft base (state v'.device) e × AreLater v'.parts (length v.parts.history.items) a.entry.who scripts × IsShortOfSpace e scripts a.entry.op needs free
         by_space p told needs free r (of_files _ replies once) is = absurd (no_want (files d) op r replies (NoSpace needs free) is refl)
-        by_space p told needs free _ (answers_no_inode granted lasts loose none lacks) is = absurd (cc is)
-        by_space p told needs free _ (answers_no_space granted lasts loose none lacks) is =
+        by_space p told needs free _ (answers_no_inode it none lacks) is = absurd (cc is)
+        by_space p told needs free _ (answers_no_space it none inode lacks) is =
             let w = wants d v.parts (state v.device) who op some volume a.idle none lacks in
             let same_needs : needed d op ≡ needs = cc is in
             let same_free : length v.parts.free.free ≡ free = cc is in (
               d,
               w.0,
               now_left p told,
-              subst (λ (n : ℕ). AreLater v'.parts (length v.parts.history.items) n w.0) (sym a.who_is) (flying_later v.parts v'.parts who a.entry w.0 a.history a.who_is a.flights w.1),
+              subst (λ (n : ℕ). AreLater v'.parts (length v.parts.history.items) n w.0) (sym a.who_is) (flying_later v.parts v'.parts who a.entry w.0 a.history a.who_is a.same.flights w.1),
               subst (λ (o : Op). IsShortOfSpace d w.0 o needs free) (sym a.op_is)
                   (subst (λ (n : ℕ). IsShortOfSpace d w.0 op n free) same_needs (subst (λ (n : ℕ). IsShortOfSpace d w.0 op (needed d op) n) same_free w.2)),
             )
 
         by_inode : (p : Past) → (state v'.device).past ≡ Some p → (r : Reply) → IsAnswerOf d v.parts op r → r ≡ Refused NoInode → (e : Disk) × WasLeft base (state v'.device) e × IsShortOfInodes e a.entry.op
         by_inode p told r (of_files _ replies once) is = absurd (no_want (files d) op r replies NoInode is refl)
-        by_inode p told _ (answers_no_inode granted lasts loose none lacks) is =
+        by_inode p told _ (answers_no_inode it none lacks) is =
             (d, now_left p told, subst (IsShortOfInodes d) (sym a.op_is) (inodes d v.parts (state v.device) op volume none lacks))
-        by_inode p told _ (answers_no_space granted lasts loose none lacks) is = absurd (cc is)
+        by_inode p told _ (answers_no_space it none inode lacks) is = absurd (cc is)
 
 pub begins_stay_sound : {D F : Type 0} (state : D → State) → BeginsStaySound D F state
 begins_stay_sound state agree print base who op v v' outcome some running sound begins =
     let was = sound_disk state print base v running sound in by outcome was.0 was.1 was.2 (begins was.0 was.1)
   where
     quiet : (d : Disk) → IsSound print base d v.parts (state v.device) → IsUntouched state v v' d → Sound state print base v'
-    quiet d s u = is_sound d u.volume (untouched state print base v v' d s u.device u.trace u)
+    quiet d s u = is_sound d u.volume (untouched state print base v v' d s u.device u.same.work.trace u)
 
     by : (o : Outcome) → (d : Disk) → IsVolume d v.parts (state v.device) → IsSound print base d v.parts (state v.device) → Begins state who op v v' d o → Sound state print base v'
-    by (out.Running left) d volume s h = is_sound d h.volume (begun state print base v v' d s h.device h.trace who op left some h)
-    by (out.Done reply) d volume s a = is_sound d a.volume (at_once state print base v v' d s a.device a.trace who op reply some (agree v.device) wants_are_short inodes_are_short volume a)
+    by (out.Running left) d volume s h = is_sound d h.volume (begun state print base v v' d s h.device h.opens.same.work.trace who op left some h)
+    by (out.Done reply) d volume s a = is_sound d a.volume (at_once state print base v v' d s a.device a.same.work.trace who op reply some (agree v.device) wants_are_short inodes_are_short volume a)
     by (out.Busy holder) d volume s b = quiet d s b.0
     by (out.Released waiting) d volume s b = quiet d s b.0
     by out.Idle d volume s b = absurd b
     by out.NotYours d volume s b = absurd b
-    by out.NoMemory d volume s u = quiet d s u
+    by out.NoMemory d volume s b = quiet d s b.0
     by out.Stopped d volume s b = absurd b

@@ -9,11 +9,12 @@ use Rattle.dn_model.specs.Disk.{Disk, Inode}
 use Rattle.dn_model.specs.History.{needed}
 use Rattle.dn_model.specs.Valid.{IsValid}
 use Rattle.law_write.specs.Events.{IsUnused}
+use Rattle.file_content.specs.Content.{IsFilledBy}
 use Rattle.dn_volume.specs.declared.flight.Flight.{Flight}
 use Rattle.dn_volume.specs.declared.flight.DataChange.{DataChange}
 use Rattle.dn_volume.specs.Parties.{taken_by}
 use Rattle.dn_volume.specs.Planned.{new_byte}
-use Rattle.dn_volume.specs.Flights.{IsFilledBy, GrowsBy, IsDataFlight}
+use Rattle.dn_volume.specs.Flights.{GrowsBy, IsDataFlight}
 use Rattle.dn_volume.specs.Rely.{LeavesRest, IsWordOf}
 use Rattle.dn_volume.proofs.Owned.{page_out}
 use Rattle.dn_volume.proofs.Stays.{log_same, node_same, bytes_same, plans_same, needed_same}

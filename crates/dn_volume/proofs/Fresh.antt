@@ -23,7 +23,7 @@ use Rattle.law_write.specs.Events.{IsUnused}
 use Rattle.law_write.proofs.Counting.{total-zero}
 use Rattle.law_course.proofs.Course.{begins}
 use Rattle.dn_volume.specs.declared.flight.Flight.{Flight}
-use Rattle.dn_volume.specs.declared.outcome.CountChange.{CountChange}
+use Rattle.dn_model.specs.declared.op.CountChange.{CountChange}
 use Rattle.dn_volume.specs.declared.volume.Parts.{Parts}
 use Rattle.dn_volume.specs.declared.volume.Room.{Room}
 use Rattle.dn_volume.specs.Parties.{Flies, Holds, by_client, by_daemon, Takes, for_client, flight_at, opened}
@@ -232,6 +232,7 @@ module _ (g : Geometry) (b : Parts) (s : State) (fresh : IsFresh g b) (fast : St
       zero_check = λ slot is. let none = fresh.zero_check in absurd (cc);
       raised = λ p is. let none = fresh.raised in absurd (cc);
     };
+    pointers = record { none = λ page lt some none. some refl };
     room = room_is;
     trace = subst (All (λ (change : CountChange). change.slot < slots b.geometry)) (sym fresh.trace) (All-nil (λ (change : CountChange). change.slot < slots b.geometry));
   }

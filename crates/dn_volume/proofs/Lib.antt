@@ -18,8 +18,10 @@ pub mod Begun
 pub mod Fresh
 pub mod Stills
 pub mod Kept
+pub mod Heads
+pub mod SameRoom
+pub mod Replaced
 pub mod Stepped
-pub mod Settling
 pub mod Wants
 pub mod FlightsGranted
 pub mod Lacks

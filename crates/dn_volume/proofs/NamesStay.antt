@@ -1,6 +1,6 @@
 -- An operation on names in flight stays as far as it is through an event of another actor.
 use Rattle.std.proofs.Common.{◌≡◌, ◌≢◌, inl, inr, ℕ, ◌+◌, ◌-◌, ◌*◌, ◌/◌, ◌<◌, List, ◌++◌, length, refl, sym, ◌∙◌, ap, subst, arith}
-use Rattle.std.specs.Prelude.{slice_index, Option, Some, None, Contains}
+use Rattle.std.specs.Prelude.{if◌then◌else◌, slice_index, Option, Some, None, Contains}
 use Rattle.std.proofs.lemmas.List.Elements.{Contains-get_or, Contains-append_left, Contains-append_cases}
 use Rattle.pm_device.specs.State.{State}
 use Rattle.pm_device.specs.Reading.{IsReady}
@@ -21,6 +21,7 @@ use Rattle.law_names.specs.NameChange.{NameChange as DiskChange, Turn, Stays, Co
 use Rattle.dn_volume.specs.declared.flight.Flight.{Flight}
 use Rattle.dn_volume.specs.declared.flight.NameChange.{NameChange}
 use Rattle.dn_volume.specs.Parties.{taken_by, blocks_of}
+use Rattle.log_entry.specs.Name.{same_name}
 use Rattle.log_entry.specs.Spelling.{spelled}
 use Rattle.law_names.specs.Operations.{renaming}
 use Rattle.dn_volume.specs.PlannedNames.{PlansNames}
@@ -71,7 +72,7 @@ module _ (inodes pages : List ℕ) (d e : Disk) (valid : IsValid d) (rest : Keep
     names_need (Read name at count) plans = absurd plans
     names_need (Cut name to) plans = absurd plans
     names_need (Remove name) plans = ap (extra (name_slots name)) root_log
-    names_need (Rename from to) plans = ap (extra (name_slots from + name_slots to)) root_log
+    names_need (Rename from to) plans = ap (λ (log : Log). if same_name from to then 0 else extra (name_slots from + name_slots to) log) root_log
     names_need (Size name) plans = absurd plans
     names_need ListAll plans = absurd plans
 

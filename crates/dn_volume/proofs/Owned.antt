@@ -11,7 +11,7 @@ use Rattle.dn_model.proofs.Regions.{inode_word_low}
 use Rattle.law_write.specs.Events.{IsUnused}
 use Rattle.dn_volume.specs.Rely.{IsWordOf, of_journal, of_table, of_inode, of_log, of_page}
 
-regions : (g : Geometry) → IsAccepted g → (3 ≤ first_data g) × (direct_page g ≤ first_data g)
+pub regions : (g : Geometry) → IsAccepted g → (3 ≤ first_data g) × (direct_page g ≤ first_data g)
 unfolding first_data
 regions g is = (omega (arith, is.pages, is.inodes), omega arith)
 
@@ -28,7 +28,7 @@ page_out inodes pages d valid page a unused out here (of_log i other has lt used
     unused.free.in_no_log (record { ino = i; in_table = lt; used = used; listed = subst (Contains (d.inode i).log.pages) (same_page page other a here w) listed })
 page_out inodes pages d valid page a unused out here (of_page other has w) = out (subst (Contains pages) (same_page page other a here w) has)
 
-in_data : (d : Disk) → IsValid d → (i page : ℕ) → i < d.geometry.inodes → IsUsed (d.inode i).use_of → Contains (d.inode i).log.pages page → InData d.geometry page
+pub in_data : (d : Disk) → IsValid d → (i page : ℕ) → i < d.geometry.inodes → IsUsed (d.inode i).use_of → Contains (d.inode i).log.pages page → InData d.geometry page
 in_data d valid i page lt used listed =
     let paged = (valid.logs i lt used).paged in
     subst (InData d.geometry) (sym (get_or_default_zero (d.inode i).log.pages listed.0 page listed.1) ∙ listed.2) (paged.in_data listed.0 listed.1)

@@ -159,7 +159,7 @@ module _ (b b' : Parts) (k who : ℕ) (entry : Entry) (few : k ≤ length b.hist
       by_client f flies is (inr other) = flight_later b' k q o f (record { client = flies.client; is = others.flights q flies.client other ∙ flies.is }) is
 
   -- an operation is answered at once
-  pub at_once_later : (op : Op) → entry.op ≡ op → b'.flights ≡ b.flights → OneLater b b' k who op
+  pub at_once_later : (op : Op) → entry.op ≡ op → b'.flights.items ≡ b.flights.items → OneLater b b' k who op
   at_once_later op entry_op same q o = (
     λ is. ⊎_elim (λ was. ⊎_elim (λ e. entry_later b' k q o e.0 (in_old e.0 e.1) e.2 e.3) (λ f. flight_later b' k q o f.0 (there f.0 f.1) f.2) was.why)
         (λ new. entry_later b' k q o entry in_new (entry_who ∙ sym new.0) (entry_op ∙ sym new.1)) is,
@@ -169,10 +169,10 @@ module _ (b b' : Parts) (k who : ℕ) (entry : Entry) (few : k ≤ length b.hist
   )
     where
       there : (f : Flight) → Flies b q f → Flies b' q f
-      there f flies = record { client = flies.client; is = ap (λ x. flight_at x.items (q - 1)) same ∙ flies.is }
+      there f flies = record { client = flies.client; is = ap (λ fs. flight_at fs (q - 1)) same ∙ flies.is }
 
       back : (f : Flight) → Flies b' q f → Flies b q f
-      back f flies = record { client = flies.client; is = ap (λ x. flight_at x.items (q - 1)) (sym same) ∙ flies.is }
+      back f flies = record { client = flies.client; is = ap (λ fs. flight_at fs (q - 1)) (sym same) ∙ flies.is }
 
 -- an operation begins
 pub begun_later : (b b' : Parts) (k who left : ℕ) (op : Op) → b'.history.items ≡ b.history.items → flight_at b.flights.items (who - 1) ≡ None → InFlight b' who op left → SameOthers who b b' → OneLater b b' k who op

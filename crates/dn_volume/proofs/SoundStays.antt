@@ -20,12 +20,13 @@ use Rattle.dn_model.specs.OnCourse.{IsImageOf}
 use Rattle.dn_model.specs.declared.op.Entry.{Entry}
 use Rattle.law_write.proofs.WriteEvent.{stands_for_read, length-left}
 use Rattle.pm_device.proofs.Layers.{leaves_now-stands}
-use Rattle.dn_volume.specs.declared.outcome.CountChange.{CountChange}
+use Rattle.dn_model.specs.declared.op.CountChange.{CountChange}
 use Rattle.dn_volume.specs.declared.volume.Parts.{Parts}
 use Rattle.dn_volume.specs.Agrees.{StandsFast}
 use Rattle.dn_volume.specs.Accounts.{HasPage, WasAloneOn, HadRow, AccountsFor}
 use Rattle.dn_volume.specs.Events.{Traces, word_at, word_after}
 use Rattle.dn_volume.specs.Sound.{WasLeft}
+use Rattle.dn_volume.specs.Laws.{FastDevicesLeave}
 
 -- Traces.
 pub after_more : (xs ys : List CountChange) (slot word : ℕ) → word_after (xs ++ ys) slot word ≡ word_after ys slot (word_after xs slot word)
@@ -131,11 +132,18 @@ pub rose_since : (a b c : ℕ) → a ≤ b → Rose b c → Rose a c
 rose_since a b c le (inl lt) = inl (omega (arith, le, lt))
 rose_since a b c le (inr top) = inr top
 
--- each image that a stop may leave now is of this program
-pub image_now : (print : Print) (d : Disk) (b : Parts) (s : State) → StandsFast d b.geometry s → IsOwn print d → Agree s.now s.past → LeavesNow s (IsImageOf print (files d))
+-- each image that a stop may leave now stands for the disk
+pub stands_left : FastDevicesLeave
+stands_left d g s fast agree c left =
+    stands_for_read d c fast.valid (leaves_now-stands s (DiskSays d) agree fast.stands c left)
+    (length-left s.past s.now (moment s.past) c agree left ∙ fast.long)
+
+-- and is of this program
+pub image_now : (print : Print) (d : Disk) (b : Parts) (s : State) → StandsFast d b.geometry s → IsOwn print d
+    → Agree s.now s.past → LeavesNow s (IsImageOf print (files d))
 image_now print d b s fast own agree c left = record {
   disk = d;
-  stands_for = stands_for_read d c fast.valid (leaves_now-stands s (DiskSays d) agree fast.stands c left) (length-left s.past s.now (moment s.past) c agree left ∙ fast.long);
+  stands_for = stands_left d b.geometry s fast agree c left;
   own = own;
   same = λ name. refl;
 }

@@ -73,7 +73,7 @@ module _ (d : Disk) (b : Parts) (s : State) (volume : IsVolume d b s) (none_wait
           (λ root. absurd (clash (d.inode ino).use_of (ap (λ (i : ℕ). (d.inode i).use_of) root ∙ volume.fast.valid.root) is))
           (λ other. absurd (lacks ino (omega (arith, other)) lt is)) (cases_eq ino 0)
 
-  lacks_inode : (op : Op) → LacksInode d b op → IsShortOfInodes d op
+  lacks_inode : (op : Op) → LacksInode d op → IsShortOfInodes d op
   lacks_inode (Create name) lacks = record { name = name; is_create = refl; all_live = all_live lacks }
   lacks_inode (Write name at text) lacks = absurd lacks
   lacks_inode (Read name at count) lacks = absurd lacks

@@ -15,7 +15,7 @@ use Rattle.dn_model.specs.declared.op.Reply.{Reply}
 use Rattle.dn_model.specs.declared.op.Reply.TheVariants.{Done as IsDone}
 use Rattle.dn_model.specs.declared.op.Entry.{Entry}
 use Rattle.dn_volume.specs.declared.flight.Flight.{Flight}
-use Rattle.dn_volume.specs.declared.outcome.CountChange.{CountChange}
+use Rattle.dn_model.specs.declared.op.CountChange.{CountChange}
 use Rattle.dn_volume.specs.declared.outcome.Outcome.{Outcome}
 use Rattle.dn_volume.specs.declared.outcome.Outcome.TheVariants.{Running, Done, Busy, Released, Idle, NotYours, NoMemory, Stopped}
 use Rattle.dn_volume.specs.declared.volume.Parts.{Parts}
@@ -50,6 +50,11 @@ pub record Traces (d e : Disk) (b b' : Parts) : Type 0 where
   pub more : List CountChange
   pub trace : b'.trace.items ≡ b.trace.items ++ more
   pub words : (slot : ℕ) → word_at e slot ≡ word_after more slot (word_at d slot)
+
+-- the trace of before is how that of after begins
+pub record Lengthens (b b' : Parts) : Type 0 where
+  pub more : List CountChange
+  pub trace : b'.trace.items ≡ b.trace.items ++ more
 
 -- one call more got on, unless there is no greater number
 abbrev pub Counts : Parts → Parts → Type 0
@@ -99,7 +104,7 @@ pub record Answers {D F : Type 0} (state : D → State) (print : Print) (who : �
   pub landed : flight_at v'.parts.flights.items (who - 1) ≡ None
 
 -- A fence failed: the images on the way hold the files of before, or those after the operation if this event was to
--- answer one. That operation is in flight still, with this event left.
+-- answer one. That operation is in flight still, with this event left; other actors have what they had.
 pub record Breaks {D F : Type 0} (state : D → State) (print : Print) (who : ℕ) (answers : Option Op) (v v' : Volume D F) (d : Disk) : Type 0 where
   pub stopped : IsStopped v'.parts (state v'.device)
   pub after : Disk
@@ -109,7 +114,10 @@ pub record Breaks {D F : Type 0} (state : D → State) (print : Print) (who : �
   pub ops : KeepsOps v.parts v'.parts
   pub answering : (op : Op) → answers ≡ Some op → IsOwn print d → IsGranted (files d) op × IsSameFiles (files after) (after_op (files d) op)
   pub answered : (op : Op) → answers ≡ Some op → InFlight v'.parts who op 1
+  pub others : SameOthers who v.parts v'.parts
+  pub trace : Lengthens v.parts v'.parts
   pub history : v'.parts.history.items ≡ v.parts.history.items
+  pub geometry : v'.parts.geometry ≡ v.parts.geometry
   pub counts : Counts v.parts v'.parts
   pub faults : (state v.device).faults ≤ (state v'.device).faults
 

@@ -2,9 +2,7 @@
 -- taken pages: what was stored there is settled by its actor's next fence, if it isn't yet.
 use Rattle.std.specs.Prelude.{◌≡◌, ℕ, ◌+◌, ◌-◌, ◌*◌, ◌/◌, ◌<◌, ◌≤◌, true, if◌then◌else◌, [], ◌++◌, length, slice_index, Contains}
 use Rattle.pm_device.specs.State.{State}
-use Rattle.pm_device.specs.Settled.{IsFlushed}
 use Rattle.pm_device.specs.Reading.{IsReady}
-use Rattle.page_bytes.specs.Bytes.{page_byte}
 use Rattle.log_entry.specs.Spelling.{spelled}
 use Rattle.dn_model.specs.Log.{count, tail_at}
 use Rattle.dn_model.specs.Disk.{Disk, Live, Dying}
@@ -12,6 +10,7 @@ use Rattle.dn_model.specs.Files.{bytes}
 use Rattle.dn_model.specs.History.{needed}
 use Rattle.law_write.specs.Runs.{IsChained, places_in, block_at}
 use Rattle.law_names.specs.NameChange.{NameChange as DiskChange, FreshNames, root_after, Turn, Stays, Comes, Goes}
+use Rattle.file_content.specs.Content.{IsFilledBy}
 use Rattle.file_content.specs.Pages.{AreApart}
 use Rattle.file_content.specs.Runs.{all_seen}
 use Rattle.dn_volume.specs.declared.flight.Flight.{Flight}
@@ -30,11 +29,6 @@ abbrev pub as_turn : KeptTurn → Turn
 as_turn kept.Stays = Stays
 as_turn kept.Comes = Comes
 as_turn kept.Goes = Goes
-
--- these bytes stand in the page, and this actor has flushed them
-pub record IsFilledBy (who : ℕ) (s : State) (page : ℕ) (byte : ℕ → ℕ) : Type 0 where
-  pub bytes_are : (k : ℕ) → k < 4096 → page_byte s.now page k ≡ byte k
-  pub flushed : (k : ℕ) → k < 512 → IsFlushed who s (512 * page + k)
 
 -- the items' slots go behind the log, which grows by just the pages that they need
 pub record GrowsBy (d : Disk) (f : Flight) : Type 0 where

@@ -1,11 +1,13 @@
 -- The laws by which an event of a machine is proved.
-use Rattle.std.specs.Prelude.{◌≡◌, ◌⊎◌, ℕ, ◌-◌, ◌<◌, ◌≤◌, false, List, length, Option, None, Contains}
+use Rattle.std.specs.Prelude.{◌≡◌, ◌⊎◌, ℕ, ◌-◌, ◌*◌, ◌<◌, ◌≤◌, false, List, length, Option, None, Contains}
 use Rattle.pm_device.specs.State.{State, Agree}
-use Rattle.pm_device.specs.Settled.{LeavesOnly, StoresOnly}
+use Rattle.pm_device.specs.Settled.{LeavesOnly, LeavesNow, StoresOnly}
+use Rattle.pm_layout.specs.declared.Geometry.{Geometry}
+use Rattle.dn_model.specs.Valid.{IsValid}
 use Rattle.pm_device.specs.Reading.{Said}
 use Rattle.dn_model.specs.Log.{Log, IsPaged}
 use Rattle.dn_model.specs.Growth.{IsGrown, Prepared}
-use Rattle.dn_model.specs.Disk.{Disk, Live}
+use Rattle.dn_model.specs.Disk.{Disk, Live, DiskSays}
 use Rattle.dn_model.specs.Image.{StandsFor}
 use Rattle.dn_model.specs.Own.{Print, IsOwn}
 use Rattle.dn_model.specs.Course.{Base}
@@ -43,6 +45,16 @@ abbrev pub LogStoresChangeNothing : Type 0
 LogStoresChangeNothing = (d : Disk) (ino : ℕ) (new : Log) (s t : State) → StandsFast d d.geometry s → ino < d.geometry.inodes → (d.inode ino).use_of ≡ Live → (grown : IsGrown (d.inode ino).log new) → IsPaged d.geometry new
     → ((page : ℕ) → Contains grown.fresh page → IsUnused d page) → StoresOnly (Said (Prepared ino (d.inode ino).log new)) s t → Agree t.now t.past → StandsStill d s t
 
+-- A device that stands for a disk leaves images of it alone now.
+abbrev pub FastDevicesLeave : Type 0
+FastDevicesLeave = (d : Disk) (g : Geometry) (s : State) → StandsFast d g s → Agree s.now s.past
+    → LeavesNow s (λ c. StandsFor c d)
+
+-- What a valid disk says lies within its pages.
+abbrev pub ValidDisksLieWithin : Type 0
+ValidDisksLieWithin = (d : Disk) → IsValid d → (a v : ℕ) → DiskSays d a v
+    → a < 512 * d.geometry.pages
+
 -- A deciding event: where each image stands for the one disk or the other, it is between them.
 abbrev pub DecidingStoresLead : Type 0
 DecidingStoresLead = (print : Print) (d e : Disk) (s t : State) → (IsOwn print d → IsOwn print e) → LeavesOnly s t (λ c. StandsFor c d ⊎ StandsFor c e) → LeavesOnly s t (IsBetween print d e)
@@ -75,7 +87,7 @@ WantsAreShort = (d : Disk) (b : Parts) (s : State) (who : ℕ) (op : Op) → 1 �
     → (scripts : List (List Op)) × AreFlying b who scripts × IsShortOfSpace d scripts op (needed d op) (length b.free.free)
 
 abbrev pub InodesAreShort : Type 0
-InodesAreShort = (d : Disk) (b : Parts) (s : State) (op : Op) → IsVolume d b s → b.reclaiming.waiting ≡ 0 → LacksInode d b op → IsShortOfInodes d op
+InodesAreShort = (d : Disk) (b : Parts) (s : State) (op : Op) → IsVolume d b s → b.reclaiming.waiting ≡ 0 → LacksInode d op → IsShortOfInodes d op
 
 -- so does a begin
 abbrev pub BeginsStaySound : (D F : Type 0) → (D → State) → Type 0

@@ -9,6 +9,8 @@ pub mod Shares
 pub mod Reclaims
 pub mod Reserve
 pub mod Stills
+pub mod Kept
+pub mod Replaces
 pub mod Agrees
 pub mod Rely
 pub mod StillLaws

@@ -1,31 +1,53 @@
 -- What an event of the daemon or of reclaim promises.
-use Rattle.std.specs.Prelude.{◌≡◌, ℕ, ◌+◌, ◌-◌, ◌*◌, if◌then◌else◌, nat_lt, [], Option, Some, None}
+use Rattle.std.specs.Prelude.{◌≡◌, ◌⊎◌, ℕ, ◌+◌, ◌-◌, ◌*◌, ◌<◌, ◌≤◌, if◌then◌else◌, nat_lt}
+use Rattle.std.specs.Prelude.{List, [], ◌∷◌, length, slice_get, Option, Some, None, IsSome}
 use Rattle.pm_device.specs.State.{State}
-use Rattle.dn_model.specs.Disk.{Disk}
+use Rattle.dedupe_queue.specs.declared.Work.{Work}
+use Rattle.dn_model.specs.Maps.{Mapping}
+use Rattle.dn_model.specs.Disk.{Disk, Live, maps}
 use Rattle.dn_model.specs.Own.{Print}
 use Rattle.dn_volume.specs.declared.background.Sharing.{Sharing}
 use Rattle.dn_volume.specs.declared.background.SharingStep.{SharingStep}
 use Rattle.dn_volume.specs.declared.background.SharingStep.TheVariants.{Look, Remap, Settle}
 use Rattle.dn_volume.specs.declared.outcome.Outcome.{Outcome}
-use Rattle.dn_volume.specs.declared.outcome.Outcome.TheVariants.{Running, Done, Busy, Released, Idle, NotYours, NoMemory, Stopped}
+use Rattle.dn_volume.specs.declared.outcome.Outcome.TheVariants as told
+use Rattle.dn_volume.specs.declared.volume.InodeState.{InodeState}
 use Rattle.dn_volume.specs.declared.volume.Parts.{Parts}
 use Rattle.dn_volume.specs.declared.volume.Volume.{Volume}
+use Rattle.dn_volume.specs.Parties.{Holds}
 use Rattle.dn_volume.specs.Begins.{IsUntouched}
 use Rattle.dn_volume.specs.Events.{MovesOn, Breaks}
 
--- Work of the daemon or of reclaim: `left` tells how many events it has left, `rests` when there is none to do, and
--- `held` when it can't begin.
-abbrev pub Works : {D F : Type 0} → (D → State) → Print → ℕ → (left : Volume D F → ℕ → Type 0) (rests : Type 0) (held : ℕ → Type 0) → Volume D F → Volume D F → Disk → Outcome → Type 0
-Works state print who left rests held v v' d (Running n) = MovesOn state print who v v' d × left v' n
-Works state print who left rests held v v' d (Done reply) = ⊥
-Works state print who left rests held v v' d (Busy holder) = IsUntouched state v v' d × held holder
-Works state print who left rests held v v' d (Released waiting) = ⊥
-Works state print who left rests held v v' d Idle = IsUntouched state v v' d × rests
-Works state print who left rests held v v' d NotYours = ⊥
-Works state print who left rests held v v' d NoMemory = IsUntouched state v v' d
-Works state print who left rests held v v' d Stopped = Breaks state print who None v v' d
+-- Where a background actor stands before an event: it has nothing to do, it is held up by another actor, or it has begun
+-- something already.
+pub record Stand : Type 1 where
+  pub rests : Type 0
+  pub held : ℕ → Type 0
+  pub begun : Type 0
 
--- The daemon has so many events left of the item that it has begun, 0 where that is ended; and it has nothing to do.
+-- It has something to do, and isn't held up.
+pub record MayWork (stand : Stand) : Type 0 where
+  pub some : stand.rests → ⊥
+  pub loose : (holder : ℕ) → stand.held holder → ⊥
+
+-- An event of a background actor: `lowers` tells what gets less where it gets on, and how many events are left. It takes no
+-- memory for what is begun.
+abbrev pub Works : {D F : Type 0} → (D → State) → Print → ℕ → Stand → (lowers : Parts → Parts → ℕ → Type 0)
+    → Volume D F → Volume D F → Disk → Outcome → Type 0
+Works state print who stand lowers v v' d (told.Running left) =
+    MovesOn state print who v v' d × MayWork stand × lowers v.parts v'.parts left
+Works state print who stand lowers v v' d (told.Done reply) = ⊥
+Works state print who stand lowers v v' d (told.Busy holder) =
+    IsUntouched state v v' d × stand.held holder
+Works state print who stand lowers v v' d (told.Released waiting) = ⊥
+Works state print who stand lowers v v' d told.Idle = IsUntouched state v v' d × stand.rests
+Works state print who stand lowers v v' d told.NotYours = ⊥
+Works state print who stand lowers v v' d told.NoMemory =
+    IsUntouched state v v' d × MayWork stand × (stand.begun → ⊥)
+Works state print who stand lowers v v' d told.Stopped =
+    Breaks state print who None v v' d × MayWork stand
+
+-- The daemon has so many events left of the item that it has begun, 0 where that is ended.
 abbrev pub step_events : SharingStep → ℕ
 step_events Look = 3
 step_events (Remap slot) = 2
@@ -33,18 +55,74 @@ step_events (Settle slot) = 1
 
 abbrev pub sharing_events : Option Sharing → ℕ
 sharing_events None = 0
-sharing_events (Some sharing) = if nat_lt sharing.done sharing.count then 3 * (sharing.count - sharing.done - 1) + step_events sharing.step + 1 else 1
+sharing_events (Some sharing) =
+    if nat_lt sharing.done sharing.count
+    then 3 * (sharing.count - sharing.done - 1) + step_events sharing.step + 1
+    else 1
 
-abbrev pub DaemonLeft : {D F : Type 0} → Volume D F → ℕ → Type 0
-DaemonLeft v n = n ≡ sharing_events v.parts.sharing
+-- What waits or is begun for the daemon, as a number that each of its events lowers: an item has at most 17 places, of at
+-- most 3 events each, is taken by one event and ended by another.
+abbrev pub daemon_work : Parts → ℕ
+daemon_work b = 53 * length b.queue.items + sharing_events b.sharing
+
+-- A queued item is stale unless its inode is live, its round is the inode's, and a place is mapped by its slot.
+pub record IsFresh (d : Disk) (b : Parts) (work : Work) : Type 0 where
+  pub live : (d.inode work.ino).use_of ≡ Live
+  pub kept : InodeState
+  pub is_kept : slice_get b.inodes.items work.ino ≡ Some kept
+  pub round : work.round ≡ kept.round
+  pub place : ℕ
+  pub by : Mapping
+  pub mapped : maps d work.ino place ≡ Some by
+  pub by_item : by.slot ≡ work.slot
+
+-- the daemon has begun nothing, and the front item, which isn't stale, is of an inode that this actor holds
+pub record IsHeldUp (d : Disk) (b : Parts) (holder : ℕ) : Type 0 where
+  pub none_begun : b.sharing ≡ None
+  pub work : Work
+  pub rest : List Work
+  pub front : b.queue.items ≡ work ∷ rest
+  pub fresh : IsFresh d b work
+  pub holds : Holds b holder work.ino
 
 pub record DaemonRests (b : Parts) : Type 0 where
   pub none_begun : b.sharing ≡ None
   pub none_waits : b.queue.items ≡ []
 
--- Reclaim has the units that wait left.
-abbrev pub ReclaimLeft : {D F : Type 0} → Volume D F → ℕ → Type 0
-ReclaimLeft v n = n ≡ v.parts.reclaiming.waiting
+abbrev pub daemon_stand : Disk → Parts → Stand
+daemon_stand d b =
+    record { rests = DaemonRests b; held = IsHeldUp d b; begun = IsSome b.sharing }
 
+-- its own work is less afterwards, and reclaim's is what it was
+pub record DaemonLowers (b b' : Parts) (left : ℕ) : Type 0 where
+  pub left_is : left ≡ sharing_events b'.sharing
+  pub less : daemon_work b' < daemon_work b
+  pub waiting : b'.reclaiming.waiting ≡ b.reclaiming.waiting
+
+abbrev pub DaemonWorks : {D F : Type 0} → (D → State) → Print → Volume D F → Volume D F → Disk → Outcome
+    → Type 0
+DaemonWorks state print v v' d outcome =
+    Works state print 15 (daemon_stand d v.parts) DaemonLowers v v' d outcome
+
+-- Reclaim has the units that wait left; nobody holds it up. A zero check and a raised dying place are begun.
 abbrev pub ReclaimRests : Parts → Type 0
 ReclaimRests b = b.reclaiming.waiting ≡ 0
+
+abbrev pub reclaim_stand : Parts → Stand
+reclaim_stand b = record {
+  rests = ReclaimRests b;
+  held = λ holder. ⊥;
+  begun = IsSome b.reclaiming.zero_check ⊎ IsSome b.reclaiming.raised;
+}
+
+-- its own work is less afterwards, and the daemon's is what it was
+pub record ReclaimLowers (b b' : Parts) (left : ℕ) : Type 0 where
+  pub left_is : left ≡ b'.reclaiming.waiting
+  pub less : b'.reclaiming.waiting < b.reclaiming.waiting
+  pub queue : length b'.queue.items ≡ length b.queue.items
+  pub sharing : b'.sharing ≡ b.sharing
+
+abbrev pub ReclaimWorks : {D F : Type 0} → (D → State) → Print → Volume D F → Volume D F → Disk → Outcome
+    → Type 0
+ReclaimWorks state print v v' d outcome =
+    Works state print 16 (reclaim_stand v.parts) ReclaimLowers v v' d outcome

@@ -1,8 +1,8 @@
 // The laws by which an event of a machine is proved. Each function states one; it does nothing.
-ghost use Rattle.dn_volume.specs.Laws.{DecidingStoresLead, TablesAreThere, AdvancesAreTold, MovesStaySound, AnswersStaySound, BreaksStaySound, BeginsStaySound, FlightsAreGranted, InodesAreShort, WantsAreShort};
+ghost use Rattle.dn_volume.specs.Laws.{DecidingStoresLead, FastDevicesLeave, TablesAreThere, AdvancesAreTold, MovesStaySound, AnswersStaySound, BreaksStaySound, BeginsStaySound, FlightsAreGranted, InodesAreShort, WantsAreShort};
 ghost use Rattle.dn_volume.specs.Fresh.{FreshVolumesAgree, FreshVolumesAreSound};
 ghost use Rattle.dn_volume.specs.Rely.{FlightsStay, OthersStay};
-ghost use Rattle.dn_volume.specs.StillLaws.{FlushesJoin, StillFlushes, StillSettles, StillWithoutFlights};
+ghost use Rattle.dn_volume.specs.StillLaws.{StillFlushes, StillSettles, StillWithoutFlights};
 
 use fingerprint::Fingerprint;
 use pm_device::Pm;
@@ -11,6 +11,11 @@ use pm_device::Pm;
 /// one or of the other, and is this program's if both disks are.
 pub fn deciding_stores_lead()
     ensures { DecidingStoresLead }
+{}
+
+/// A device that stands for a disk leaves images of that disk alone.
+pub fn fast_devices_leave()
+    ensures { FastDevicesLeave }
 {}
 
 /// An advance that is the last one adds its entry, and every other leaves the history as it is.
@@ -59,7 +64,6 @@ pub fn stillness_stays()
     ensures still { StillWithoutFlights }
     ensures flushes { StillFlushes }
     ensures settles { StillSettles }
-    ensures join { FlushesJoin }
 {}
 
 /// Where nothing waits for reclaim, a want of an inode is one of the disk.

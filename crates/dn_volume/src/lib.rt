@@ -9,21 +9,11 @@ pub mod flight;
 pub mod laws;
 pub mod outcome;
 pub mod rest;
+pub mod units;
 pub mod volume;
 
 pub use background::{DyingPlace, Reclaiming, Sharing, SharingStep};
+pub use dn_model::{CLIENTS, DAEMON, MOST_RELEASES, RECLAIM};
 pub use flight::{Change, DataChange, Flight, NameChange, Turn};
 pub use outcome::{CountChange, Outcome};
 pub use volume::{InodeState, InodeUse, Parts, Room, Volume};
-
-/// The number of clients: actors 1 to 14.
-pub const CLIENTS: u32 = 14;
-
-/// The actor of the daemon that shares pages.
-pub const DAEMON: u32 = 15;
-
-/// The actor of reclaim.
-pub const RECLAIM: u32 = 16;
-
-/// The most waiting releases.
-pub const MOST_RELEASES: u64 = 1048576;

@@ -1,4 +1,5 @@
 // What an event answers, and what it tells of counts.
+pub use dn_model::CountChange;
 use dn_model::Reply;
 
 /// The answer of an event.
@@ -29,13 +30,4 @@ pub enum Outcome {
     NoMemory,
     /// A fence of the device failed, now or before.
     Stopped,
-}
-
-/// A count word that changed.
-#[derive(Clone, Copy, Debug, PartialEq, Eq)]
-pub struct CountChange {
-    /// The slot of the row.
-    pub slot: u64,
-    /// The new count word.
-    pub word: u64,
 }

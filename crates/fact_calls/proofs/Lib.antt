@@ -1,3 +1,4 @@
+pub mod Moments
 pub mod Called
 pub mod Course
 pub mod Words

@@ -7,10 +7,27 @@ use Rattle.fingerprint.specs.declared.count.CountWord.{CountWord}
 use Rattle.dn_model.specs.Table.{Row, prefix_of}
 use Rattle.law_table.specs.Rows.{RecountsRows, PutsRow, TakesRow}
 use Rattle.fact_table.specs.Chained.{HasNoRow}
-use Rattle.fact_counts.specs.Counted.{raised, up, down, counted, MayRaise, MaySettleUp, MaySettleDown, AnyRow}
+use Rattle.fact_counts.specs.Counted.{
+  raised,
+  up,
+  down,
+  counted,
+  MayRaise,
+  MaySettleUp,
+  MaySettleDown,
+  AnyRow,
+}
 use Rattle.fact_rows.specs.Put.{new_row}
 use Rattle.fact_calls.specs.declared.call.TableCall.{TableCall}
-use Rattle.fact_calls.specs.declared.call.TableCall.TheVariants.{Insert, Raise, SettleUp, SettleDown, Recount, RemoveZero, ClearStale}
+use Rattle.fact_calls.specs.declared.call.TableCall.TheVariants.{
+  Insert,
+  Raise,
+  SettleUp,
+  SettleDown,
+  Recount,
+  RemoveZero,
+  ClearStale,
+}
 
 -- a row with this slot has P
 pub record HasRowAt (rs : List Row) (slot : ℕ) (P : Row → Type 0) : Type 0 where
@@ -47,16 +64,19 @@ pub record IsLeastUnused (g : Geometry) (rs : List Row) (slot : ℕ) : Type 0 wh
   pub unused : NoneAt rs slot
   pub least : (other : ℕ) → directs g ≤ other → other < slot → HasRowAt rs other AnyRow
 
--- a new row's slot: the direct slot of its prefix where no row has that, and else the least indirect one
+-- a new row's slot: the direct slot of its prefix where no row has that, and else the least
+-- indirect one
 pub data IsSlotFor (g : Geometry) (rs : List Row) (print : List ℕ) (slot : ℕ) : Type 0 where
   at_direct : slot ≡ prefix_of g print → NoneAt rs slot → IsSlotFor g rs print slot
-  at_indirect : HasRowAt rs (prefix_of g print) AnyRow → IsLeastUnused g rs slot → IsSlotFor g rs print slot
+  at_indirect : HasRowAt rs (prefix_of g print) AnyRow → IsLeastUnused g rs slot
+      → IsSlotFor g rs print slot
 
 -- this row came in, and nothing else changed
-pub record InsertsRow (g : Geometry) (print : List ℕ) (page : ℕ) (olds news : List Row) : Type 0 where
-  pub slot : ℕ
-  pub slot_for : IsSlotFor g olds print slot
-  pub puts : PutsRow (new_row slot print page) olds news
+pub record InsertsRow (g : Geometry) (print : List ℕ) (page : ℕ) (olds news : List Row) : Type 0
+  where
+    pub slot : ℕ
+    pub slot_for : IsSlotFor g olds print slot
+    pub puts : PutsRow (new_row slot print page) olds news
 
 -- the row at this slot has the counts that f makes of it
 pub record CountsRow (f : Row → CountWord) (slot : ℕ) (olds news : List Row) : Type 0 where
@@ -83,10 +103,13 @@ Follows g olds (RemoveZero slot) news = RemovesRow slot olds news
 Follows g olds ClearStale news = news ≡ olds
 
 -- the rows after the first k calls
-pub data After (g : Geometry) (calls : List TableCall) (olds : List Row) : ℕ → List Row → Type 0 where
+pub data After (g : Geometry) (calls : List TableCall) (olds : List Row) : ℕ → List Row
+    → Type 0 where
   none_made : After g calls olds 0 olds
-  one_more : {k : ℕ} {mids news : List Row} {call : TableCall} → After g calls olds k mids → slice_get calls k ≡ Some call → Follows g mids call news → After g calls olds (suc k) news
+  one_more : {k : ℕ} {mids news : List Row} {call : TableCall} → After g calls olds k mids
+      → slice_get calls k ≡ Some call → Follows g mids call news → After g calls olds (suc k) news
 
 -- each call's condition holds of the rows after those before it
 abbrev pub Allows : Geometry → List TableCall → List Row → Type 0
-Allows g calls olds = (k : ℕ) (rs : List Row) (call : TableCall) → After g calls olds k rs → slice_get calls k ≡ Some call → MayMake g rs call
+Allows g calls olds = (k : ℕ) (rs : List Row) (call : TableCall) → After g calls olds k rs
+    → slice_get calls k ≡ Some call → MayMake g rs call

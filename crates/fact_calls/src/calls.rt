@@ -1,25 +1,27 @@
 // Calls are made, one after another.
 ghost use Rattle.std.specs.Prelude.{◌≡◌, ◌+◌, ◌*◌, ◌≤◌, length, OnOk, IsErr};
 ghost use Rattle.pm_device.specs.State.{Rose};
-ghost use Rattle.pm_device.specs.Settled.{StoresOnly};
+ghost use Rattle.pm_device.specs.Settled.{StoresOnly, KeepsFlushed, Others, FlushesAll};
 ghost use Rattle.law_table.specs.Words.{IsTableWord};
-ghost use Rattle.fact_calls.specs.Made.{CanCall, CanCallAll, LeavesCall, MakesCall, LeavesAll, MakesAll};
+ghost use Rattle.fact_calls.specs.Made.{CanCall, CanCallAll, LeavesCall, MakesCall, LeavesAll, LeavesEach, MakesAll};
 
 use crate::call::TableCall;
+use fact_changes::stale::STALE_UNITS;
 use fact_changes::{clear_stale, insert, remove_zero};
 use fact_counts::{raise, recount, settle_down, settle_up};
 use fact_table::Fact;
 use pm_device::{Failed, Pm};
 
 /// The units of the device that a call uses, for each page of the image.
-pub const CALL_UNITS: u64 = 3;
+pub const CALL_UNITS: u64 = STALE_UNITS;
 
-/// Makes one call.
+/// Makes one call. What it stores is fenced, and so is all that this actor had flushed before; only a call that has
+/// nothing to clear fences nothing.
 ///
-/// Where the table is settled before, at each moment a stop leaves the rows of before or those of after.
+/// Where the table is settled before, at each moment a crash leaves the rows of before or those of after.
 ///
 /// # Errors
-/// `Failed` where a fence failed. A stop may leave either; the table that is kept in memory isn't used again.
+/// `Failed` where a fence failed. A crash may leave either; the table that is kept in memory isn't used again.
 pub fn make<D: Pm>(
     fact: &mut Fact,
     device: &mut D,
@@ -29,9 +31,15 @@ pub fn make<D: Pm>(
     requires can { CanCall (D.state device.old).now fact.old call.now }
     requires room { CALL_UNITS * fact.old.geometry.pages ≤ (D.state device.old).spare }
     ensures images { LeavesCall fact.old call.now (D.state device.old) (D.state device.new) }
-    ensures done { OnOk result (MakesCall fact.old fact.new call.now (D.state device.old) (D.state device.new)) }
-    ensures only { StoresOnly (IsTableWord fact.old.geometry) (D.state device.old) (D.state device.new) }
-    ensures spare { (D.state device.old).spare ≤ (D.state device.new).spare + CALL_UNITS * fact.old.geometry.pages }
+    ensures done { OnOk result (MakesCall fact.old fact.new call.now (D.state device.old)
+        (D.state device.new)) }
+    ensures flushes { OnOk result (FlushesAll who (D.state device.old) (D.state device.new)) }
+    ensures only { StoresOnly (IsTableWord fact.old.geometry) (D.state device.old)
+        (D.state device.new) }
+    ensures others { KeepsFlushed (Others who) (IsTableWord fact.old.geometry)
+        (D.state device.old) (D.state device.new) }
+    ensures spare { (D.state device.old).spare ≤ (D.state device.new).spare + CALL_UNITS
+        * fact.old.geometry.pages }
     ensures faults { (D.state device.old).faults ≤ (D.state device.new).faults }
     ensures failed { IsErr result → Rose (D.state device.old).faults (D.state device.new).faults }
 {
@@ -51,8 +59,8 @@ pub fn make<D: Pm>(
 
 /// Makes these calls, one after another, up to the first that fails.
 ///
-/// Where the table is settled before, at each moment a stop leaves the rows after the calls that were made so far, or
-/// after one more.
+/// Where the table is settled before, each call that was made has a moment, in order: at each moment a crash leaves the
+/// rows after the calls that were made by then, or after one more.
 ///
 /// # Errors
 /// `Failed` where a fence failed. The calls after that one weren't made.
@@ -63,11 +71,20 @@ pub fn make_all<D: Pm>(
     calls: &[TableCall],
 ) -> Result<(), Failed>
     requires can { CanCallAll (D.state device.old).now fact.old calls.now }
-    requires room { CALL_UNITS * fact.old.geometry.pages * length calls.now ≤ (D.state device.old).spare }
+    requires room { CALL_UNITS * fact.old.geometry.pages * length calls.now ≤
+        (D.state device.old).spare }
     ensures images { LeavesAll fact.old calls.now (D.state device.old) (D.state device.new) }
-    ensures done { OnOk result (MakesAll fact.old fact.new calls.now (D.state device.old) (D.state device.new)) }
-    ensures only { StoresOnly (IsTableWord fact.old.geometry) (D.state device.old) (D.state device.new) }
-    ensures spare { (D.state device.old).spare ≤ (D.state device.new).spare + CALL_UNITS * fact.old.geometry.pages * length calls.now }
+    ensures each { OnOk result (LeavesEach fact.old calls.now (D.state device.old)
+        (D.state device.new)) }
+    ensures done { OnOk result (MakesAll fact.old fact.new calls.now (D.state device.old)
+        (D.state device.new)) }
+    ensures flushes { OnOk result (FlushesAll who (D.state device.old) (D.state device.new)) }
+    ensures only { StoresOnly (IsTableWord fact.old.geometry) (D.state device.old)
+        (D.state device.new) }
+    ensures others { KeepsFlushed (Others who) (IsTableWord fact.old.geometry)
+        (D.state device.old) (D.state device.new) }
+    ensures spare { (D.state device.old).spare ≤ (D.state device.new).spare + CALL_UNITS
+        * fact.old.geometry.pages * length calls.now }
     ensures faults { (D.state device.old).faults ≤ (D.state device.new).faults }
     ensures failed { IsErr result → Rose (D.state device.old).faults (D.state device.new).faults }
 {

@@ -22,7 +22,18 @@ use Rattle.law_table.proofs.Gone.{takes_row, taken_may_clear}
 use Rattle.fact_table.specs.Table.{Table, IsTable, HasRow, HasNoneAt, GivesBackSlot}
 use Rattle.fact_table.proofs.Tables.{head_or_behind, chain_behind, next_word}
 use Rattle.fact_rows.specs.Put.{HoldsOneOf}
-use Rattle.fact_rows.specs.Gone.{MayTakeOut, CanTakeOut, MayUnlink, CanUnlink, cleared, IsGoneWord, MakesClosed, LeavesUnlinked, MakesUnlinked, SettlesUnlinked}
+use Rattle.fact_rows.specs.Gone.{
+  MayTakeOut,
+  CanTakeOut,
+  MayUnlink,
+  CanUnlink,
+  cleared,
+  IsGoneWord,
+  MakesClosed,
+  LeavesUnlinked,
+  MakesUnlinked,
+  SettlesUnlinked,
+}
 use Rattle.fact_changes.specs.Removal.{IsChainTo, HasChainTo, IsBefore, MayRemoveAt, deciding_word, IsRemoveWord}
 use Rattle.fact_changes.proofs.SlotBefore.{before_behind}
 use Rattle.fact_changes.proofs.Slotted.{table_of, accepted_disk}
@@ -41,18 +52,21 @@ module _ (d : Disk) (row : Row) (s : State) (t : Table) (slot : ℕ) (may : MayR
   may_take = record { accepted = accepted_disk d s.now t is; good = is.good; direct = stands_there.direct; has = stands_there.listed }
 
   pub zero_small : slot < slots t.geometry
-  zero_small = subst (λ (n : ℕ). n < slots t.geometry) may.at_slot.slot_is (subst (λ (g : Geometry). row.slot < slots g) is.geometry (row_slot_small d is.good row may.at_slot.there))
+  zero_small = subst (λ (n : ℕ). n < slots t.geometry) may.at_slot.slot_is (subst (λ (g : Geometry). row.slot < slots g) is.geometry
+      (row_slot_small d is.good row may.at_slot.there))
 
   -- the rows that are left
   pub rows_left : TakesRow row (rows d) (rows (cleared d row))
-  rows_left = subst (λ (rs : List Row). TakesRow row (rows d) rs) (sym (rows_repointed (removed d row.slot) row.page 0)) (takes_row d row is.good may.at_slot.there)
+  rows_left = subst (λ (rs : List Row). TakesRow row (rows d) rs) (sym (rows_repointed (removed d row.slot) row.page 0))
+      (takes_row d row is.good may.at_slot.there)
 
   pub good_left : HasGoodRows (cleared d row)
   good_left = pointed_good (removed d row.slot) row.page 0 (taken_may_clear d prefix row may_take)
 
   still : (other : ℕ) → other ≢ slot → HasRow d other → HasRow (cleared d row) other
   still other ne has = ⊎_elim (λ (e : has.row ≡ row). absurd (ne (sym has.is.slot_is ∙ ap (λ (r : Row). r.slot) e ∙ may.at_slot.slot_is)))
-      (λ (left : Contains (rows (cleared d row)) has.row). record { row = has.row; is = record { there = left; slot_is = has.is.slot_is } }) (rows_left.kept has.row has.is.there)
+      (λ (left : Contains (rows (cleared d row)) has.row). record { row = has.row; is = record { there = left; slot_is = has.is.slot_is } })
+      (rows_left.kept has.row has.is.there)
 
   none_left : (other : ℕ) → HasNoneAt d other → HasNoneAt (cleared d row) other
   none_left other none r has at = none r (rows_left.only r has).0 at
@@ -64,12 +78,14 @@ module _ (d : Disk) (row : Row) (s : State) (t : Table) (slot : ℕ) (may : MayR
   module _ (news : List ℕ) (size : length news ≡ 512 * t.geometry.pages) (holds : HoldsTable news (cleared d row)) where
     pub direct_table : slot < directs t.geometry → IsTable (cleared d row) news t
     direct_table low = table_of (cleared d row) news t is.geometry is.accepted size holds good_left is.set
-        (λ k has. none_left (directs t.geometry + k) (is.free k has)) (λ k lt not. still (directs t.geometry + k) (λ e. omega (arith, e, low)) (is.taken k lt not))
+        (λ k has. none_left (directs t.geometry + k) (is.free k has)) (λ k lt not. still (directs t.geometry + k) (λ e. omega (arith, e, low))
+        (is.taken k lt not))
 
     pub indirect_table : directs t.geometry ≤ slot → (t' : Table) → GivesBackSlot slot t t' → IsTable (cleared d row) news t'
     indirect_table high t' gives =
         let same = gives.geometry in
-        table_of (cleared d row) news t' (is.geometry ∙ sym same) (subst IsAccepted (sym same) is.accepted) (size ∙ ap (λ (g : Geometry). 512 * g.pages) (sym same)) holds good_left
+        table_of (cleared d row) news t' (is.geometry ∙ sym same) (subst IsAccepted (sym same) is.accepted)
+        (size ∙ ap (λ (g : Geometry). 512 * g.pages) (sym same)) holds good_left
         (gives.gives_back.pages ∙ is.set ∙ ap (λ (g : Geometry). g.pages) (sym same))
         (λ k. subst (λ (g : Geometry). Contains t'.free.free k → HasNoneAt (cleared d row) (directs g + k)) (sym same) (free_now k))
         (λ k. subst (λ (g : Geometry). k < g.pages → ¬ Contains t'.free.free k → HasRow (cleared d row) (directs g + k)) (sym same) (taken_now k))
@@ -86,7 +102,8 @@ module _ (d : Disk) (row : Row) (s : State) (t : Table) (slot : ℕ) (may : MayR
         taken_now : (k : ℕ) → k < t.geometry.pages → ¬ Contains t'.free.free k → HasRow (cleared d row) (directs t.geometry + k)
         taken_now k lt not = elim (cases_eq k (slot - directs t.geometry)) [
           | inl e ↦ absurd (not (subst (Contains t'.free.free) (sym e) gives.gives_back.there))
-          | inr ne ↦ still (directs t.geometry + k) (λ e. ne (omega (arith, e, place))) (is.taken k lt (λ c. not ((gives.gives_back.others k ne).1 c)))
+          | inr ne ↦ still (directs t.geometry + k) (λ e. ne (omega (arith, e, place)))
+              (is.taken k lt (λ c. not ((gives.gives_back.others k ne).1 c)))
         ]
 
   -- where the code holds the geometry and the page
@@ -98,7 +115,13 @@ module _ (d : Disk) (row : Row) (s : State) (t : Table) (slot : ℕ) (may : MayR
     zero_pointer = ap (λ (p : ℕ). pointer_word k p) (sym page_is) ∙ ap (λ (g : Geometry). pointer_word g row.page) (sym there)
 
     take_at : (p : ℕ) → p ≡ prefix → MayTakeOut d row s.now k p slot page
-    take_at p e = record { geometry = there; holds = is.says; may = subst (λ (q : ℕ). MayTakeRow d q row) (sym e) may_take; slot_is = may.at_slot.slot_is; page_is = page_is }
+    take_at p e = record {
+      geometry = there;
+      holds = is.says;
+      may = subst (λ (q : ℕ). MayTakeRow d q row) (sym e) may_take;
+      slot_is = may.at_slot.slot_is;
+      page_is = page_is;
+    }
 
     -- stores to its words are stores to those of the removal
     module _ (gate : ℕ) (gate_is : gate ≡ deciding_word d row) where
@@ -108,7 +131,8 @@ module _ (d : Disk) (row : Row) (s : State) (t : Table) (slot : ℕ) (may : MayR
       pub zero_only : (u : State) → StoresOnly (IsGoneWord k gate page) s u → StoresOnly (IsRemoveWord d row) s u
       zero_only u only = stores_only-weaken _ _ s u of_gone only
 
-      pub zero_keeps : (who : ℕ) (u : State) → KeepsFlushed (Others who) (IsGoneWord k gate page) s u → KeepsFlushed (Others who) (IsRemoveWord d row) s u
+      pub zero_keeps : (who : ℕ) (u : State) → KeepsFlushed (Others who) (IsGoneWord k gate page) s u → KeepsFlushed (Others who) (IsRemoveWord d row)
+          s u
       zero_keeps who u keeps = keeps-weaken (Others who) (Others who) _ _ s u (λ q other. other) of_gone keeps
 
     -- in the direct slot
@@ -137,7 +161,8 @@ module _ (d : Disk) (row : Row) (s : State) (t : Table) (slot : ℕ) (may : MayR
     -- behind it
     module _ (high : directs k ≤ slot) (direct : ℕ) (direct_is : direct ≡ prefix) where
       direct_lt : direct < directs t.geometry
-      direct_lt = subst (λ (g : Geometry). direct < directs g) is.geometry (subst (λ (p : ℕ). p < directs d.geometry) (sym direct_is) stands_there.direct)
+      direct_lt = subst (λ (g : Geometry). direct < directs g) is.geometry (subst (λ (p : ℕ). p < directs d.geometry) (sym direct_is)
+          stands_there.direct)
 
       other : slot ≢ direct
       other e = omega (arith, e, direct_lt, subst (λ (g : Geometry). directs g ≤ slot) same high)
@@ -148,8 +173,10 @@ module _ (d : Disk) (row : Row) (s : State) (t : Table) (slot : ℕ) (may : MayR
           record {
             from = record { chained = chain_behind d s.now t is direct direct_lt; first_is = next_word d s.now t is direct direct_lt };
             row = row;
-            there = ⊎_elim (λ (head : (row.slot ≡ direct) × (direct_page_word direct (d.chain direct) ≡ row.page)). absurd (other (sym may.at_slot.slot_is ∙ head.0)))
-                (λ (later : Contains (chained direct (d.chain direct)) row). later) (head_or_behind direct (d.chain direct) listed.0 row (at_listed (d.chain direct) row listed));
+            there = ⊎_elim (λ (head : (row.slot ≡ direct) × (direct_page_word direct (d.chain direct) ≡ row.page)). absurd
+                (other (sym may.at_slot.slot_is ∙ head.0)))
+                (λ (later : Contains (chained direct (d.chain direct)) row). later) (head_or_behind direct (d.chain direct) listed.0 row
+                (at_listed (d.chain direct) row listed));
             slot_is = may.at_slot.slot_is;
           }
 
@@ -163,7 +190,8 @@ module _ (d : Disk) (row : Row) (s : State) (t : Table) (slot : ℕ) (may : MayR
         before_at : before ≡ slot_before prefix (d.chain prefix) row.slot
         before_at =
             is_before (chained direct (d.chain direct)) behind_chain ∙ before_behind direct slot other (d.chain direct)
-            ∙ ap (λ (q : ℕ). slot_before direct (d.chain direct) q) (sym may.at_slot.slot_is) ∙ ap (λ (p : ℕ). slot_before p (d.chain p) row.slot) direct_is
+            ∙ ap (λ (q : ℕ). slot_before direct (d.chain direct) q) (sym may.at_slot.slot_is) ∙ ap (λ (p : ℕ). slot_before p (d.chain p) row.slot)
+            direct_is
 
         pub behind_may : MayUnlink d row prefix s.now k before slot page
         behind_may = record { take = take_at prefix refl; before_is = before_at }
@@ -173,15 +201,19 @@ module _ (d : Disk) (row : Row) (s : State) (t : Table) (slot : ℕ) (may : MayR
 
         pub behind_gate : slot_word k before 5 ≡ deciding_word d row
         behind_gate =
-            ap (λ (q : ℕ). slot_word k q 5) before_at ∙ ap (λ (g : Geometry). slot_word g (slot_before prefix (d.chain prefix) row.slot) 5) (sym there)
+            ap (λ (q : ℕ). slot_word k q 5) before_at ∙ ap (λ (g : Geometry). slot_word g (slot_before prefix (d.chain prefix) row.slot) 5)
+            (sym there)
             ∙ ap (λ (b : Bool). if b then slot_word d.geometry row.slot 0 else slot_word d.geometry (slot_before prefix (d.chain prefix) row.slot) 5)
             (sym (other_test row.slot prefix (λ e. other (sym may.at_slot.slot_is ∙ e ∙ sym direct_is))))
 
-        pub behind_images : (u : State) → LeavesUnlinked k before slot page s u → Stands (TableSays d) s → LeavesOnly s u (λ c. HoldsOneOf c d (removed d row.slot) (cleared d row))
+        pub behind_images : (u : State) → LeavesUnlinked k before slot page s u → Stands (TableSays d) s
+            → LeavesOnly s u (λ c. HoldsOneOf c d (removed d row.slot) (cleared d row))
         behind_images u leaves = leaves d row prefix behind_may
 
         pub behind_settles : (u : State) → SettlesUnlinked k before slot page s u → Stands (TableSays d) s → Stands (TableSays (cleared d row)) u
         behind_settles u settles = settles d row prefix behind_may
 
-        pub behind_made : (u : State) → length u.now ≡ length s.now → MakesUnlinked k before slot page s u → (t' : Table) → GivesBackSlot slot t t' → IsTable (cleared d row) u.now t'
-        behind_made u long makes t' gives = indirect_table u.now (long ∙ is.size) (makes d row prefix behind_may) (subst (λ (g : Geometry). directs g ≤ slot) same high) t' gives
+        pub behind_made : (u : State) → length u.now ≡ length s.now → MakesUnlinked k before slot page s u → (t' : Table) → GivesBackSlot slot t t'
+            → IsTable (cleared d row) u.now t'
+        behind_made u long makes t' gives = indirect_table u.now (long ∙ is.size) (makes d row prefix behind_may)
+            (subst (λ (g : Geometry). directs g ≤ slot) same high) t' gives

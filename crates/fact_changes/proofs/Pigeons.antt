@@ -28,8 +28,10 @@ module _ (n : ℕ) (R : ℕ → ℕ → Type 0) (one : (j k v : ℕ) → R j v �
 
   next_one : (j k v : ℕ) → Next n R j v → Next n R k v → j ≡ k
   next_one j k v a b = ⊎_elim
-      (λ (x : R j v). ⊎_elim (λ (y : R k v). one j k v x y) (λ (y : R k n × R (n + 1) v). absurd (omega (arith, a.below, one j (n + 1) v x y.1))) b.how)
-      (λ (x : R j n × R (n + 1) v). ⊎_elim (λ (y : R k v). absurd (omega (arith, b.below, one k (n + 1) v y x.1))) (λ (y : R k n × R (n + 1) v). one j k n x.0 y.0) b.how) a.how
+      (λ (x : R j v). ⊎_elim (λ (y : R k v). one j k v x y) (λ (y : R k n × R (n + 1) v). absurd (omega (arith, a.below, one j (n + 1) v x y.1)))
+      b.how)
+      (λ (x : R j n × R (n + 1) v). ⊎_elim (λ (y : R k v). absurd (omega (arith, b.below, one k (n + 1) v y x.1)))
+      (λ (y : R k n × R (n + 1) v). one j k n x.0 y.0) b.how) a.how
 
 pub pigeons : (n : ℕ) (R : ℕ → ℕ → Type 0) → ((j k v : ℕ) → R j v → R k v → j ≡ k) → ((k : ℕ) → k < n + 1 → Hits n R k) → ⊥
 pigeons zero R one hits = let x = hits 0 (omega arith) in omega (arith, x.small)

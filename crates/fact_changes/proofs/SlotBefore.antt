@@ -34,7 +34,8 @@ pub record IsSought (g : Geometry) (words : List ℕ) (direct slot old i before 
   pub steps_are : steps ≡ old + i
   pub left : (rows : List Row) → IsChainTo g words direct slot rows → Left g words slot (slot_before direct rows slot) (length rows) i before
 
-pub sought_begins : (g : Geometry) (words : List ℕ) (direct slot : ℕ) → direct < directs g → (rows : List Row) → IsChainTo g words direct slot rows → Left g words slot (slot_before direct rows slot) (length rows) 0 direct
+pub sought_begins : (g : Geometry) (words : List ℕ) (direct slot : ℕ) → direct < directs g → (rows : List Row) → IsChainTo g words direct slot rows
+    → Left g words slot (slot_before direct rows slot) (length rows) 0 direct
 sought_begins g words direct slot lt rows is = record {
   rest = rows;
   is = record {
@@ -76,7 +77,8 @@ module _ (g : Geometry) (words : List ℕ) (slot target total i before next : �
               reads = λ a v says. is.reads a v (at_later says);
               small = λ r has. is.small r (listed_later x xs r has);
               row = is.row;
-              there = ⊎_elim (λ (e : x ≡ is.row). absurd (ne (ap (λ (r : Row). r.slot) e ∙ is.slot_is))) (λ (later : Contains xs is.row). later) (listed_cases x xs is.row is.there);
+              there = ⊎_elim (λ (e : x ≡ is.row). absurd (ne (ap (λ (r : Row). r.slot) e ∙ is.slot_is))) (λ (later : Contains xs is.row). later)
+                  (listed_cases x xs is.row is.there);
               slot_is = is.slot_is;
               target_is = sym (before_other slot before x xs ne) ∙ is.target_is;
               few = omega (arith, is.few);
@@ -84,7 +86,8 @@ module _ (g : Geometry) (words : List ℕ) (slot target total i before next : �
           })
 
 -- as many steps as there are indirect slots find it
-pub sought_ends : (g : Geometry) (words : List ℕ) (direct slot i before : ℕ) (rows : List Row) → IsChainTo g words direct slot rows → Left g words slot (slot_before direct rows slot) (length rows) i before
+pub sought_ends : (g : Geometry) (words : List ℕ) (direct slot i before : ℕ) (rows : List Row) → IsChainTo g words direct slot rows
+    → Left g words slot (slot_before direct rows slot) (length rows) i before
     → g.pages ≤ i → ⊥
 sought_ends g words direct slot i before rows is left all =
     let fit = rows_fit g words rows is.from.chained in

@@ -19,7 +19,20 @@ use Rattle.law_table.proofs.Opened.{opening_decides, opening_puts_row}
 use Rattle.law_table.proofs.Linked.{link_decides, link_puts_row}
 use Rattle.fact_table.specs.Table.{Table, IsTable, HasRow, HasNoneAt, TakesSlot}
 use Rattle.fact_table.proofs.Tables.{page_word, head_of, in_rows}
-use Rattle.fact_rows.specs.Put.{new_row, pointed, opened_with, linked_with, MayPutAt, CanPutAt, LeavesOpened, MakesOpened, SettlesOpened, LeavesLinked, MakesLinked, SettlesLinked}
+use Rattle.fact_rows.specs.Put.{
+  new_row,
+  pointed,
+  opened_with,
+  linked_with,
+  MayPutAt,
+  CanPutAt,
+  LeavesOpened,
+  MakesOpened,
+  SettlesOpened,
+  LeavesLinked,
+  MakesLinked,
+  SettlesLinked,
+}
 use Rattle.fact_changes.specs.Insertion.{MayInsert, HasInserted, IsInserting, opens, links}
 use Rattle.fact_changes.proofs.Pigeons.{Hits, pigeons}
 
@@ -36,8 +49,10 @@ record IsAt (d : Disk) (t : Table) (k v : ℕ) : Type 0 where
   page_is : row.page ≡ v + 1
 
 -- words that hold the table of a disk with good rows have this table, where its set is right
-pub table_of : (e : Disk) (words : List ℕ) (t : Table) → e.geometry ≡ t.geometry → IsAccepted t.geometry → length words ≡ 512 * t.geometry.pages → HoldsTable words e → HasGoodRows e → t.free.pages ≡ t.geometry.pages
-    → ((k : ℕ) → Contains t.free.free k → HasNoneAt e (directs t.geometry + k)) → ((k : ℕ) → k < t.geometry.pages → ¬ Contains t.free.free k → HasRow e (directs t.geometry + k)) → IsTable e words t
+pub table_of : (e : Disk) (words : List ℕ) (t : Table) → e.geometry ≡ t.geometry → IsAccepted t.geometry → length words ≡ 512 * t.geometry.pages
+    → HoldsTable words e → HasGoodRows e → t.free.pages ≡ t.geometry.pages
+    → ((k : ℕ) → Contains t.free.free k → HasNoneAt e (directs t.geometry + k)) → ((k : ℕ) → k < t.geometry.pages → ¬ Contains t.free.free k
+    → HasRow e (directs t.geometry + k)) → IsTable e words t
 table_of e words t geometry accepted size holds good set free taken = record {
   geometry = geometry;
   accepted = accepted;
@@ -105,7 +120,8 @@ module _ (d : Disk) (words : List ℕ) (t : Table) (print : List ℕ) (page : �
     where
       one : (j k v : ℕ) → IsAt d t j v → IsAt d t k v → j ≡ k
       one j k v a b =
-          let same : a.row ≡ b.row = distinct_same (λ (r : Row). r.page) (rows d) is.good.apart.page a.row b.row a.there b.there (a.page_is ∙ sym b.page_is) in
+          let same : a.row ≡ b.row = distinct_same (λ (r : Row). r.page) (rows d) is.good.apart.page a.row b.row a.there b.there
+          (a.page_is ∙ sym b.page_is) in
           let slot : a.row.slot ≡ b.row.slot = ap (λ (r : Row). r.slot) same in
           omega (arith, slot, a.slot_is, b.slot_is)
 
@@ -117,7 +133,16 @@ module _ (d : Disk) (words : List ℕ) (t : Table) (print : List ℕ) (page : �
           let low = valid.data_page.low in
           let some = first_some d.geometry in
           let high = subst (λ (g : Geometry). has.row.page < g.pages) is.geometry valid.data_page.high in
-          record { value = has.row.page - 1; small = omega (arith, low, some, high); related = record { row = has.row; there = has.is.there; slot_is = has.is.slot_is; page_is = omega (arith, low, some) } }
+          record {
+            value = has.row.page - 1;
+            small = omega (arith, low, some, high);
+            related = record {
+              row = has.row;
+              there = has.is.there;
+              slot_is = has.is.slot_is;
+              page_is = omega (arith, low, some);
+            };
+          }
 
   -- the row in its direct slot
   module _ (none : HasNoneAt d (prefix_of t.geometry print)) where
@@ -134,13 +159,18 @@ module _ (d : Disk) (words : List ℕ) (t : Table) (print : List ℕ) (page : �
     put_direct = pointed_may_put d direct direct_row (accepted_disk d words t is) is.good (is_fresh direct direct refl none) direct_small
 
     pub rows_direct : PutsRow direct_row (rows d) (rows (opened_with d direct print page))
-    rows_direct = subst (λ (rs : List Row). PutsRow direct_row rs (rows (opened_with d direct print page))) (rows_repointed d page (direct + 1)) (opening_puts_row (pointed d direct_row) direct direct_row put_direct)
+    rows_direct = subst (λ (rs : List Row). PutsRow direct_row rs (rows (opened_with d direct print page))) (rows_repointed d page (direct + 1))
+        (opening_puts_row (pointed d direct_row) direct direct_row put_direct)
 
-    pub opened_table : (news : List ℕ) → length news ≡ 512 * t.geometry.pages → HoldsTable news (opened_with d direct print page) → IsTable (opened_with d direct print page) news t
-    opened_table news size holds = table_of (opened_with d direct print page) news t is.geometry is.accepted size holds (opening_decides (pointed d direct_row) direct direct_row put_direct refl).good is.set
-        (λ k has r there at. ⊎_elim (λ (e : r ≡ direct_row). let here : r.slot ≡ direct = ap (λ (x : Row). x.slot) e in omega (arith, here, at, prefix_lt))
+    pub opened_table : (news : List ℕ) → length news ≡ 512 * t.geometry.pages → HoldsTable news (opened_with d direct print page)
+        → IsTable (opened_with d direct print page) news t
+    opened_table news size holds = table_of (opened_with d direct print page) news t is.geometry is.accepted size holds
+        (opening_decides (pointed d direct_row) direct direct_row put_direct refl).good is.set
+        (λ k has r there at. ⊎_elim (λ (e : r ≡ direct_row). let here : r.slot ≡ direct = ap (λ (x : Row). x.slot) e in
+        omega (arith, here, at, prefix_lt))
         (λ (old : Contains (rows d) r). is.free k has r old at) (rows_direct.only r there))
-        (λ k lt not. let has = is.taken k lt not in record { row = has.row; is = record { there = rows_direct.kept has.row has.is.there; slot_is = has.is.slot_is } })
+        (λ k lt not. let has = is.taken k lt not in
+        record { row = has.row; is = record { there = rows_direct.kept has.row has.is.there; slot_is = has.is.slot_is } })
 
   -- behind it
   module _ (slot : ℕ) (t' : Table) (takes : TakesSlot slot t t') where
@@ -166,7 +196,8 @@ module _ (d : Disk) (words : List ℕ) (t : Table) (print : List ℕ) (page : �
     put_chained = pointed_may_put d holder chained (accepted_disk d words t is) is.good (is_fresh holder slot refl none_taken) slot_small
 
     pub rows_chained : PutsRow chained (rows d) (rows (linked_with d holder slot print page))
-    rows_chained = subst (λ (rs : List Row). PutsRow chained rs (rows (linked_with d holder slot print page))) (rows_repointed d page (slot + 1)) (link_puts_row (pointed d chained) holder chained put_chained)
+    rows_chained = subst (λ (rs : List Row). PutsRow chained rs (rows (linked_with d holder slot print page))) (rows_repointed d page (slot + 1))
+        (link_puts_row (pointed d chained) holder chained put_chained)
 
     free_now : (k : ℕ) → Contains t'.free.free k → HasNoneAt (linked_with d holder slot print page) (directs t.geometry + k)
     free_now k has r there at =
@@ -182,25 +213,33 @@ module _ (d : Disk) (words : List ℕ) (t : Table) (print : List ℕ) (page : �
           record { row = has.row; is = record { there = rows_chained.kept has.row has.is.there; slot_is = has.is.slot_is } }
     ]
 
-    pub linked_table : (news : List ℕ) → length news ≡ 512 * t.geometry.pages → HoldsTable news (linked_with d holder slot print page) → IsTable (linked_with d holder slot print page) news t'
+    pub linked_table : (news : List ℕ) → length news ≡ 512 * t.geometry.pages → HoldsTable news (linked_with d holder slot print page)
+        → IsTable (linked_with d holder slot print page) news t'
     linked_table news size holds =
         let same = takes.geometry in
-        table_of (linked_with d holder slot print page) news t' (is.geometry ∙ sym same) (subst IsAccepted (sym same) is.accepted) (size ∙ ap (λ (g : Geometry). 512 * g.pages) (sym same)) holds
-        (link_decides (pointed d chained) holder chained put_chained (subst (λ (g : Geometry). directs g ≤ slot) (sym is.geometry) takes.indirect) slot_small).good
+        table_of (linked_with d holder slot print page) news t' (is.geometry ∙ sym same) (subst IsAccepted (sym same) is.accepted)
+        (size ∙ ap (λ (g : Geometry). 512 * g.pages) (sym same)) holds
+        (link_decides (pointed d chained) holder chained put_chained (subst (λ (g : Geometry). directs g ≤ slot) (sym is.geometry) takes.indirect)
+        slot_small).good
         (takes.takes.pages ∙ is.set ∙ ap (λ (g : Geometry). g.pages) (sym same))
-        (λ k. subst (λ (g : Geometry). Contains t'.free.free k → HasNoneAt (linked_with d holder slot print page) (directs g + k)) (sym same) (free_now k))
-        (λ k. subst (λ (g : Geometry). k < g.pages → ¬ Contains t'.free.free k → HasRow (linked_with d holder slot print page) (directs g + k)) (sym same) (taken_now k))
+        (λ k. subst (λ (g : Geometry). Contains t'.free.free k → HasNoneAt (linked_with d holder slot print page) (directs g + k)) (sym same)
+        (free_now k))
+        (λ k. subst (λ (g : Geometry). k < g.pages → ¬ Contains t'.free.free k → HasRow (linked_with d holder slot print page) (directs g + k))
+        (sym same) (taken_now k))
 
 -- the clauses, where the code holds the geometry and the direct slot
-module _ (d : Disk) (s : State) (t : Table) (print : List ℕ) (page : ℕ) (may : MayInsert d s.now t print page) (direct : ℕ) (k : Geometry) (direct_is : direct ≡ prefix_of t.geometry print) (same : k ≡ t.geometry) where
+module _ (d : Disk) (s : State) (t : Table) (print : List ℕ) (page : ℕ) (may : MayInsert d s.now t print page) (direct : ℕ) (k : Geometry)
+    (direct_is : direct ≡ prefix_of t.geometry print) (same : k ≡ t.geometry) where
   abbrev prefix : ℕ
   prefix = prefix_of t.geometry print
 
   word_here : (v : ℕ) → slice_index s.now (slot_word k direct 0) ≡ v → slice_index s.now (slot_word t.geometry prefix 0) ≡ v
-  word_here v read = subst (λ (p : ℕ). slice_index s.now (slot_word t.geometry p 0) ≡ v) direct_is (subst (λ (g : Geometry). slice_index s.now (slot_word g direct 0) ≡ v) same read)
+  word_here v read = subst (λ (p : ℕ). slice_index s.now (slot_word t.geometry p 0) ≡ v) direct_is
+      (subst (λ (g : Geometry). slice_index s.now (slot_word g direct 0) ≡ v) same read)
 
   put_here : (slot : ℕ) → HasNoneAt d slot → MayPutAt d s.now k direct slot print page
-  put_here slot none = subst (λ (g : Geometry). MayPutAt d s.now g direct slot print page) (sym same) (put_at d s.now t print page may direct slot direct_is none)
+  put_here slot none = subst (λ (g : Geometry). MayPutAt d s.now g direct slot print page) (sym same) (put_at d s.now t print page may direct slot
+      direct_is none)
 
   -- in the direct slot
   module _ (zero : slice_index s.now (slot_word k direct 0) ≡ 0) where
@@ -215,13 +254,17 @@ module _ (d : Disk) (s : State) (t : Table) (print : List ℕ) (page : ℕ) (may
 
     pub insert_opens : (u : State) → LeavesOpened k direct print page s u → Stands (TableSays d) s → IsInserting d t t print page s u
     insert_opens u leaves =
-        let here : LeavesOpened t.geometry prefix print page s u = subst (λ (p : ℕ). LeavesOpened t.geometry p print page s u) direct_is (subst (λ (g : Geometry). LeavesOpened g direct print page s u) same leaves) in
+        let here : LeavesOpened t.geometry prefix print page s u = subst (λ (p : ℕ). LeavesOpened t.geometry p print page s u) direct_is
+        (subst (λ (g : Geometry). LeavesOpened g direct print page s u) same leaves) in
         λ stands. record { slot = prefix; disk = opened_with d prefix print page; inserts = opens none; leaves = here d open_at stands }
 
-    pub made_opens : (u : State) → length u.now ≡ length s.now → MakesOpened k direct print page s u → SettlesOpened k direct print page s u → HasInserted d t t print page direct s u
+    pub made_opens : (u : State) → length u.now ≡ length s.now → MakesOpened k direct print page s u → SettlesOpened k direct print page s u
+        → HasInserted d t t print page direct s u
     made_opens u long makes settles =
-        let here : MakesOpened t.geometry prefix print page s u = subst (λ (p : ℕ). MakesOpened t.geometry p print page s u) direct_is (subst (λ (g : Geometry). MakesOpened g direct print page s u) same makes) in
-        let settled : SettlesOpened t.geometry prefix print page s u = subst (λ (p : ℕ). SettlesOpened t.geometry p print page s u) direct_is (subst (λ (g : Geometry). SettlesOpened g direct print page s u) same settles) in
+        let here : MakesOpened t.geometry prefix print page s u = subst (λ (p : ℕ). MakesOpened t.geometry p print page s u) direct_is
+        (subst (λ (g : Geometry). MakesOpened g direct print page s u) same makes) in
+        let settled : SettlesOpened t.geometry prefix print page s u = subst (λ (p : ℕ). SettlesOpened t.geometry p print page s u) direct_is
+        (subst (λ (g : Geometry). SettlesOpened g direct print page s u) same settles) in
         subst (λ (p : ℕ). HasInserted d t t print page p s u) (sym direct_is) (record {
           disk = opened_with d prefix print page;
           inserts = opens none;
@@ -232,7 +275,8 @@ module _ (d : Disk) (s : State) (t : Table) (print : List ℕ) (page : ℕ) (may
   -- behind it
   module _ (some : slice_index s.now (slot_word t.geometry direct 0) ≢ 0) (slot : ℕ) (t' : Table) (takes : TakesSlot slot t t') where
     has_row : HasRow d prefix
-    has_row = row_direct d s.now t print page may (λ zero. some (subst (λ (p : ℕ). slice_index s.now (slot_word t.geometry p 0) ≡ 0) (sym direct_is) zero))
+    has_row = row_direct d s.now t print page may (λ zero. some (subst (λ (p : ℕ). slice_index s.now (slot_word t.geometry p 0) ≡ 0) (sym direct_is)
+        zero))
 
     none_there : HasNoneAt d slot
     none_there = none_taken d s.now t print page may slot t' takes
@@ -245,13 +289,17 @@ module _ (d : Disk) (s : State) (t : Table) (print : List ℕ) (page : ℕ) (may
 
     pub insert_links : (u : State) → LeavesLinked k direct slot print page s u → Stands (TableSays d) s → IsInserting d t t' print page s u
     insert_links u leaves =
-        let here : LeavesLinked t.geometry prefix slot print page s u = subst (λ (p : ℕ). LeavesLinked t.geometry p slot print page s u) direct_is (subst (λ (g : Geometry). LeavesLinked g direct slot print page s u) same leaves) in
+        let here : LeavesLinked t.geometry prefix slot print page s u = subst (λ (p : ℕ). LeavesLinked t.geometry p slot print page s u) direct_is
+        (subst (λ (g : Geometry). LeavesLinked g direct slot print page s u) same leaves) in
         λ stands. record { slot = slot; disk = linked_with d prefix slot print page; inserts = links has_row takes; leaves = here d link_at stands }
 
-    pub made_links : (u : State) → length u.now ≡ length s.now → MakesLinked k direct slot print page s u → SettlesLinked k direct slot print page s u → HasInserted d t t' print page slot s u
+    pub made_links : (u : State) → length u.now ≡ length s.now → MakesLinked k direct slot print page s u → SettlesLinked k direct slot print page s u
+        → HasInserted d t t' print page slot s u
     made_links u long makes settles =
-        let here : MakesLinked t.geometry prefix slot print page s u = subst (λ (p : ℕ). MakesLinked t.geometry p slot print page s u) direct_is (subst (λ (g : Geometry). MakesLinked g direct slot print page s u) same makes) in
-        let settled : SettlesLinked t.geometry prefix slot print page s u = subst (λ (p : ℕ). SettlesLinked t.geometry p slot print page s u) direct_is (subst (λ (g : Geometry). SettlesLinked g direct slot print page s u) same settles) in
+        let here : MakesLinked t.geometry prefix slot print page s u = subst (λ (p : ℕ). MakesLinked t.geometry p slot print page s u) direct_is
+        (subst (λ (g : Geometry). MakesLinked g direct slot print page s u) same makes) in
+        let settled : SettlesLinked t.geometry prefix slot print page s u = subst (λ (p : ℕ). SettlesLinked t.geometry p slot print page s u)
+        direct_is (subst (λ (g : Geometry). SettlesLinked g direct slot print page s u) same settles) in
         record {
           disk = linked_with d prefix slot print page;
           inserts = links has_row takes;

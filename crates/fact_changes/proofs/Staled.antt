@@ -1,15 +1,40 @@
 -- Stale pointers are cleared: what images have on the way, and the table in the end.
-use Rattle.std.proofs.Common.{◌≡◌, ◌≢◌, inl, inr, ⊎_elim, ℕ, ◌+◌, ◌*◌, ◌<◌, ◌≤◌, Bool, true, false, List, [], length, refl, sym, ◌∙◌, ap, subst, arith, get_or-set_same}
+use Rattle.std.proofs.Common.{
+  ◌≡◌,
+  ◌≢◌,
+  inl,
+  inr,
+  ⊎_elim,
+  ℕ,
+  ◌+◌,
+  ◌*◌,
+  ◌<◌,
+  ◌≤◌,
+  Bool,
+  true,
+  false,
+  List,
+  [],
+  length,
+  refl,
+  sym,
+  ◌∙◌,
+  ap,
+  subst,
+  arith,
+  get_or-set_same,
+}
 use Rattle.std.specs.Prelude.{slice_index, Contains, if◌then◌else◌, Option, Some, None, IsNone, is_some, not, IfSome, IfNone, IsTrue}
 use Rattle.std.proofs.lemmas.Bool.{cases_eq, false≢true}
 use Rattle.pm_device.specs.State.{State, Agree}
-use Rattle.pm_device.specs.Settled.{IsSettled, LeavesOnly, StoresOnly, KeepsFlushed, Others}
+use Rattle.pm_device.specs.Settled.{IsSettled, LeavesOnly, StoresOnly, KeepsFlushed, Others, FlushesAll}
 use Rattle.pm_device.specs.Reading.{Stands}
 use Rattle.pm_device.specs.Commit.{IsDone, LeavesOneWord}
 use Rattle.pm_device.proofs.Layers.{leaves_only-then}
 use Rattle.pm_device.proofs.Moments.{leaves_only-weaken}
 use Rattle.pm_device.proofs.Only.{stores_only-none, stores_only-then, stores_only-weaken}
 use Rattle.pm_device.proofs.Flushed.{keeps-none, keeps-then, keeps-weaken}
+use Rattle.pm_device.proofs.AllFlushed.{flushes-none}
 use Rattle.pm_layout.specs.declared.Geometry.{Geometry}
 use Rattle.pm_layout.specs.Geometry.{pointer_word, directs}
 use Rattle.dn_model.specs.Table.{Row}
@@ -38,29 +63,40 @@ pub still_images : (d : Disk) (s : State) → Agree s.now s.past → Stands (Tab
 still_images d s agree = untold_images d 0 0 (λ a v told h. omega (arith, h.0, h.1)) s s (stores_only-none _ s agree)
 
 -- whether a pointer is stale, by its word and by the row of its page
-module _ (d : Disk) (words : List ℕ) (t : Table) (is : IsTable d words t) (k : Geometry) (same : k ≡ t.geometry) (page : ℕ) (lt : page < t.geometry.pages) where
+module _ (d : Disk) (words : List ℕ) (t : Table) (is : IsTable d words t) (k : Geometry) (same : k ≡ t.geometry) (page : ℕ)
+    (lt : page < t.geometry.pages) where
   pointer_word_read : slice_index words (pointer_word k page) ≡ d.pointer page
   pointer_word_read = ap (λ (g : Geometry). slice_index words (pointer_word g page)) same ∙ pointer_read d words t is page lt
 
   stale_from : slice_index words (pointer_word k page) ≢ 0 → HasNoneOf d page → IsStale d page
-  stale_from some none = record { in_image = subst (λ (g : Geometry). page < g.pages) (sym is.geometry) lt; some = λ e. some (pointer_word_read ∙ e); no_row = none }
+  stale_from some none = record {
+    in_image = subst (λ (g : Geometry). page < g.pages) (sym is.geometry) lt;
+    some = λ e. some (pointer_word_read ∙ e);
+    no_row = none;
+  }
 
   stale_word : IsStale d page → slice_index words (pointer_word k page) ≢ 0
   stale_word stale e = stale.some (sym pointer_word_read ∙ e)
 
   -- where the word is 0 the pointer isn't stale
-  pub stale_never : {X : Type 0} (entry : Option X) (b : Bool) → b ≡ is_some entry → b ≡ false → (IsNone entry → slice_index words (pointer_word k page) ≡ 0) → (IsTrue b → IsStale d page) × (IsStale d page → IsTrue b)
+  pub stale_never : {X : Type 0} (entry : Option X) (b : Bool) → b ≡ is_some entry → b ≡ false
+      → (IsNone entry → slice_index words (pointer_word k page) ≡ 0) → (IsTrue b → IsStale d page) × (IsStale d page → IsTrue b)
   stale_never None b e off none = (λ t. absurd (false≢true (sym off ∙ t)), λ stale. absurd (stale_word stale (none refl)))
   stale_never (Some x) b e off none = absurd (false≢true (sym off ∙ e))
 
   -- else the row of the page decides
-  pub stale_answer : {X : Type 0} (entry : Option X) (row : Option FoundRow) (b : Bool) → is_some entry ≡ true → (slice_index words (pointer_word k page) ≡ 0 → IsNone entry) → is_some row ≡ not b
-      → IfNone row ((e : Disk) → IsTable e words t → HasNoneOf e page) → IfSome row (λ r. (e : Disk) → IsTable e words t → IsOfPage e page (as_row r)) → (IsTrue b → IsStale d page) × (IsStale d page → IsTrue b)
+  pub stale_answer : {X : Type 0} (entry : Option X) (row : Option FoundRow) (b : Bool) → is_some entry ≡ true
+      → (slice_index words (pointer_word k page) ≡ 0 → IsNone entry) → is_some row ≡ not b
+      → IfNone row ((e : Disk) → IsTable e words t → HasNoneOf e page) → IfSome row (λ r. (e : Disk) → IsTable e words t → IsOfPage e page (as_row r))
+      → (IsTrue b → IsStale d page) × (IsStale d page → IsTrue b)
   stale_answer None row b some zero e none found = absurd (false≢true some)
   stale_answer (Some x) None true some zero e none found = (λ t. stale_from (λ is_zero. false≢true (sym (zero is_zero))) (none d is), λ stale. refl)
   stale_answer (Some x) None false some zero e none found = absurd (false≢true e)
   stale_answer (Some x) (Some r) true some zero e none found = absurd (false≢true (sym e))
-  stale_answer (Some x) (Some r) false some zero e none found = (λ t. absurd (false≢true t), λ stale. absurd (stale.no_row (as_row r) (found d is).there (found d is).page_is))
+  stale_answer (Some x) (Some r) false some zero e none found = (
+    λ t. absurd (false≢true t),
+    λ stale. absurd (stale.no_row (as_row r) (found d is).there (found d is).page_is),
+  )
 
 -- one stale pointer is cleared
 module _ (d : Disk) (s : State) (t : Table) (is : IsTable d s.now t) (page : ℕ) (stale : IsStale d page) where
@@ -79,9 +115,11 @@ module _ (d : Disk) (s : State) (t : Table) (is : IsTable d s.now t) (page : ℕ
     here = is.geometry ∙ sym same
 
     pointer_settled : Stands (TableSays d) s → IsSettled s (pointer_word k page)
-    pointer_settled stands = subst (λ (g : Geometry). IsSettled s (pointer_word g page)) here (word_settled d new 0 [] (pointer_word d.geometry page) 0 one s stands)
+    pointer_settled stands = subst (λ (g : Geometry). IsSettled s (pointer_word g page)) here (word_settled d new 0 [] (pointer_word d.geometry page)
+        0 one s stands)
 
-    pub stale_images : (u : State) → (IsSettled s (pointer_word k page) → LeavesOnly s u (LeavesOneWord (pointer_word k page) 0 s)) → Stands (TableSays d) s → LeavesOnly s u (HasPage d page)
+    pub stale_images : (u : State) → (IsSettled s (pointer_word k page) → LeavesOnly s u (LeavesOneWord (pointer_word k page) 0 s))
+        → Stands (TableSays d) s → LeavesOnly s u (HasPage d page)
     stale_images u leaves stands = leaves_only-weaken s u _ _ (λ c. ⊎_elim (λ old. inl old) (λ after. inr (stale, after)))
         (word_any_order d new 0 [] (pointer_word d.geometry page) 0 one s u stands (nothing_stands 0 s)
         (subst (λ (g : Geometry). LeavesOnly s u (LeavesOneWord (pointer_word g page) 0 s)) (sym here) (leaves (pointer_settled stands))))
@@ -95,23 +133,34 @@ module _ (d : Disk) (s : State) (t : Table) (is : IsTable d s.now t) (page : ℕ
 
       cleared_reads : HoldsTable u.now new
       cleared_reads = word_reads d new 0 [] (pointer_word d.geometry page) 0 one s u is.says (nothing_ready who 0 s).reads
-          (ap (λ (xs : List ℕ). slice_index xs (pointer_word d.geometry page)) done_here.now ∙ get_or-set_same s.now (pointer_word d.geometry page) 0 0 (omega (arith, one.inside, size_is))) only_here
+          (ap (λ (xs : List ℕ). slice_index xs (pointer_word d.geometry page)) done_here.now ∙ get_or-set_same s.now (pointer_word d.geometry page) 0
+          0 (omega (arith, one.inside, size_is))) only_here
 
       cleared_table : IsTable new u.now t
       cleared_table =
           let same_rows : rows d ≡ rows new = sym (rows_repointed d page 0) in
           table_of new u.now t is.geometry is.accepted (only.words ∙ is.size) cleared_reads one.good is.set
           (λ q has. subst (λ (rs : List Row). (r : Row) → Contains rs r → r.slot ≢ directs t.geometry + q) same_rows (is.free q has))
-          (λ q lt not. let has = is.taken q lt not in record { row = has.row; is = record { there = subst (λ (rs : List Row). Contains rs has.row) same_rows has.is.there; slot_is = has.is.slot_is } })
+          (λ q lt not. let has = is.taken q lt not in
+          record {
+            row = has.row;
+            is = record {
+              there = subst (λ (rs : List Row). Contains rs has.row) same_rows has.is.there;
+              slot_is = has.is.slot_is;
+            };
+          })
 
       pub stale_cleared : IsPageCleared d page t s u
-      stale_cleared = clears stale cleared_table (λ stands. word_stands d new 0 [] (pointer_word d.geometry page) 0 one who s u size_is stands (nothing_ready who 0 s) done_here only_here)
+      stale_cleared = clears stale cleared_table (λ stands. word_stands d new 0 [] (pointer_word d.geometry page) 0 one who s u size_is stands
+          (nothing_ready who 0 s) done_here only_here)
 
     pub stale_only : (u : State) → StoresOnly (λ a. a ≡ pointer_word k page) s u → StoresOnly (IsPageWord d page) s u
     stale_only u only = stores_only-weaken _ _ s u (λ a e. (stale, e ∙ ap (λ (g : Geometry). pointer_word g page) (sym here))) only
 
-    pub stale_keeps : (who : ℕ) (u : State) → KeepsFlushed (Others who) (λ a. a ≡ pointer_word k page) s u → KeepsFlushed (Others who) (IsPageWord d page) s u
-    stale_keeps who u keeps = keeps-weaken (Others who) (Others who) _ _ s u (λ q other. other) (λ a e. (stale, e ∙ ap (λ (g : Geometry). pointer_word g page) (sym here))) keeps
+    pub stale_keeps : (who : ℕ) (u : State) → KeepsFlushed (Others who) (λ a. a ≡ pointer_word k page) s u
+        → KeepsFlushed (Others who) (IsPageWord d page) s u
+    stale_keeps who u keeps = keeps-weaken (Others who) (Others who) _ _ s u (λ q other. other)
+        (λ a e. (stale, e ∙ ap (λ (g : Geometry). pointer_word g page) (sym here))) keeps
 
 -- one is cleared after others
 module _ (d e : Disk) (was : Clears d e) where
@@ -155,12 +204,14 @@ pub record IsClearedFront (d : Disk) (who p : ℕ) (t : Table) (s0 s : State) : 
 pub record IsClearing (t : Table) (who p : ℕ) (s0 s : State) : Type 0 where
   pub spare : s0.spare ≤ s.spare + 3 * p
   pub faults : s0.faults ≤ s.faults
+  pub flushes : FlushesAll who s0 s
   pub front : (d : Disk) → IsTable d s0.now t → IsClearedFront d who p t s0 s
 
 pub clearing_begins : (t : Table) (who : ℕ) (s : State) → Agree s.now s.past → IsClearing t who 0 s s
 clearing_begins t who s agree = record {
   spare = omega arith;
   faults = omega arith;
+  flushes = flushes-none who s;
   front = λ d is. record {
     disk = d;
     clears = clears_none d;
@@ -169,7 +220,8 @@ clearing_begins t who s agree = record {
     only = stores_only-none _ s agree;
     others = keeps-none _ _ s;
     settled = λ stands. stands;
-    images = λ stands. leaves_only-weaken s s _ _ (λ c holds. record { disk = d; clears = clears_none d; holds = holds }) (still_images d s agree stands);
+    images = λ stands. leaves_only-weaken s s _ _ (λ c holds. record { disk = d; clears = clears_none d; holds = holds })
+        (still_images d s agree stands);
   };
 }
 
@@ -181,18 +233,29 @@ module _ (d : Disk) (who p : ℕ) (t : Table) (s0 s : State) (front : IsClearedF
   pub front_images : (Stands (TableSays e) s → LeavesOnly s u (HasPage e p)) → Stands (TableSays d) s0 → LeavesOnly s0 u (HasCleared d)
   front_images leaves stands = leaves_only-then s0 s u (HasCleared d) (front.images stands)
       (leaves_only-weaken s u _ _ (λ c. ⊎_elim (λ (old : HoldsTable c e). record { disk = e; clears = front.clears; holds = old })
-      (λ (after : IsStale e p × HoldsTable c (repointed e p 0)). record { disk = repointed e p 0; clears = clears_more d e front.clears p after.0; holds = after.1 })) (leaves (front.settled stands)))
+      (λ (after : IsStale e p × HoldsTable c (repointed e p 0)). record {
+        disk = repointed e p 0;
+        clears = clears_more d e front.clears p after.0;
+        holds = after.1;
+      })) (leaves (front.settled stands)))
 
   of_page : (a : ℕ) → IsPageWord e p a → IsStaleWord d a
-  of_page a word = record { page = p; stale = stale_was d e front.clears p word.0; place = word.1 ∙ ap (λ (x : Disk). pointer_word x.geometry p) front.clears.same }
+  of_page a word = record {
+    page = p;
+    stale = stale_was d e front.clears p word.0;
+    place = word.1 ∙ ap (λ (x : Disk). pointer_word x.geometry p)
+        front.clears.same;
+  }
 
   pub front_only : StoresOnly (IsPageWord e p) s u → StoresOnly (IsStaleWord d) s0 u
   front_only only = stores_only-then (IsStaleWord d) s0 s u front.only (stores_only-weaken _ _ s u of_page only)
 
   pub front_others : KeepsFlushed (Others who) (IsPageWord e p) s u → KeepsFlushed (Others who) (IsStaleWord d) s0 u
-  front_others keeps = keeps-then (Others who) (IsStaleWord d) s0 s u front.others (keeps-weaken (Others who) (Others who) _ _ s u (λ q other. other) of_page keeps)
+  front_others keeps = keeps-then (Others who) (IsStaleWord d) s0 s u front.others (keeps-weaken (Others who) (Others who) _ _ s u (λ q other. other)
+      of_page keeps)
 
-  pub front_on : (Stands (TableSays e) s → LeavesOnly s u (HasPage e p)) → StoresOnly (IsPageWord e p) s u → KeepsFlushed (Others who) (IsPageWord e p) s u → IsPageCleared e p t s u → IsClearedFront d who (p + 1) t s0 u
+  pub front_on : (Stands (TableSays e) s → LeavesOnly s u (HasPage e p)) → StoresOnly (IsPageWord e p) s u
+      → KeepsFlushed (Others who) (IsPageWord e p) s u → IsPageCleared e p t s u → IsClearedFront d who (p + 1) t s0 u
   front_on leaves only keeps (stays fresh table stands) = record {
     disk = e;
     clears = front.clears;

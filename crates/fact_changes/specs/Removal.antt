@@ -14,11 +14,12 @@ use Rattle.fact_rows.specs.Put.{HoldsOneOf}
 use Rattle.fact_rows.specs.Gone.{cleared, IsGoneWord}
 
 -- these rows are chained behind the direct slot, and one of them has this slot
-pub record IsChainTo (g : Geometry) (words : List ℕ) (direct slot : ℕ) (rows : List Row) : Type 0 where
-  pub from : IsChainFrom g words (slice_index words (slot_word g direct 5)) rows
-  pub row : Row
-  pub there : Contains rows row
-  pub slot_is : row.slot ≡ slot
+pub record IsChainTo (g : Geometry) (words : List ℕ) (direct slot : ℕ) (rows : List Row) : Type 0
+  where
+    pub from : IsChainFrom g words (slice_index words (slot_word g direct 5)) rows
+    pub row : Row
+    pub there : Contains rows row
+    pub slot_is : row.slot ≡ slot
 
 pub record HasChainTo (g : Geometry) (words : List ℕ) (direct slot : ℕ) : Type 0 where
   pub rows : List Row
@@ -26,7 +27,8 @@ pub record HasChainTo (g : Geometry) (words : List ℕ) (direct slot : ℕ) : Ty
 
 -- it is the slot whose next word leads there
 abbrev pub IsBefore : Geometry → List ℕ → ℕ → ℕ → ℕ → Type 0
-IsBefore g words direct slot before = (rows : List Row) → IsChainTo g words direct slot rows → before ≡ slot_before direct rows slot
+IsBefore g words direct slot before = (rows : List Row) → IsChainTo g words direct slot rows
+    → before ≡ slot_before direct rows slot
 
 -- the words hold a table whose row at this slot has no reference and no update under way
 pub record MayRemoveAt (d : Disk) (row : Row) (words : List ℕ) (t : Table) (slot : ℕ) : Type 0 where
@@ -43,14 +45,16 @@ pub record HasZero (words : List ℕ) (t : Table) (slot : ℕ) : Type 0 where
 -- the row at this slot has this page and this print
 pub record IsReadAt (words : List ℕ) (t : Table) (slot page : ℕ) (print : List ℕ) : Type 0 where
   pub page_is : (d : Disk) (row : Row) → IsTable d words t → IsAtSlot d slot row → row.page ≡ page
-  pub print_is : (d : Disk) (row : Row) → IsTable d words t → IsAtSlot d slot row → row.print ≡ print
+  pub print_is : (d : Disk) (row : Row) → IsTable d words t → IsAtSlot d slot row
+      → row.print ≡ print
 
 -- the word that decides: the page word of the direct slot, or the next word of the slot before
 abbrev pub deciding_word : Disk → Row → ℕ
 deciding_word d row =
     if row.slot == prefix_of d.geometry row.print
     then slot_word d.geometry row.slot 0
-    else slot_word d.geometry (slot_before (prefix_of d.geometry row.print) (d.chain (prefix_of d.geometry row.print)) row.slot) 5
+    else slot_word d.geometry (slot_before (prefix_of d.geometry row.print)
+    (d.chain (prefix_of d.geometry row.print)) row.slot) 5
 
 abbrev pub IsRemoveWord : Disk → Row → ℕ → Type 0
 IsRemoveWord d row a = IsGoneWord d.geometry (deciding_word d row) row.page a
@@ -62,19 +66,26 @@ pub data Frees (slot : ℕ) (old new : Table) : Type 0 where
 
 -- in the end the words hold the table without the row and the pointer
 abbrev pub MakesRemoved : Table → Table → ℕ → State → State → Type 0
-MakesRemoved t t' slot old new = (d : Disk) (row : Row) → MayRemoveAt d row old.now t slot → IsTable (cleared d row) new.now t'
+MakesRemoved t t' slot old new = (d : Disk) (row : Row) → MayRemoveAt d row old.now t slot
+    → IsTable (cleared d row) new.now t'
 
 -- which stands, if that of before stood
 abbrev pub SettlesRemoved : Table → ℕ → State → State → Type 0
-SettlesRemoved t slot old new = (d : Disk) (row : Row) → MayRemoveAt d row old.now t slot → Stands (TableSays d) old → Stands (TableSays (cleared d row)) new
+SettlesRemoved t slot old new = (d : Disk) (row : Row) → MayRemoveAt d row old.now t slot
+    → Stands (TableSays d) old → Stands (TableSays (cleared d row)) new
 
--- and then on the way each image has the table of before, or that without the row, with or without the pointer
+-- and then on the way each image has the table of before, or that without the row, with or without
+-- the pointer
 abbrev pub LeavesRemoved : Table → ℕ → State → State → Type 0
-LeavesRemoved t slot old new = (d : Disk) (row : Row) → MayRemoveAt d row old.now t slot → Stands (TableSays d) old → LeavesOnly old new (λ c. HoldsOneOf c d (removed d row.slot) (cleared d row))
+LeavesRemoved t slot old new = (d : Disk) (row : Row) → MayRemoveAt d row old.now t slot
+    → Stands (TableSays d) old
+    → LeavesOnly old new (λ c. HoldsOneOf c d (removed d row.slot) (cleared d row))
 
 -- which words are stored to, and what other actors had flushed
 abbrev pub RemovesOnly : Table → ℕ → State → State → Type 0
-RemovesOnly t slot old new = (d : Disk) (row : Row) → MayRemoveAt d row old.now t slot → StoresOnly (IsRemoveWord d row) old new
+RemovesOnly t slot old new = (d : Disk) (row : Row) → MayRemoveAt d row old.now t slot
+    → StoresOnly (IsRemoveWord d row) old new
 
 abbrev pub KeepsThrough : ℕ → Table → ℕ → State → State → Type 0
-KeepsThrough who t slot old new = (d : Disk) (row : Row) → MayRemoveAt d row old.now t slot → KeepsFlushed (Others who) (IsRemoveWord d row) old new
+KeepsThrough who t slot old new = (d : Disk) (row : Row) → MayRemoveAt d row old.now t slot
+    → KeepsFlushed (Others who) (IsRemoveWord d row) old new

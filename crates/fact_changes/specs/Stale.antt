@@ -19,9 +19,11 @@ pub record IsStale (d : Disk) (page : ℕ) : Type 0 where
 pub record Clears (old new : Disk) : Type 0 where
   pub same : new ≡ with_table old old.chain new.pointer
   pub rows_same : rows new ≡ rows old
-  pub pointers : (page : ℕ) → (new.pointer page ≡ old.pointer page) ⊎ (IsStale old page × (new.pointer page ≡ 0))
+  pub pointers : (page : ℕ) → (new.pointer page ≡ old.pointer page)
+      ⊎ (IsStale old page × (new.pointer page ≡ 0))
 
--- in the end the words hold the table with all of them cleared, which stands if that of before stood
+-- in the end the words hold the table with all of them cleared, which stands if that of before
+-- stood
 pub record IsTidied (d : Disk) (t : Table) (old new : State) : Type 0 where
   pub disk : Disk
   pub clears : Clears d disk
@@ -40,7 +42,8 @@ pub record HasCleared (d : Disk) (c : List ℕ) : Type 0 where
 
 -- where the table stood, on the way each image has it with some stale pointers cleared
 abbrev pub LeavesCleared : Table → State → State → Type 0
-LeavesCleared t old new = (d : Disk) → IsTable d old.now t → Stands (TableSays d) old → LeavesOnly old new (HasCleared d)
+LeavesCleared t old new = (d : Disk) → IsTable d old.now t → Stands (TableSays d) old
+    → LeavesOnly old new (HasCleared d)
 
 -- the word of a stale pointer
 pub record IsStaleWord (d : Disk) (a : ℕ) : Type 0 where
@@ -53,12 +56,16 @@ abbrev pub ClearsOnly : Table → State → State → Type 0
 ClearsOnly t old new = (d : Disk) → IsTable d old.now t → StoresOnly (IsStaleWord d) old new
 
 abbrev pub KeepsCleared : ℕ → Table → State → State → Type 0
-KeepsCleared who t old new = (d : Disk) → IsTable d old.now t → KeepsFlushed (Others who) (IsStaleWord d) old new
+KeepsCleared who t old new = (d : Disk) → IsTable d old.now t
+    → KeepsFlushed (Others who) (IsStaleWord d) old new
 
 -- the same of one page: its pointer is cleared if it is stale
 pub data IsPageCleared (d : Disk) (page : ℕ) (t : Table) (old new : State) : Type 0 where
-  stays : (IsStale d page → ⊥) → IsTable d new.now t → (Stands (TableSays d) old → Stands (TableSays d) new) → IsPageCleared d page t old new
-  clears : IsStale d page → IsTable (repointed d page 0) new.now t → (Stands (TableSays d) old → Stands (TableSays (repointed d page 0)) new) → IsPageCleared d page t old new
+  stays : (IsStale d page → ⊥) → IsTable d new.now t
+      → (Stands (TableSays d) old → Stands (TableSays d) new) → IsPageCleared d page t old new
+  clears : IsStale d page → IsTable (repointed d page 0) new.now t
+      → (Stands (TableSays d) old → Stands (TableSays (repointed d page 0)) new)
+      → IsPageCleared d page t old new
 
 -- before or after it
 abbrev pub HasPage : Disk → ℕ → List ℕ → Type 0
@@ -71,10 +78,13 @@ abbrev pub MakesPage : Table → ℕ → State → State → Type 0
 MakesPage t page old new = (d : Disk) → IsTable d old.now t → IsPageCleared d page t old new
 
 abbrev pub LeavesPage : Table → ℕ → State → State → Type 0
-LeavesPage t page old new = (d : Disk) → IsTable d old.now t → Stands (TableSays d) old → LeavesOnly old new (HasPage d page)
+LeavesPage t page old new = (d : Disk) → IsTable d old.now t → Stands (TableSays d) old
+    → LeavesOnly old new (HasPage d page)
 
 abbrev pub StoresPage : Table → ℕ → State → State → Type 0
-StoresPage t page old new = (d : Disk) → IsTable d old.now t → StoresOnly (IsPageWord d page) old new
+StoresPage t page old new = (d : Disk) → IsTable d old.now t → StoresOnly (IsPageWord d page) old
+    new
 
 abbrev pub KeepsPage : ℕ → Table → ℕ → State → State → Type 0
-KeepsPage who t page old new = (d : Disk) → IsTable d old.now t → KeepsFlushed (Others who) (IsPageWord d page) old new
+KeepsPage who t page old new = (d : Disk) → IsTable d old.now t
+    → KeepsFlushed (Others who) (IsPageWord d page) old new

@@ -1,6 +1,6 @@
 //! Changes of the table of fingerprints: rows come in and go, and stale pointers are cleared.
 //!
-//! Each change is decided by one word, so that a stop leaves the table of before or the table of after.
+//! Each change is decided by one word, so that a crash leaves the table of before or the table of after.
 #![tactic(auto)]
 
 pub mod insertion;

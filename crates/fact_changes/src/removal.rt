@@ -1,6 +1,7 @@
 // A row goes out of the table by its slot.
 ghost use Rattle.std.specs.Prelude.{◌≡◌, ◌+◌, ◌*◌, ◌<◌, ◌≤◌, ℕ, List, length, OnOk, OnErr, IsErr};
 ghost use Rattle.pm_device.specs.State.{Rose};
+ghost use Rattle.pm_device.specs.Settled.{SettlesAll};
 ghost use Rattle.pm_layout.specs.Geometry.{IsAccepted, directs};
 ghost use Rattle.dn_model.specs.Table.{Row as TableRow};
 ghost use Rattle.fact_changes.specs.Removal.{IsChainTo, HasChainTo, IsBefore, HasZero, IsReadAt, Frees, MakesRemoved, SettlesRemoved, LeavesRemoved, RemovesOnly, KeepsThrough};
@@ -27,7 +28,8 @@ pub fn slot_before_of<D: Pm, L: Ledger>(
     requires direct { direct < directs g.now }
     requires chain { HasChainTo g.now (D.state device.now).now direct slot }
     ensures before { IsBefore g.now (D.state device.now).now direct slot result }
-    ensures cost { (rows : List TableRow) → IsChainTo g.now (D.state device.now).now direct slot rows → steps.new ≤ steps.old + length rows }
+    ensures cost { (rows : List TableRow) → IsChainTo g.now (D.state device.now).now direct slot
+        rows → steps.new ≤ steps.old + length rows }
 {
     let mut before = direct;
     for _i in 0..g.pages {
@@ -74,10 +76,13 @@ fn take_out<D: Pm>(
     requires read { IsReadAt (D.state device.old).now fact.old slot page print.now }
     requires room { REMOVE_UNITS ≤ (D.state device.old).spare }
     ensures images { LeavesRemoved fact.old slot (D.state device.old) (D.state device.new) }
-    ensures done { OnOk result (MakesRemoved fact.old fact.new slot (D.state device.old) (D.state device.new)) }
-    ensures settled { OnOk result (SettlesRemoved fact.old slot (D.state device.old) (D.state device.new)) }
+    ensures done { OnOk result (MakesRemoved fact.old fact.new slot (D.state device.old)
+        (D.state device.new)) }
+    ensures settled { OnOk result (SettlesRemoved fact.old slot (D.state device.old)
+        (D.state device.new)) }
     ensures frees { OnOk result (Frees slot fact.old fact.new) }
     ensures kept { OnErr result (fact.new ≡ fact.old) }
+    ensures settles { OnOk result (SettlesAll who (D.state device.old) (D.state device.new)) }
     ensures only { RemovesOnly fact.old slot (D.state device.old) (D.state device.new) }
     ensures others { KeepsThrough who fact.old slot (D.state device.old) (D.state device.new) }
     ensures spare { (D.state device.old).spare ≤ (D.state device.new).spare + REMOVE_UNITS }
@@ -98,11 +103,11 @@ fn take_out<D: Pm>(
 /// Takes the row at a slot, which has no reference and no update under way, out of the table. An indirect slot is
 /// given back to those that are kept as having no row.
 ///
-/// Where the table is settled before, at each moment a stop leaves the rows of before, or those without this one, with
+/// Where the table is settled before, at each moment a crash leaves the rows of before, or those without this one, with
 /// or without the pointer of its page.
 ///
 /// # Errors
-/// `Failed` where a fence failed. The row is gone or it isn't, and a stop may leave either. The slot isn't given back.
+/// `Failed` where a fence failed. The row is gone or it isn't, and a crash may leave either. The slot isn't given back.
 pub fn remove_zero<D: Pm>(
     fact: &mut Fact,
     device: &mut D,
@@ -112,10 +117,13 @@ pub fn remove_zero<D: Pm>(
     requires row { HasZero (D.state device.old).now fact.old slot }
     requires room { REMOVE_UNITS ≤ (D.state device.old).spare }
     ensures images { LeavesRemoved fact.old slot (D.state device.old) (D.state device.new) }
-    ensures done { OnOk result (MakesRemoved fact.old fact.new slot (D.state device.old) (D.state device.new)) }
-    ensures settled { OnOk result (SettlesRemoved fact.old slot (D.state device.old) (D.state device.new)) }
+    ensures done { OnOk result (MakesRemoved fact.old fact.new slot (D.state device.old)
+        (D.state device.new)) }
+    ensures settled { OnOk result (SettlesRemoved fact.old slot (D.state device.old)
+        (D.state device.new)) }
     ensures frees { OnOk result (Frees slot fact.old fact.new) }
     ensures kept { OnErr result (fact.new ≡ fact.old) }
+    ensures settles { OnOk result (SettlesAll who (D.state device.old) (D.state device.new)) }
     ensures only { RemovesOnly fact.old slot (D.state device.old) (D.state device.new) }
     ensures others { KeepsThrough who fact.old slot (D.state device.old) (D.state device.new) }
     ensures spare { (D.state device.old).spare ≤ (D.state device.new).spare + REMOVE_UNITS }

@@ -1,12 +1,12 @@
 // Pointers that lead to no row of their page are cleared.
 ghost use Rattle.std.specs.Prelude.{◌≡◌, ◌+◌, ◌*◌, ◌<◌, ◌≤◌, ◌↔◌, IsTrue, OnOk, IsErr};
 ghost use Rattle.pm_device.specs.State.{Rose};
+ghost use Rattle.pm_device.specs.Settled.{FlushesAll};
 ghost use Rattle.dn_model.specs.Disk.{Disk};
 ghost use Rattle.fact_table.specs.Table.{HasTable, IsTable};
 ghost use Rattle.fact_changes.specs.Stale.{IsStale, MakesPage, LeavesPage, StoresPage, KeepsPage, MakesTidy, LeavesCleared, ClearsOnly, KeepsCleared};
 
-use delete_pointer::entry_of;
-use fact_rows::pointer::{POINTER_UNITS, store_pointer};
+use delete_pointer::{POINTER_UNITS, entry_of, store_pointer};
 use fact_table::Fact;
 use pm_device::{Failed, Pm};
 
@@ -17,7 +17,8 @@ pub const STALE_UNITS: u64 = POINTER_UNITS;
 fn is_stale<D: Pm>(fact: &Fact, device: &D, page: u64) -> bool
     requires table { HasTable (D.state device.now).now fact.now }
     requires page { page < fact.now.geometry.pages }
-    ensures stale { (d : Disk) → IsTable d (D.state device.now).now fact.now → (IsTrue result ↔ IsStale d page) }
+    ensures stale { (d : Disk) → IsTable d (D.state device.now).now fact.now
+        → (IsTrue result ↔ IsStale d page) }
 {
     entry_of(device, &fact.geometry(), page).is_some() && fact.by_page(device, page).is_none()
 }
@@ -29,6 +30,7 @@ fn clear_page<D: Pm>(fact: &Fact, device: &mut D, who: u32, page: u64) -> Result
     requires room { STALE_UNITS ≤ (D.state device.old).spare }
     ensures images { LeavesPage fact.now page (D.state device.old) (D.state device.new) }
     ensures done { OnOk result (MakesPage fact.now page (D.state device.old) (D.state device.new)) }
+    ensures flushes { OnOk result (FlushesAll who (D.state device.old) (D.state device.new)) }
     ensures only { StoresPage fact.now page (D.state device.old) (D.state device.new) }
     ensures others { KeepsPage who fact.now page (D.state device.old) (D.state device.new) }
     ensures spare { (D.state device.old).spare ≤ (D.state device.new).spare + STALE_UNITS }
@@ -42,9 +44,10 @@ fn clear_page<D: Pm>(fact: &Fact, device: &mut D, who: u32, page: u64) -> Result
 }
 
 /// Clears every stale pointer: one that leads to a slot without a row, or to a row of another page. A pointer that
-/// leads to the row of its page stays, and where no pointer is stale nothing is stored.
+/// leads to the row of its page stays. Each that is cleared is fenced, and so is all that this actor had flushed before;
+/// but where no pointer is stale nothing is stored or fenced.
 ///
-/// Where the table is settled before, at each moment a stop leaves the rows of before, and some of the stale pointers
+/// Where the table is settled before, at each moment a crash leaves the rows of before, and some of the stale pointers
 /// cleared.
 ///
 /// # Errors
@@ -54,9 +57,11 @@ pub fn clear_stale<D: Pm>(fact: &Fact, device: &mut D, who: u32) -> Result<(), F
     requires room { STALE_UNITS * fact.now.geometry.pages ≤ (D.state device.old).spare }
     ensures images { LeavesCleared fact.now (D.state device.old) (D.state device.new) }
     ensures done { OnOk result (MakesTidy fact.now (D.state device.old) (D.state device.new)) }
+    ensures flushes { OnOk result (FlushesAll who (D.state device.old) (D.state device.new)) }
     ensures only { ClearsOnly fact.now (D.state device.old) (D.state device.new) }
     ensures others { KeepsCleared who fact.now (D.state device.old) (D.state device.new) }
-    ensures spare { (D.state device.old).spare ≤ (D.state device.new).spare + STALE_UNITS * fact.now.geometry.pages }
+    ensures spare { (D.state device.old).spare ≤ (D.state device.new).spare + STALE_UNITS
+        * fact.now.geometry.pages }
     ensures faults { (D.state device.old).faults ≤ (D.state device.new).faults }
     ensures failed { IsErr result → Rose (D.state device.old).faults (D.state device.new).faults }
 {

@@ -1,8 +1,7 @@
 -- The counts of a row become others.
-use Rattle.std.specs.Prelude.{◌≡◌, ◌≢◌, ◌⊎◌, ℕ, ◌+◌, ◌-◌, ◌^◌, ◌<◌, ◌≤◌, List, length}
+use Rattle.std.specs.Prelude.{◌≡◌, ◌⊎◌, ℕ, ◌+◌, ◌-◌, ◌^◌, ◌<◌, ◌≤◌, List}
 use Rattle.pm_device.specs.State.{State}
-use Rattle.pm_device.specs.Settled.{IsSettled, IsFlushed, LeavesOnly}
-use Rattle.pm_layout.specs.Geometry.{slot_word}
+use Rattle.pm_device.specs.Settled.{LeavesOnly}
 use Rattle.fingerprint.specs.declared.count.CountWord.{CountWord}
 use Rattle.dn_model.specs.Table.{Row}
 use Rattle.dn_model.specs.Disk.{Disk}
@@ -45,22 +44,21 @@ count_changed f d slot row = recounted d slot (f row).rfc (f row).uc
 
 -- in the end the words hold the table of after; what is kept in memory stays
 abbrev pub MakesTable : (Row → CountWord) → Table → ℕ → State → State → Type 0
-MakesTable f t slot old new = (d : Disk) (row : Row) → IsTable d old.now t → IsAtSlot d slot row → IsTable (count_changed f d slot row) new.now t
+MakesTable f t slot old new = (d : Disk) (row : Row) → IsTable d old.now t → IsAtSlot d slot row
+    → IsTable (count_changed f d slot row) new.now t
 
 -- it is settled, if the table of before was
 abbrev pub SettlesTable : (Row → CountWord) → Table → ℕ → State → State → Type 0
-SettlesTable f t slot old new = (d : Disk) (row : Row) → IsSettledTable d old t → IsAtSlot d slot row → IsSettledTable (count_changed f d slot row) new t
+SettlesTable f t slot old new = (d : Disk) (row : Row) → IsSettledTable d old t
+    → IsAtSlot d slot row → IsSettledTable (count_changed f d slot row) new t
 
 -- and then on the way each image has the table of before or that of after
 abbrev pub LeavesTables : (Row → CountWord) → Table → ℕ → State → State → Type 0
-LeavesTables f t slot old new = (d : Disk) (row : Row) → IsSettledTable d old t → IsAtSlot d slot row
+LeavesTables f t slot old new = (d : Disk) (row : Row) → IsSettledTable d old t
+    → IsAtSlot d slot row
     → LeavesOnly old new (λ c. HoldsTable c d ⊎ HoldsTable c (count_changed f d slot row))
-
--- the word of the counts is settled, and so is what this actor had flushed elsewhere
-pub record SettlesOwn (t : Table) (slot who : ℕ) (old new : State) : Type 0 where
-  pub word : IsSettled new (slot_word t.geometry slot 4)
-  pub flushed : (a : ℕ) → a < length old.now → IsFlushed who old a → a ≢ slot_word t.geometry slot 4 → IsSettled new a
 
 -- these are the counts of the row at this slot
 abbrev pub CountsAre : List ℕ → Table → ℕ → CountWord → Type 0
-CountsAre words t slot counts = (d : Disk) (row : Row) → IsTable d words t → IsAtSlot d slot row → counts ≡ record { rfc = row.rfc; uc = row.uc }
+CountsAre words t slot counts = (d : Disk) (row : Row) → IsTable d words t → IsAtSlot d slot row
+    → counts ≡ record { rfc = row.rfc; uc = row.uc }

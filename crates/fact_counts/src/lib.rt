@@ -1,6 +1,6 @@
 //! The counts of a row of the table of fingerprints become others.
 //!
-//! One word decides, so that a stop leaves the counts of before or those of after.
+//! One word decides, so that a crash leaves the counts of before or those of after.
 #![tactic(auto)]
 
 pub mod counts;

@@ -6,7 +6,7 @@
 
 ghost use Rattle.std.specs.Prelude.{◌≡◌, ◌+◌, ◌*◌, ◌<◌, ◌≤◌, length, OnOk, IsErr};
 ghost use Rattle.pm_device.specs.State.{Rose};
-ghost use Rattle.pm_device.specs.Settled.{IsSettled, LeavesOnly, StoresOnly, KeepsFlushed, Others};
+ghost use Rattle.pm_device.specs.Settled.{IsSettled, LeavesOnly, StoresOnly, KeepsFlushed, Others, FlushesAll, SettlesAll};
 ghost use Rattle.pm_device.specs.Commit.{IsDone, LeavesOneWord};
 ghost use Rattle.pm_device.specs.Lines.{StoresRun};
 ghost use Rattle.pm_layout.specs.Geometry.{IsAccepted, slot_word, directs};
@@ -14,18 +14,18 @@ ghost use Rattle.fingerprint.specs.Slot.{IsSlot, IsReadFrom, IsTheSlotOf};
 ghost use Rattle.fact_slot.specs.Words.{words_of};
 ghost use Rattle.fact_direct.specs.Filled.{words_but_page};
 
-use fact_slot::slot::PAGE;
+use fact_slot::slot::{FIELD_UNITS, STORE_UNITS};
 use fact_slot::{Steps, read_slot, set_field, store_fields};
 use fingerprint::FactSlot;
 use pm_device::{Failed, Pm};
-use pm_layout::Geometry;
+use pm_layout::{FACT_PAGE, Geometry};
 use std::sync::ledger::Ledger;
 
 /// The units of the device that `fill_direct` uses.
-pub const FILL_UNITS: u64 = 9;
+pub const FILL_UNITS: u64 = STORE_UNITS;
 
 /// The units of the device that `open_direct` and `close_direct` use, each.
-pub const GATE_UNITS: u64 = 3;
+pub const GATE_UNITS: u64 = FIELD_UNITS;
 
 /// What a direct slot holds. It is one step. The slot has no row where the page is 0.
 pub fn read_direct<D: Pm, L: Ledger>(
@@ -55,7 +55,9 @@ pub fn fill_direct<D: Pm>(device: &mut D, g: &Geometry, who: u32, slot: u64, row
     requires size { length (D.state device.old).now ≡ 512 * g.now.pages }
     requires slot { slot < directs g.now }
     requires room { FILL_UNITS ≤ (D.state device.old).spare }
-    ensures stores { StoresRun who (slot_word g.now slot 1) (words_but_page row.now) (D.state device.old) (D.state device.new) }
+    ensures stores { StoresRun who (slot_word g.now slot 1) (words_but_page row.now)
+        (D.state device.old) (D.state device.new) }
+    ensures flushes { FlushesAll who (D.state device.old) (D.state device.new) }
     ensures spare { (D.state device.old).spare ≤ (D.state device.new).spare + FILL_UNITS }
     ensures faults { (D.state device.old).faults ≤ (D.state device.new).faults }
 {
@@ -65,10 +67,10 @@ pub fn fill_direct<D: Pm>(device: &mut D, g: &Geometry, who: u32, slot: u64, row
 /// Opens a filled slot by its page word: from then on it has a row. The page word is stored, flushed and fenced. The fill
 /// and the page's pointer are fenced before.
 ///
-/// Where the page word is settled before, at each moment on the way a stop leaves it old or new.
+/// Where the page word is settled before, at each moment on the way a crash leaves it old or new.
 ///
 /// # Errors
-/// `Failed` where the fence failed. Then the page word is stored, and a stop may leave either.
+/// `Failed` where the fence failed. Then the page word is stored, and a crash may leave either.
 pub fn open_direct<D: Pm>(
     device: &mut D,
     g: &Geometry,
@@ -81,36 +83,48 @@ pub fn open_direct<D: Pm>(
     requires slot { slot < directs g.now }
     requires page { page < g.now.pages }
     requires room { GATE_UNITS ≤ (D.state device.old).spare }
-    ensures any_moment { IsSettled (D.state device.old) (slot_word g.now slot 0) → LeavesOnly (D.state device.old) (D.state device.new) (LeavesOneWord (slot_word g.now slot 0) page (D.state device.old)) }
-    ensures done { OnOk result (IsDone who (slot_word g.now slot 0) page (D.state device.old) (D.state device.new)) }
-    ensures only { StoresOnly (λ a. a ≡ slot_word g.now slot 0) (D.state device.old) (D.state device.new) }
-    ensures others { KeepsFlushed (Others who) (λ a. a ≡ slot_word g.now slot 0) (D.state device.old) (D.state device.new) }
+    ensures any_moment { IsSettled (D.state device.old) (slot_word g.now slot 0)
+        → LeavesOnly (D.state device.old) (D.state device.new)
+        (LeavesOneWord (slot_word g.now slot 0) page (D.state device.old)) }
+    ensures done { OnOk result (IsDone who (slot_word g.now slot 0) page (D.state device.old)
+        (D.state device.new)) }
+    ensures settles { OnOk result (SettlesAll who (D.state device.old) (D.state device.new)) }
+    ensures only { StoresOnly (λ a. a ≡ slot_word g.now slot 0) (D.state device.old)
+        (D.state device.new) }
+    ensures others { KeepsFlushed (Others who) (λ a. a ≡ slot_word g.now slot 0)
+        (D.state device.old) (D.state device.new) }
     ensures spare { (D.state device.old).spare ≤ (D.state device.new).spare + GATE_UNITS }
     ensures faults { (D.state device.old).faults ≤ (D.state device.new).faults }
     ensures failed { IsErr result → Rose (D.state device.old).faults (D.state device.new).faults }
 {
-    set_field(device, g, who, slot, PAGE, page)
+    set_field(device, g, who, slot, FACT_PAGE, page)
 }
 
 /// Closes a slot by a page word of 0: from then on it has no row. The word is stored, flushed and fenced. The next word
 /// stays, and so do the rows that are chained behind the slot.
 ///
-/// Where the page word is settled before, at each moment on the way a stop leaves it old, or leaves it 0.
+/// Where the page word is settled before, at each moment on the way a crash leaves it old, or leaves it 0.
 ///
 /// # Errors
-/// `Failed` where the fence failed. Then the page word is stored, and a stop may leave either.
+/// `Failed` where the fence failed. Then the page word is stored, and a crash may leave either.
 pub fn close_direct<D: Pm>(device: &mut D, g: &Geometry, who: u32, slot: u64) -> Result<(), Failed>
     requires accepted { IsAccepted g.now }
     requires size { length (D.state device.old).now ≡ 512 * g.now.pages }
     requires slot { slot < directs g.now }
     requires room { GATE_UNITS ≤ (D.state device.old).spare }
-    ensures any_moment { IsSettled (D.state device.old) (slot_word g.now slot 0) → LeavesOnly (D.state device.old) (D.state device.new) (LeavesOneWord (slot_word g.now slot 0) 0 (D.state device.old)) }
-    ensures done { OnOk result (IsDone who (slot_word g.now slot 0) 0 (D.state device.old) (D.state device.new)) }
-    ensures only { StoresOnly (λ a. a ≡ slot_word g.now slot 0) (D.state device.old) (D.state device.new) }
-    ensures others { KeepsFlushed (Others who) (λ a. a ≡ slot_word g.now slot 0) (D.state device.old) (D.state device.new) }
+    ensures any_moment { IsSettled (D.state device.old) (slot_word g.now slot 0)
+        → LeavesOnly (D.state device.old) (D.state device.new)
+        (LeavesOneWord (slot_word g.now slot 0) 0 (D.state device.old)) }
+    ensures done { OnOk result (IsDone who (slot_word g.now slot 0) 0 (D.state device.old)
+        (D.state device.new)) }
+    ensures settles { OnOk result (SettlesAll who (D.state device.old) (D.state device.new)) }
+    ensures only { StoresOnly (λ a. a ≡ slot_word g.now slot 0) (D.state device.old)
+        (D.state device.new) }
+    ensures others { KeepsFlushed (Others who) (λ a. a ≡ slot_word g.now slot 0)
+        (D.state device.old) (D.state device.new) }
     ensures spare { (D.state device.old).spare ≤ (D.state device.new).spare + GATE_UNITS }
     ensures faults { (D.state device.old).faults ≤ (D.state device.new).faults }
     ensures failed { IsErr result → Rose (D.state device.old).faults (D.state device.new).faults }
 {
-    set_field(device, g, who, slot, PAGE, 0)
+    set_field(device, g, who, slot, FACT_PAGE, 0)
 }

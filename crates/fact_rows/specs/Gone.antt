@@ -12,8 +12,10 @@ use Rattle.law_table.specs.Words.{HoldsTable}
 use Rattle.law_table.specs.Rows.{MayTakeRow}
 use Rattle.fact_rows.specs.Put.{HoldsOneOf}
 
--- the words hold the table of this disk, whose row at this slot, of this page, may go out of the chain of this prefix
-pub record MayTakeOut (d : Disk) (row : Row) (words : List ℕ) (g : Geometry) (prefix slot page : ℕ) : Type 0 where
+-- the words hold the table of this disk, whose row at this slot, of this page, may go out of the
+-- chain of this prefix
+pub record MayTakeOut (d : Disk) (row : Row) (words : List ℕ) (g : Geometry) (prefix slot page : ℕ)
+    : Type 0 where
   pub geometry : d.geometry ≡ g
   pub holds : HoldsTable words d
   pub may : MayTakeRow d prefix row
@@ -26,7 +28,8 @@ pub record CanTakeOut (words : List ℕ) (g : Geometry) (prefix slot page : ℕ)
   pub may : MayTakeOut disk row words g prefix slot page
 
 -- the next word of slot `before` leads to it
-pub record MayUnlink (d : Disk) (row : Row) (prefix : ℕ) (words : List ℕ) (g : Geometry) (before slot page : ℕ) : Type 0 where
+pub record MayUnlink (d : Disk) (row : Row) (prefix : ℕ) (words : List ℕ) (g : Geometry)
+    (before slot page : ℕ) : Type 0 where
   pub take : MayTakeOut d row words g prefix slot page
   pub before_is : before ≡ slot_before prefix (d.chain prefix) row.slot
 
@@ -46,24 +49,31 @@ IsGoneWord g gate page a = (a ≡ gate) ⊎ (a ≡ pointer_word g page)
 
 -- a row goes out of its direct slot: the table in the end
 abbrev pub MakesClosed : Geometry → ℕ → ℕ → State → State → Type 0
-MakesClosed g direct page old new = (d : Disk) (row : Row) → MayTakeOut d row old.now g direct direct page → HoldsTable new.now (cleared d row)
+MakesClosed g direct page old new = (d : Disk) (row : Row) → MayTakeOut d row old.now g direct
+    direct page → HoldsTable new.now (cleared d row)
 
 -- which stands, if that of before stood
 abbrev pub SettlesClosed : Geometry → ℕ → ℕ → State → State → Type 0
-SettlesClosed g direct page old new = (d : Disk) (row : Row) → MayTakeOut d row old.now g direct direct page → Stands (TableSays d) old → Stands (TableSays (cleared d row)) new
+SettlesClosed g direct page old new = (d : Disk) (row : Row) → MayTakeOut d row old.now g direct
+    direct page → Stands (TableSays d) old → Stands (TableSays (cleared d row)) new
 
 -- and what images have on the way then
 abbrev pub LeavesClosed : Geometry → ℕ → ℕ → State → State → Type 0
-LeavesClosed g direct page old new = (d : Disk) (row : Row) → MayTakeOut d row old.now g direct direct page → Stands (TableSays d) old
+LeavesClosed g direct page old new = (d : Disk) (row : Row) → MayTakeOut d row old.now g direct
+    direct page → Stands (TableSays d) old
     → LeavesOnly old new (λ c. HoldsOneOf c d (removed d row.slot) (cleared d row))
 
 -- the same where a row goes out from behind a slot
 abbrev pub MakesUnlinked : Geometry → ℕ → ℕ → ℕ → State → State → Type 0
-MakesUnlinked g before slot page old new = (d : Disk) (row : Row) (prefix : ℕ) → MayUnlink d row prefix old.now g before slot page → HoldsTable new.now (cleared d row)
+MakesUnlinked g before slot page old new = (d : Disk) (row : Row) (prefix : ℕ)
+    → MayUnlink d row prefix old.now g before slot page → HoldsTable new.now (cleared d row)
 
 abbrev pub SettlesUnlinked : Geometry → ℕ → ℕ → ℕ → State → State → Type 0
-SettlesUnlinked g before slot page old new = (d : Disk) (row : Row) (prefix : ℕ) → MayUnlink d row prefix old.now g before slot page → Stands (TableSays d) old → Stands (TableSays (cleared d row)) new
+SettlesUnlinked g before slot page old new = (d : Disk) (row : Row) (prefix : ℕ)
+    → MayUnlink d row prefix old.now g before slot page → Stands (TableSays d) old
+    → Stands (TableSays (cleared d row)) new
 
 abbrev pub LeavesUnlinked : Geometry → ℕ → ℕ → ℕ → State → State → Type 0
-LeavesUnlinked g before slot page old new = (d : Disk) (row : Row) (prefix : ℕ) → MayUnlink d row prefix old.now g before slot page → Stands (TableSays d) old
+LeavesUnlinked g before slot page old new = (d : Disk) (row : Row) (prefix : ℕ)
+    → MayUnlink d row prefix old.now g before slot page → Stands (TableSays d) old
     → LeavesOnly old new (λ c. HoldsOneOf c d (removed d row.slot) (cleared d row))

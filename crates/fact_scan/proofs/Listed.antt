@@ -29,7 +29,8 @@ get-append_left (y ∷ xs) ys (suc k) x e = get-append_left xs ys k x e
 
 pub get-append_right : {X : Type 0} (xs ys : List X) (k : ℕ) → slice_get (xs ++ ys) (length xs + k) ≡ slice_get ys k
 get-append_right [] ys k = ap (slice_get ys) (omega arith)
-get-append_right (x ∷ xs) ys k = let place : length (x ∷ xs) + k ≡ suc (length xs + k) = omega arith in ap (slice_get (x ∷ (xs ++ ys))) place ∙ get-append_right xs ys k
+get-append_right (x ∷ xs) ys k = let place : length (x ∷ xs) + k ≡ suc (length xs + k) = omega arith in ap (slice_get (x ∷ (xs ++ ys)))
+    place ∙ get-append_right xs ys k
 
 -- the number of rows in the q chains from s on
 abbrev pub rows_before : (ℕ → List Row) → ℕ → ℕ → ℕ
@@ -37,7 +38,8 @@ rows_before chain s zero = 0
 rows_before chain s (suc q) = length (chain s) + rows_before chain (s + 1) q
 
 -- a row of a chain is one of all
-pub row_in_all : (chain : ℕ → List Row) (s n q k : ℕ) (row : Row) → q < n → slice_get (chain (s + q)) k ≡ Some row → slice_get (rows_from chain s n) (rows_before chain s q + k) ≡ Some row
+pub row_in_all : (chain : ℕ → List Row) (s n q k : ℕ) (row : Row) → q < n → slice_get (chain (s + q)) k ≡ Some row → slice_get (rows_from chain s n)
+    (rows_before chain s q + k) ≡ Some row
 row_in_all chain s zero q k row lt e = absurd (omega arith)
 row_in_all chain s (suc n) zero k row lt e =
     let here : s + 0 ≡ s = omega arith in
@@ -63,5 +65,10 @@ chain_of chain s zero row there = absurd (omega (arith, there.1))
 chain_of chain s (suc n) row there = ⊎_elim
     (λ (here : Contains (chain s) row). let at = place_of (chain s) row here in record { prefix = s; place = at.0; lt = omega arith; got = at.1 })
     (λ (later : Contains (rows_from chain (s + 1) n) row).
-    let found = chain_of chain (s + 1) n row later in record { prefix = found.prefix; place = found.place; lt = omega (arith, found.lt); got = found.got })
+    let found = chain_of chain (s + 1) n row later in record {
+      prefix = found.prefix;
+      place = found.place;
+      lt = omega (arith, found.lt);
+      got = found.got;
+    })
     (Contains-append_cases (chain s) (rows_from chain (s + 1) n) row there)

@@ -1,5 +1,31 @@
 -- Rows with one row more, and chains with one chain more.
-use Rattle.std.proofs.Common.{◌≡◌, ◌≢◌, ◌⊎◌, inl, inr, ℕ, zero, suc, ◌+◌, ◌<◌, Bool, true, false, List, [], ◌∷◌, ◌++◌, length, refl, sym, ◌∙◌, ap, arith, append-nil, append_assoc}
+use Rattle.std.proofs.Common.{
+  ◌≡◌,
+  ◌≢◌,
+  ◌⊎◌,
+  inl,
+  inr,
+  ℕ,
+  zero,
+  suc,
+  ◌+◌,
+  ◌<◌,
+  Bool,
+  true,
+  false,
+  List,
+  [],
+  ◌∷◌,
+  ◌++◌,
+  length,
+  refl,
+  sym,
+  ◌∙◌,
+  ap,
+  arith,
+  append-nil,
+  append_assoc,
+}
 use Rattle.std.specs.Prelude.{slice_index, slice_get, Some, Contains, if◌then◌else◌, ◌==◌}
 use Rattle.std.proofs.lemmas.Bool.Decides.{nat_tests}
 use Rattle.std.proofs.lemmas.Option.{slice_get_within}
@@ -16,7 +42,8 @@ pub get-push_new : {X : Type 0} (xs : List X) (x : X) → slice_get (xs ++ x ∷
 get-push_new xs x = let place : length xs + 0 ≡ length xs = omega arith in ap (slice_get (xs ++ x ∷ [])) (sym place) ∙ get-append_right xs (x ∷ []) 0
 
 -- each is an old one or the last
-pub get-push_cases : {X : Type 0} (xs : List X) (x : X) (k : ℕ) (y : X) → slice_get (xs ++ x ∷ []) k ≡ Some y → ((k < length xs) × (slice_get xs k ≡ Some y)) ⊎ ((k ≡ length xs) × (x ≡ y))
+pub get-push_cases : {X : Type 0} (xs : List X) (x : X) (k : ℕ) (y : X) → slice_get (xs ++ x ∷ []) k ≡ Some y
+    → ((k < length xs) × (slice_get xs k ≡ Some y)) ⊎ ((k ≡ length xs) × (x ≡ y))
 get-push_cases [] x zero y got = inr (refl, cc)
 get-push_cases [] x (suc k) y got = cc
 get-push_cases (z ∷ xs) x zero y got = inl (omega arith, got)
@@ -64,7 +91,8 @@ module _ {A : Type 0} (h : Row → A) where
       let here : at.0 ≡ length xs = differ at.0 (length xs) s row (get-append_left xs (row ∷ []) at.0 s at.1) (get-push_new xs row) same in
       let lt = slice_get_within xs at.0 s at.1 in omega (arith, here, lt)
 
-pub apart-push : (xs : List Row) (row : Row) → AreApart xs → ((s : Row) → Contains xs s → s.slot ≡ row.slot → ⊥) → ((s : Row) → Contains xs s → s.print ≡ row.print → ⊥) → ((s : Row) → Contains xs s → s.page ≡ row.page → ⊥) → AreApart (xs ++ row ∷ [])
+pub apart-push : (xs : List Row) (row : Row) → AreApart xs → ((s : Row) → Contains xs s → s.slot ≡ row.slot → ⊥)
+    → ((s : Row) → Contains xs s → s.print ≡ row.print → ⊥) → ((s : Row) → Contains xs s → s.page ≡ row.page → ⊥) → AreApart (xs ++ row ∷ [])
 apart-push xs row apart slot print page = record {
   slot = differ-push (λ (r : Row). r.slot) xs row apart.slot slot;
   print = differ-push (λ (r : Row). r.print) xs row apart.print print;
@@ -72,11 +100,15 @@ apart-push xs row apart slot print page = record {
 }
 
 -- rows that stand, each of which leads to the next and the last to none, are read
-pub rows_read : (g : Geometry) (words : List ℕ) (rows : List Row) → ((k : ℕ) (row : Row) → slice_get rows k ≡ Some row → RowStands g words row.slot row)
-    → ((k : ℕ) (row next : Row) → slice_get rows k ≡ Some row → slice_get rows (k + 1) ≡ Some next → slice_index words (slot_word g row.slot 5) ≡ next.slot)
-    → ((k : ℕ) (row : Row) → slice_get rows k ≡ Some row → length rows ≡ k + 1 → slice_index words (slot_word g row.slot 5) ≡ 0) → Reads (RowsSay g rows) words
+pub rows_read : (g : Geometry) (words : List ℕ) (rows : List Row) → ((k : ℕ) (row : Row) → slice_get rows k ≡ Some row
+    → RowStands g words row.slot row)
+    → ((k : ℕ) (row next : Row) → slice_get rows k ≡ Some row → slice_get rows (k + 1) ≡ Some next → slice_index words (slot_word g row.slot 5) ≡
+    next.slot)
+    → ((k : ℕ) (row : Row) → slice_get rows k ≡ Some row → length rows ≡ k + 1 → slice_index words (slot_word g row.slot 5) ≡ 0)
+    → Reads (RowsSay g rows) words
 rows_read g words [] stand linked last a v says = elim says [ ]
-rows_read g words (row ∷ rows) stand linked last a v (at_field j lt place value) = ap (slice_index words) place ∙ (stand 0 row refl).1 j lt ∙ sym value
+rows_read g words (row ∷ rows) stand linked last a v (at_field j lt place value) = ap (slice_index words) place ∙ (stand 0 row refl).1 j lt ∙ sym
+    value
 rows_read g words (row ∷ rows) stand linked last a v (at_next place value) = ap (slice_index words) place ∙ next_is rows refl ∙ sym value
   where
     next_is : (rs : List Row) → rs ≡ rows → slice_index words (slot_word g row.slot 5) ≡ first_slot rs
@@ -105,8 +137,10 @@ put_other chain p own q ne = by_test (q == p) refl
     by_test true t = absurd (ne (grind (arith, nat_tests)))
     by_test false t = refl
 
-pub rows_from-put : (chain : ℕ → List Row) (p : ℕ) (own : List Row) (d n : ℕ) → d + n ≡ p → rows_from (put_chain chain p own) d (suc n) ≡ rows_from chain d n ++ own
+pub rows_from-put : (chain : ℕ → List Row) (p : ℕ) (own : List Row) (d n : ℕ) → d + n ≡ p → rows_from (put_chain chain p own) d (suc n) ≡ rows_from
+    chain d n ++ own
 rows_from-put chain p own d zero e = ap (λ (rs : List Row). rs ++ []) (put_here chain p own d (omega (arith, e))) ∙ append-nil own
 rows_from-put chain p own d (suc n) e =
     ap (λ (rs : List Row). rs ++ rows_from (put_chain chain p own) (d + 1) (suc n)) (put_other chain p own d (λ same. omega (arith, e, same)))
-    ∙ ap (λ (rs : List Row). chain d ++ rs) (rows_from-put chain p own (d + 1) n (omega (arith, e))) ∙ sym (append_assoc (chain d) (rows_from chain (d + 1) n) own)
+    ∙ ap (λ (rs : List Row). chain d ++ rs) (rows_from-put chain p own (d + 1) n (omega (arith, e))) ∙ sym
+    (append_assoc (chain d) (rows_from chain (d + 1) n) own)

@@ -33,8 +33,17 @@ module _ (g : Geometry) (words : List ℕ) (prefix slot : ℕ) (f : Found) (held
     held_new = subst (λ (p : ℕ). IsNew g f slot p held.print) page_same (subst (IsNew g f slot row.page) print_same may.new)
 
   -- and what it holds may come, where it is a row
-  pub held_comes : InData g held.page × (third < 2 ^ 32) × (prefix_of g held.print ≡ prefix) → IsNew g f slot held.page held.print → MayCome g words prefix slot f (as_row (answer slot held))
-  held_comes is new = record { stands = (refl, stands); data_page = is.0; print = fits.print; prefix_is = is.2; rfc = fits.rfc; uc = fits.uc; new = new }
+  pub held_comes : InData g held.page × (third < 2 ^ 32) × (prefix_of g held.print ≡ prefix) → IsNew g f slot held.page held.print
+      → MayCome g words prefix slot f (as_row (answer slot held))
+  held_comes is new = record {
+    stands = (refl, stands);
+    data_page = is.0;
+    print = fits.print;
+    prefix_is = is.2;
+    rfc = fits.rfc;
+    uc = fits.uc;
+    new = new;
+  }
     where
       stands : (j : ℕ) → j < 5 → slice_index words (slot_word g slot j) ≡ row_word (as_row (answer slot held)) j
       stands zero lt = sym read.page

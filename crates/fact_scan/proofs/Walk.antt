@@ -1,5 +1,34 @@
 -- A chain is read: a row is taken, or the table has its fault there, and at its end it is one of the chains.
-use Rattle.std.proofs.Common.{◌≡◌, ◌≢◌, ◌⊎◌, inl, inr, ℕ, suc, ◌+◌, ◌-◌, ◌<◌, ◌≤◌, Bool, true, false, List, [], ◌∷◌, ◌++◌, length, refl, sym, ◌∙◌, ap, subst, arith, length-append, append-nil, append_assoc}
+use Rattle.std.proofs.Common.{
+  ◌≡◌,
+  ◌≢◌,
+  ◌⊎◌,
+  inl,
+  inr,
+  ℕ,
+  suc,
+  ◌+◌,
+  ◌-◌,
+  ◌<◌,
+  ◌≤◌,
+  Bool,
+  true,
+  false,
+  List,
+  [],
+  ◌∷◌,
+  ◌++◌,
+  length,
+  refl,
+  sym,
+  ◌∙◌,
+  ap,
+  subst,
+  arith,
+  length-append,
+  append-nil,
+  append_assoc,
+}
 use Rattle.std.specs.Prelude.{slice_index, slice_get, Some, Contains, if◌then◌else◌, ◌==◌}
 use Rattle.std.specs.List.{list_any}
 use Rattle.std.specs.Ordering.{nat_cmp, is_eq}
@@ -16,16 +45,57 @@ use Rattle.pm_device.specs.Reading.{Reads}
 use Rattle.pm_layout.specs.declared.Geometry.{Geometry}
 use Rattle.pm_layout.specs.Geometry.{directs, slot_word, first_data}
 use Rattle.page_alloc.specs.Free.{FreePages}
-use Rattle.dn_model.specs.Table.{Row, RowsSay, ChainSays, at_direct_page, at_direct_next, at_row, rows_from, prefix_of, first_slot, chained, direct_page_word}
+use Rattle.dn_model.specs.Table.{
+  Row,
+  RowsSay,
+  ChainSays,
+  at_direct_page,
+  at_direct_next,
+  at_row,
+  rows_from,
+  prefix_of,
+  first_slot,
+  chained,
+  direct_page_word,
+}
 use Rattle.dn_model.specs.Valid.{IsRow, AreApart}
-use Rattle.dn_model.specs.Faults.{RowStands, IsTableFront, ComesNext, direct_row, first_chained, after_row, IsDirectNext, IsIndirect, StartsAt, starts_direct, starts_chained, IsReached, TableFault, no_row, no_next}
+use Rattle.dn_model.specs.Faults.{
+  RowStands,
+  IsTableFront,
+  ComesNext,
+  direct_row,
+  first_chained,
+  after_row,
+  IsDirectNext,
+  IsIndirect,
+  StartsAt,
+  starts_direct,
+  starts_chained,
+  IsReached,
+  TableFault,
+  no_row,
+  no_next,
+}
 use Rattle.fact_scan.specs.declared.found.Found.{Found}
 use Rattle.fact_scan.specs.declared.scan.ScanFault.{ScanFault}
 use Rattle.fact_scan.specs.declared.scan.ScanFault.TheVariants.{BadTable, NoMemory}
 use Rattle.fact_scan.specs.Scan.{IsFaultOf}
 use Rattle.fact_scan.specs.Found.{IsRefusal, rows_of, has_print, IsMarked, IsFoundTo, MayCome, Adds, TakesRow, IsAt, IsOnChain}
 use Rattle.fact_scan.proofs.Listed.{chain_of}
-use Rattle.fact_scan.proofs.Pushed.{get-push_cases, in-push_cases, in-push_old, in-push_new, in-append_right, last_differs, apart-push, rows_read, put_chain, put_here, put_other, rows_from-put}
+use Rattle.fact_scan.proofs.Pushed.{
+  get-push_cases,
+  in-push_cases,
+  in-push_old,
+  in-push_new,
+  in-append_right,
+  last_differs,
+  apart-push,
+  rows_read,
+  put_chain,
+  put_here,
+  put_other,
+  rows_from-put,
+}
 
 first_data-some : (g : Geometry) → 0 < first_data g
 unfolding first_data
@@ -36,7 +106,8 @@ not_empty : (xs : List Row) (x : Row) → [] ≡ xs ++ x ∷ [] → ⊥
 not_empty xs x e = omega (arith, ap length e, length-append xs (x ∷ []))
 
 -- a number is a set's, where one more is in it
-module _ (n : ℕ) (old new : List ℕ) (there : Contains new n) (others : (q : ℕ) → q ≢ n → (Contains new q → Contains old q) × (Contains old q → Contains new q)) where
+module _ (n : ℕ) (old new : List ℕ) (there : Contains new n) (others : (q : ℕ) → q ≢ n → (Contains new q → Contains old q) × (Contains old q
+    → Contains new q)) where
   old_in : (q : ℕ) → Contains old q → Contains new q
   old_in q has = elim (cases_eq q n) [
     | inl e ↦ subst (Contains new) (sym e) there
@@ -87,7 +158,8 @@ marked-add g row f f' marked adds = record {
 
     marked_slot : (k : ℕ) → Contains f'.slots.free k → (s : Row) × Contains (rows_of f') s × (s.slot ≡ directs g + k)
     marked_slot k has = elim (cases_lt row.slot (directs g)) [
-      | inl direct ↦ let old = marked.marked_slot k (subst (λ (s : FreePages). Contains s.free k) (adds.same_slots direct) has) in (old.0, into old.0 old.1, old.2)
+      | inl direct ↦ let old = marked.marked_slot k (subst (λ (s : FreePages). Contains s.free k) (adds.same_slots direct) has) in
+          (old.0, into old.0 old.1, old.2)
       | inr far ↦
           let gives = adds.slots far in
           elim (in_old (row.slot - directs g) f.slots.free f'.slots.free gives.there gives.others k has) [
@@ -157,8 +229,10 @@ module _ (g : Geometry) (words : List ℕ) (prefix : ℕ) (chain : ℕ → List 
           new = record {
             new_slot = λ far has.
                 let met = at.marked.marked_slot (slot - directs g) has in
-                last_differs (λ (r : Row). r.slot) (before ++ own) row apart.slot met.0 (from_found met.0 met.1) (omega (arith, met.2, far, stands.0));
-            new_page = λ has. let met = at.marked.marked_page row.page has in last_differs (λ (r : Row). r.page) (before ++ own) row apart.page met.0 (from_found met.0 met.1) met.2;
+                last_differs (λ (r : Row). r.slot) (before ++ own) row apart.slot met.0 (from_found met.0 met.1)
+                (omega (arith, met.2, far, stands.0));
+            new_page = λ has. let met = at.marked.marked_page row.page has in last_differs (λ (r : Row). r.page) (before ++ own) row apart.page met.0
+                (from_found met.0 met.1) met.2;
             new_print = λ has.
                 let met = at.known_print row.print has in
                 last_differs (λ (r : Row). r.print) (before ++ own) row apart.print met.0 (in-append_right before own met.0 met.1) met.2;
@@ -179,7 +253,13 @@ module _ (g : Geometry) (words : List ℕ) (prefix : ℕ) (chain : ℕ → List 
 
       row_is : IsRow g prefix (length own) row
       row_is = record {
-        place = elim place [ inl direct ↦ inl (slot_is ∙ direct_slot direct, ap length direct.0) | inr far ↦ inr (omega (arith, far.0, slot_is), omega (arith, far.1, slot_is)) ];
+        place = elim place [
+          | inl direct ↦ inl (slot_is ∙ direct_slot direct, ap length direct.0)
+          | inr far ↦ inr (
+            omega (arith, far.0, slot_is),
+            omega (arith, far.1, slot_is),
+          )
+        ];
         data_page = takes.may.data_page;
         twenty = takes.may.print.twenty;
         bytes = takes.may.print.bytes;
@@ -194,14 +274,16 @@ module _ (g : Geometry) (words : List ℕ) (prefix : ℕ) (chain : ℕ → List 
       fresh_slot : (s : Row) → Contains (before ++ own) s → s.slot ≡ row.slot → ⊥
       fresh_slot s there same = elim place [
         | inl direct ↦
-            let found = earlier s (subst (λ (rs : List Row). Contains rs s) (ap (λ (rs : List Row). before ++ rs) direct.0 ∙ append-nil before) there) in
+            let found = earlier s (subst (λ (rs : List Row). Contains rs s) (ap (λ (rs : List Row). before ++ rs) direct.0 ∙ append-nil before) there)
+            in
             elim found.3.place [
               | inl own_slot ↦ omega (arith, own_slot.0, same, slot_is, direct_slot direct, found.2)
               | inr far ↦ omega (arith, far.0, same, slot_is, direct_slot direct, front.direct)
             ]
         | inr far ↦
             let e : s.slot - directs g ≡ slot - directs g = ap (λ (n : ℕ). n - directs g) (same ∙ slot_is) in
-            takes.may.new.new_slot far.0 (subst (Contains f.slots.free) e (at.marked.slot_marked s (in_found s there) (omega (arith, far.0, same, slot_is))))
+            takes.may.new.new_slot far.0
+            (subst (Contains f.slots.free) e (at.marked.slot_marked s (in_found s there) (omega (arith, far.0, same, slot_is))))
       ]
 
       fresh_page : (s : Row) → Contains (before ++ own) s → s.page ≡ row.page → ⊥
@@ -242,7 +324,8 @@ module _ (g : Geometry) (words : List ℕ) (prefix : ℕ) (chain : ℕ → List 
           read_before = front.read_before;
           own = λ k r got. elim (get-push_cases own row k r got) [
             | inl old ↦ front.own k r old.1
-            | inr last ↦ subst (λ (x : Row). IsRow g prefix k x × RowStands g words x.slot x) last.1 (subst (λ (n : ℕ). IsRow g prefix n row) (sym last.0) row_is, stands)
+            | inr last ↦ subst (λ (x : Row). IsRow g prefix k x × RowStands g words x.slot x) last.1
+                (subst (λ (n : ℕ). IsRow g prefix n row) (sym last.0) row_is, stands)
           ];
           apart = subst AreApart (append_assoc before own (row ∷ [])) (apart-push (before ++ own) row front.apart fresh_slot fresh_print fresh_page);
           linked = λ k r n got after. elim (get-push_cases own row (k + 1) n after) [
@@ -262,7 +345,8 @@ module _ (g : Geometry) (words : List ℕ) (prefix : ℕ) (chain : ℕ → List 
         ];
       }
 
-      known_after : (print : List ℕ) (b : Bool) → is_at (slice_cmp nat_cmp row.print) print ≡ b → has_print f' print ≡ (if b then true else has_print f print)
+      known_after : (print : List ℕ) (b : Bool) → is_at (slice_cmp nat_cmp row.print) print ≡ b
+          → has_print f' print ≡ (if b then true else has_print f print)
       known_after print b e = takes.adds.prints print ∙ ap (λ (t : Bool). if t then true else has_print f print) e
 
       print_known : (s : Row) → Contains (own ++ row ∷ []) s → has_print f' s.print ≡ true
@@ -298,7 +382,8 @@ module _ (g : Geometry) (words : List ℕ) (prefix : ℕ) (chain : ℕ → List 
       }
 
   -- the slot that comes next is no indirect one
-  pub strays : (holder next : ℕ) → ComesNext g words prefix own holder next → (IsDirectNext g words prefix own → ⊥) → next ≢ 0 → (IsIndirect g next → ⊥) → TableFault g words holder
+  pub strays : (holder next : ℕ) → ComesNext g words prefix own holder next → (IsDirectNext g words prefix own → ⊥) → next ≢ 0
+      → (IsIndirect g next → ⊥) → TableFault g words holder
   strays holder next comes begun some far = no_next chain prefix own next at.reached comes begun some far
 
   -- no slot comes next: the chain is read
@@ -347,9 +432,11 @@ module _ (g : Geometry) (words : List ℕ) (prefix : ℕ) (chain : ℕ → List 
 
         after : (xs : List Row) → xs ≡ rs → slice_index words (slot_word g r.slot 5) ≡ first_slot xs
         after [] is = last_none 0 r first (omega (arith, ap length e, ap length is))
-        after (s ∷ xs) is = front.linked 0 r s first (ap (λ (ys : List Row). slice_get ys 1) (sym e) ∙ ap (λ (ys : List Row). slice_get ys 0) (sym is))
+        after (s ∷ xs) is = front.linked 0 r s first (ap (λ (ys : List Row). slice_get ys 1) (sym e) ∙ ap (λ (ys : List Row). slice_get ys 0)
+            (sym is))
 
-        by_test : (b : Bool) → (r.slot == prefix) ≡ b → StartsAt g words prefix r.slot → (page_here ≡ (if b then r.page else 0)) × (next_here ≡ first_slot (if b then rs else r ∷ rs))
+        by_test : (b : Bool) → (r.slot == prefix) ≡ b → StartsAt g words prefix r.slot → (page_here ≡ (if b then r.page else 0)) ×
+            (next_here ≡ first_slot (if b then rs else r ∷ rs))
         by_test true t (starts_direct some here) = (page_of here, ap (λ (s : ℕ). slice_index words (slot_word g s 5)) (sym here) ∙ after rs refl)
         by_test true t (starts_chained page here) =
             let own_slot : r.slot ≡ prefix = grind (arith, nat_tests) in
@@ -385,18 +472,23 @@ module _ (g : Geometry) (words : List ℕ) (prefix : ℕ) (chain : ℕ → List 
       where
         reads : (q : ℕ) → q < prefix + 1 → Reads (ChainSays g q (chains q)) words
         reads q lt = elim (cases_eq q prefix) [
-          | inl e ↦ subst (λ (rs : List Row). Reads (ChainSays g q rs) words) (sym (put_here chain prefix own q e)) (subst (λ (p : ℕ). Reads (ChainSays g p own) words) (sym e) own_says)
-          | inr ne ↦ subst (λ (rs : List Row). Reads (ChainSays g q rs) words) (sym (put_other chain prefix own q ne)) (front.read_before q (omega (arith, lt, ne)))
+          | inl e ↦ subst (λ (rs : List Row). Reads (ChainSays g q rs) words) (sym (put_here chain prefix own q e))
+              (subst (λ (p : ℕ). Reads (ChainSays g p own) words) (sym e) own_says)
+          | inr ne ↦ subst (λ (rs : List Row). Reads (ChainSays g q rs) words) (sym (put_other chain prefix own q ne))
+              (front.read_before q (omega (arith, lt, ne)))
         ]
 
         valid : (q k : ℕ) (row : Row) → q < prefix + 1 → slice_get (chains q) k ≡ Some row → IsRow g q k row
         valid q k row lt got = elim (cases_eq q prefix) [
-          | inl e ↦ subst (λ (p : ℕ). IsRow g p k row) (sym e) (front.own k row (ap (λ (rs : List Row). slice_get rs k) (sym (put_here chain prefix own q e)) ∙ got)).0
-          | inr ne ↦ front.before q k row (omega (arith, lt, ne)) (ap (λ (rs : List Row). slice_get rs k) (sym (put_other chain prefix own q ne)) ∙ got)
+          | inl e ↦ subst (λ (p : ℕ). IsRow g p k row) (sym e)
+              (front.own k row (ap (λ (rs : List Row). slice_get rs k) (sym (put_here chain prefix own q e)) ∙ got)).0
+          | inr ne ↦ front.before q k row (omega (arith, lt, ne)) (ap (λ (rs : List Row). slice_get rs k) (sym (put_other chain prefix own q ne)) ∙
+              got)
         ]
 
 -- a chain begins without a row
-pub starts_none : (g : Geometry) (words : List ℕ) (prefix : ℕ) (f : Found) → prefix < directs g → (found : IsFoundTo g words prefix f) → (f' : Found) → rows_of f' ≡ rows_of f → f'.slots ≡ f.slots → f'.pages ≡ f.pages → f'.prints.keys ≡ []
+pub starts_none : (g : Geometry) (words : List ℕ) (prefix : ℕ) (f : Found) → prefix < directs g → (found : IsFoundTo g words prefix f) → (f' : Found)
+    → rows_of f' ≡ rows_of f → f'.slots ≡ f.slots → f'.pages ≡ f.pages → f'.prints.keys ≡ []
     → IsAt g words prefix found.rows.chain [] f'
 starts_none g words prefix f direct found f' same_rows same_slots same_pages no_prints = record {
   reached = record {
@@ -414,10 +506,13 @@ starts_none g words prefix f direct found f' same_rows same_slots same_pages no_
   marked = record {
     all_slots = ap (λ (s : FreePages). s.pages) same_slots ∙ found.marked.all_slots;
     all_pages = ap (λ (s : FreePages). s.pages) same_pages ∙ found.marked.all_pages;
-    slot_marked = λ row there far. subst (λ (s : FreePages). Contains s.free (row.slot - directs g)) (sym same_slots) (found.marked.slot_marked row (old row there) far);
-    marked_slot = λ k has. let met = found.marked.marked_slot k (subst (λ (s : FreePages). Contains s.free k) same_slots has) in (met.0, new met.0 met.1, met.2);
+    slot_marked = λ row there far. subst (λ (s : FreePages). Contains s.free (row.slot - directs g)) (sym same_slots)
+        (found.marked.slot_marked row (old row there) far);
+    marked_slot = λ k has. let met = found.marked.marked_slot k (subst (λ (s : FreePages). Contains s.free k) same_slots has) in
+        (met.0, new met.0 met.1, met.2);
     page_marked = λ row there. subst (λ (s : FreePages). Contains s.free row.page) (sym same_pages) (found.marked.page_marked row (old row there));
-    marked_page = λ p has. let met = found.marked.marked_page p (subst (λ (s : FreePages). Contains s.free p) same_pages has) in (met.0, new met.0 met.1, met.2);
+    marked_page = λ p has. let met = found.marked.marked_page p (subst (λ (s : FreePages). Contains s.free p) same_pages has) in
+        (met.0, new met.0 met.1, met.2);
   };
   print_known = λ row there. absurd (omega (arith, there.1));
   known_print = λ print has. absurd (false≢true (sym (ap (λ (ks : List (List ℕ)). list_any (is_at (slice_cmp nat_cmp print)) ks) no_prints) ∙ has));
@@ -430,7 +525,8 @@ starts_none g words prefix f direct found f' same_rows same_slots same_pages no_
     new row there = subst (λ (rs : List Row). Contains rs row) (sym same_rows) there
 
 -- no rows are found at first
-pub found_none : (g : Geometry) (words : List ℕ) (f : Found) → rows_of f ≡ [] → f.slots ≡ record { pages = g.pages; free = [] } → f.pages ≡ record { pages = g.pages; free = [] } → IsFoundTo g words 0 f
+pub found_none : (g : Geometry) (words : List ℕ) (f : Found) → rows_of f ≡ [] → f.slots ≡ record { pages = g.pages; free = [] }
+    → f.pages ≡ record { pages = g.pages; free = [] } → IsFoundTo g words 0 f
 found_none g words f no_rows no_slots no_pages = record {
   rows = record {
     chain = λ q. [];

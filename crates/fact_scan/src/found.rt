@@ -9,17 +9,13 @@ ghost use Rattle.fact_scan.specs.Found.{IsMarked, IsFoundTo, IsNew, Adds, TakesR
 
 use crate::row::{Row, direct_of};
 use crate::scan::ScanFault;
-use fact_slot::slot::{NEXT, PAGE};
 use fact_slot::{load_field, peek_slot};
 use fingerprint::FactSlot;
 use page_alloc::FreeSet;
 use pm_device::Pm;
-use pm_layout::Geometry;
+use pm_layout::{FACT_NEXT, FACT_PAGE, FACT_PRINT, Geometry};
 use std::alloc::{AllocError, Global};
 use std::collections::BTreeSet;
-
-// The word of a slot that holds the last four bytes of a fingerprint.
-const THIRD: u64 = 3;
 
 /// The rows that were read so far, prefix by prefix.
 #[derive(Drop)]
@@ -36,7 +32,8 @@ pub(crate) struct Found {
 // Whether what a slot holds, with this third word of its fingerprint, is a row of the data area and of this prefix.
 fn is_row(g: &Geometry, prefix: u64, third: u64, held: &FactSlot) -> bool
     requires { IsAccepted g.now }
-    ensures { IsTrue result ↔ (InData g.now held.now.page × (third < 2 ^ 32) × (prefix_of g.now held.now.print ≡ prefix)) }
+    ensures { IsTrue result ↔
+        (InData g.now held.now.page × (third < 2 ^ 32) × (prefix_of g.now held.now.print ≡ prefix)) }
 {
     g.first_data() <= held.page
         && held.page < g.pages
@@ -90,9 +87,11 @@ impl Found {
         requires set { self.old.slots.pages ≡ g.now.pages }
         requires slot { slot < slots g.now }
         requires new { directs g.now ≤ slot → ¬ Contains self.old.slots.free (slot - directs g.now) }
-        ensures marks { directs g.now ≤ slot → GivesBack (slot - directs g.now) self.old.slots self.new.slots }
+        ensures marks { directs g.now ≤ slot → GivesBack (slot - directs g.now) self.old.slots
+            self.new.slots }
         ensures direct { slot < directs g.now → self.new.slots ≡ self.old.slots }
-        ensures fewer { directs g.now ≤ slot → g.now.pages - length self.new.slots.free < g.now.pages - length self.old.slots.free }
+        ensures fewer { directs g.now ≤ slot → g.now.pages - length self.new.slots.free <
+            g.now.pages - length self.old.slots.free }
         ensures rows { self.new.rows ≡ self.old.rows }
         ensures pages { self.new.pages ≡ self.old.pages }
         ensures prints { self.new.prints ≡ self.old.prints }
@@ -131,12 +130,15 @@ impl Found {
         requires size { length (D.state device.now).now ≡ 512 * g.now.pages }
         requires marked { IsMarked g.now self.old }
         requires slot { slot < slots g.now }
-        ensures taken { OnOk result (TakesRow g.now (D.state device.now).now prefix slot self.old self.new) }
-        ensures next { IfOk result (λ next. next ≡ slice_index (D.state device.now).now (slot_word g.now slot 5)) }
-        ensures refused { IfErr result (λ fault. IsRefusal g.now (D.state device.now).now prefix slot self.old fault) }
+        ensures taken { OnOk result (TakesRow g.now (D.state device.now).now prefix slot self.old
+            self.new) }
+        ensures next { IfOk result (λ next. next ≡ slice_index (D.state device.now).now
+            (slot_word g.now slot 5)) }
+        ensures refused { IfErr result (λ fault. IsRefusal g.now (D.state device.now).now prefix
+            slot self.old fault) }
     {
         let held = peek_slot(device, g, slot);
-        let third = load_field(device, g, slot, THIRD);
+        let third = load_field(device, g, slot, FACT_PRINT + 2);
         if !is_row(g, prefix, third, &held) || !self.is_new(g, slot, &held) {
             return Err(ScanFault::BadTable { slot });
         }
@@ -157,12 +159,13 @@ impl Found {
         requires size { length (D.state device.now).now ≡ 512 * g.now.pages }
         requires prefix { prefix < directs g.now }
         requires found { IsFoundTo g.now (D.state device.now).now prefix self.old }
-        ensures begun { IfOk result (λ next. IsOnChain g.now (D.state device.now).now prefix self.new prefix next) }
+        ensures begun { IfOk result (λ next. IsOnChain g.now (D.state device.now).now prefix
+            self.new prefix next) }
         ensures fault { IfErr result (λ fault. IsFaultOf g.now (D.state device.now).now fault) }
     {
         self.prints.clear();
-        if load_field(device, g, prefix, PAGE) == 0 {
-            return Ok(load_field(device, g, prefix, NEXT));
+        if load_field(device, g, prefix, FACT_PAGE) == 0 {
+            return Ok(load_field(device, g, prefix, FACT_NEXT));
         }
         self.take_row(device, g, prefix, prefix)
     }

@@ -24,7 +24,12 @@ impl Row {
 
     /// The row that a slot holds.
     pub fn of_slot(slot: u64, held: &FactSlot) -> Row
-        ensures { result ≡ record { slot = slot; print = held.now.print; page = held.now.page; count = held.now.count } }
+        ensures { result ≡ record {
+          slot = slot;
+          print = held.now.print;
+          page = held.now.page;
+          count = held.now.count;
+        } }
     {
         Row {
             slot,

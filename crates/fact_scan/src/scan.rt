@@ -40,7 +40,8 @@ pub enum ScanFault {
 pub fn scan_rows<D: Pm>(alloc: Global, device: &D, g: &Geometry) -> Result<Vec<Row>, ScanFault>
     requires accepted { IsAccepted g.now }
     requires size { length (D.state device.now).now ≡ 512 * g.now.pages }
-    ensures rows { IfOk result (λ rows. HasRows g.now (D.state device.now).now (directs g.now) (map as_row rows.items)) }
+    ensures rows { IfOk result (λ rows. HasRows g.now (D.state device.now).now (directs g.now)
+        (map as_row rows.items)) }
     ensures fault { IfErr result (λ fault. IsFaultOf g.now (D.state device.now).now fault) }
 {
     let mut found = match Found::none(alloc, g.pages) {

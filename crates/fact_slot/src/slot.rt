@@ -1,7 +1,7 @@
 // The words of one slot.
 ghost use Rattle.std.specs.Prelude.{◌≡◌, ◌+◌, ◌*◌, ◌<◌, ◌≤◌, ℕ, length, slice_index, OnOk, IsErr};
 ghost use Rattle.pm_device.specs.State.{Rose};
-ghost use Rattle.pm_device.specs.Settled.{IsSettled, LeavesOnly, StoresOnly, KeepsFlushed, Others};
+ghost use Rattle.pm_device.specs.Settled.{IsSettled, LeavesOnly, StoresOnly, KeepsFlushed, Others, FlushesAll, SettlesAll};
 ghost use Rattle.pm_device.specs.Commit.{IsDone, LeavesOneWord};
 ghost use Rattle.pm_device.specs.Lines.{StoresRun};
 ghost use Rattle.pm_layout.specs.Geometry.{IsAccepted, slot_word, slots};
@@ -10,23 +10,18 @@ ghost use Rattle.fact_slot.specs.Words.{words_of};
 
 use crate::steps::Steps;
 use fingerprint::FactSlot;
-use pm_device::set::set_word;
+use pm_device::line::LINE_UNITS;
+use pm_device::set::{SET_UNITS, set_word};
 use pm_device::{Failed, Pm};
 use pm_layout::Geometry;
 use std::marker::Brand;
 use std::sync::ledger::{Blank, Ledger};
 
-/// The place of a slot's page number among its words.
-pub const PAGE: u64 = 0;
+/// The units of the device that `store_fields` uses at most: those of a line.
+pub const STORE_UNITS: u64 = LINE_UNITS;
 
-/// The place of the next slot's number among a slot's words.
-pub const NEXT: u64 = 5;
-
-/// The units of the device that `store_fields` uses.
-pub const STORE_UNITS: u64 = 9;
-
-/// The units of the device that `set_field` uses.
-pub const SET_UNITS: u64 = 3;
+/// The units of the device that `set_field` uses: those of one word that is set.
+pub const FIELD_UNITS: u64 = SET_UNITS;
 
 /// One word of a slot: `field` is its place among the slot's eight words.
 pub fn load_field<D: Pm>(device: &D, g: &Geometry, slot: u64, field: u64) -> u64
@@ -112,7 +107,8 @@ pub fn peek_slot<D: Pm>(device: &D, g: &Geometry, slot: u64) -> FactSlot
     read_over::<D, Brand>(device, g, slot, Blank::new(1))
 }
 
-/// Stores words of a slot from `field` on, and flushes the slot's line. They aren't fenced.
+/// Stores words of a slot from `field` on, and flushes the slot's line. They aren't fenced. It uses at most
+/// `STORE_UNITS`.
 pub fn store_fields<D: Pm>(
     device: &mut D,
     g: &Geometry,
@@ -127,7 +123,9 @@ pub fn store_fields<D: Pm>(
     requires some { 1 ≤ length words.now }
     requires in_slot { field + length words.now ≤ 8 }
     requires room { STORE_UNITS ≤ (D.state device.old).spare }
-    ensures stores { StoresRun who (slot_word g.now slot field) words.now (D.state device.old) (D.state device.new) }
+    ensures stores { StoresRun who (slot_word g.now slot field) words.now (D.state device.old)
+        (D.state device.new) }
+    ensures flushes { FlushesAll who (D.state device.old) (D.state device.new) }
     ensures spare { (D.state device.old).spare ≤ (D.state device.new).spare + STORE_UNITS }
     ensures faults { (D.state device.old).faults ≤ (D.state device.new).faults }
 {
@@ -136,12 +134,13 @@ pub fn store_fields<D: Pm>(
     device.flush(who, at / 8, 1);
 }
 
-/// Makes one word of a slot new: stores it, flushes its line and fences.
+/// Makes one word of a slot new: stores it, flushes its line and fences, and so with it all that this actor flushed
+/// before. It uses `FIELD_UNITS`.
 ///
-/// Where the word is settled before, at each moment on the way a stop leaves it old or new.
+/// Where the word is settled before, at each moment on the way a crash leaves it old or new.
 ///
 /// # Errors
-/// `Failed` where the fence failed. Then the word is stored, and a stop may leave either.
+/// `Failed` where the fence failed. Then the word is stored, and a crash may leave either.
 pub fn set_field<D: Pm>(
     device: &mut D,
     g: &Geometry,
@@ -154,12 +153,18 @@ pub fn set_field<D: Pm>(
     requires size { length (D.state device.old).now ≡ 512 * g.now.pages }
     requires slot { slot < slots g.now }
     requires field { field < 8 }
-    requires room { SET_UNITS ≤ (D.state device.old).spare }
-    ensures any_moment { IsSettled (D.state device.old) (slot_word g.now slot field) → LeavesOnly (D.state device.old) (D.state device.new) (LeavesOneWord (slot_word g.now slot field) value (D.state device.old)) }
-    ensures done { OnOk result (IsDone who (slot_word g.now slot field) value (D.state device.old) (D.state device.new)) }
-    ensures only { StoresOnly (λ a. a ≡ slot_word g.now slot field) (D.state device.old) (D.state device.new) }
-    ensures others { KeepsFlushed (Others who) (λ a. a ≡ slot_word g.now slot field) (D.state device.old) (D.state device.new) }
-    ensures spare { (D.state device.old).spare ≤ (D.state device.new).spare + SET_UNITS }
+    requires room { FIELD_UNITS ≤ (D.state device.old).spare }
+    ensures any_moment { IsSettled (D.state device.old) (slot_word g.now slot field)
+        → LeavesOnly (D.state device.old) (D.state device.new)
+        (LeavesOneWord (slot_word g.now slot field) value (D.state device.old)) }
+    ensures done { OnOk result (IsDone who (slot_word g.now slot field) value (D.state device.old)
+        (D.state device.new)) }
+    ensures settles { OnOk result (SettlesAll who (D.state device.old) (D.state device.new)) }
+    ensures only { StoresOnly (λ a. a ≡ slot_word g.now slot field) (D.state device.old)
+        (D.state device.new) }
+    ensures others { KeepsFlushed (Others who) (λ a. a ≡ slot_word g.now slot field)
+        (D.state device.old) (D.state device.new) }
+    ensures spare { (D.state device.old).spare ≤ (D.state device.new).spare + FIELD_UNITS }
     ensures faults { (D.state device.old).faults ≤ (D.state device.new).faults }
     ensures failed { IsErr result → Rose (D.state device.old).faults (D.state device.new).faults }
 {

@@ -1,5 +1,32 @@
 -- What a chain of rows says of its words, and how it is walked.
-use Rattle.std.proofs.Common.{◌≡◌, ◌≢◌, ◌⊎◌, inl, inr, ℕ, zero, suc, ◌-◌, ◌<◌, ◌≤◌, Bool, true, false, List, [], ◌∷◌, length, map, get_or, refl, sym, ◌∙◌, ap, subst, arith}
+use Rattle.std.proofs.Common.{
+  ◌≡◌,
+  ◌≢◌,
+  ◌⊎◌,
+  inl,
+  inr,
+  ℕ,
+  zero,
+  suc,
+  ◌-◌,
+  ◌<◌,
+  ◌≤◌,
+  Bool,
+  true,
+  false,
+  List,
+  [],
+  ◌∷◌,
+  length,
+  map,
+  get_or,
+  refl,
+  sym,
+  ◌∙◌,
+  ap,
+  subst,
+  arith,
+}
 use Rattle.std.specs.Prelude.{slice_get, Some, if◌then◌else◌, ◌==◌, nat_eq}
 use Rattle.std.proofs.lemmas.Bool.Decides.{nat_tests}
 use Rattle.std.proofs.lemmas.List.{length-map, get_or-map}
@@ -18,7 +45,8 @@ use Rattle.fact_table.specs.Chained.{IsIndirect, IsChained, slot_from, IsWalked,
 use Rattle.fact_scan.proofs.Listed.{place_of, get_at, get_or_got}
 
 -- the words of row k, and the way to the next one
-pub says_field : (g : Geometry) (rows : List Row) (k : ℕ) (row : Row) (j : ℕ) → j < 5 → slice_get rows k ≡ Some row → RowsSay g rows (slot_word g row.slot j) (row_word row j)
+pub says_field : (g : Geometry) (rows : List Row) (k : ℕ) (row : Row) (j : ℕ) → j < 5 → slice_get rows k ≡ Some row
+    → RowsSay g rows (slot_word g row.slot j) (row_word row j)
 says_field g [] k row j lt e = cc
 says_field g (r ∷ rows) zero row j lt e =
     let same : r ≡ row = cc in subst (λ (x : Row). RowsSay g (r ∷ rows) (slot_word g x.slot j) (row_word x j)) same (at_field j lt refl refl)
@@ -28,10 +56,12 @@ pub first_from : (rows : List Row) → slot_from rows 0 ≡ first_slot rows
 first_from [] = refl
 first_from (r ∷ rows) = refl
 
-pub says_next : (g : Geometry) (rows : List Row) (k : ℕ) (row : Row) → slice_get rows k ≡ Some row → RowsSay g rows (slot_word g row.slot 5) (slot_from rows (suc k))
+pub says_next : (g : Geometry) (rows : List Row) (k : ℕ) (row : Row) → slice_get rows k ≡ Some row → RowsSay g rows (slot_word g row.slot 5)
+    (slot_from rows (suc k))
 says_next g [] k row e = cc
 says_next g (r ∷ rows) zero row e =
-    let same : r ≡ row = cc in subst (λ (x : Row). RowsSay g (r ∷ rows) (slot_word g x.slot 5) (slot_from rows 0)) same (at_next refl (first_from rows))
+    let same : r ≡ row = cc in subst (λ (x : Row). RowsSay g (r ∷ rows) (slot_word g x.slot 5) (slot_from rows 0)) same
+    (at_next refl (first_from rows))
 says_next g (r ∷ rows) (suc k) row e = at_later (says_next g rows k row e)
 
 -- a slot that isn't 0 is that of a row
@@ -89,9 +119,11 @@ module _ (g : Geometry) (words : List ℕ) (rows : List Row) (is : IsChained g w
       let few = length-le_from_distinct_below places g.pages (IsDistinct-from_apart nat_eq places differ) fits in
       omega (arith, long, few)
     where
-      place : (k : ℕ) (d : ℕ) (row : Row) → slice_get rows k ≡ Some row → get_or (map (λ (row : Row). row.slot - directs g) rows) k d ≡ row.slot - directs g
+      place : (k : ℕ) (d : ℕ) (row : Row) → slice_get rows k ≡ Some row → get_or (map (λ (row : Row). row.slot - directs g) rows) k d ≡ row.slot
+          - directs g
       place k d row got =
-          get_or-map (λ (row : Row). row.slot - directs g) rows k row d (slice_get_within rows k row got) ∙ ap (λ (r : Row). r.slot - directs g) (get_or_got rows k row row got)
+          get_or-map (λ (row : Row). row.slot - directs g) rows k row d (slice_get_within rows k row got) ∙ ap (λ (r : Row). r.slot - directs g)
+          (get_or_got rows k row row got)
 
       row_at : (k : ℕ) → k < length (map (λ (row : Row). row.slot - directs g) rows) → (row : Row) × (slice_get rows k ≡ Some row)
       row_at k lt = some_at rows k (omega (arith, lt, length-map rows (λ (row : Row). row.slot - directs g)))
@@ -143,5 +175,6 @@ module _ (g : Geometry) (p : ℕ) (direct : p < directs g) (words : List ℕ) wh
       }
         where
           other : (k : ℕ) (r : Row) → slice_get (row ∷ rows) k ≡ Some r → r.slot ≡ p → k ≡ 0 → ⊥
-          other zero r got same zero_place = let here : row ≡ r = cc in let slot : row.slot ≡ r.slot = ap (λ (x : Row). x.slot) here in grind (arith, nat_tests)
+          other zero r got same zero_place = let here : row ≡ r = cc in let slot : row.slot ≡ r.slot = ap (λ (x : Row). x.slot) here in
+              grind (arith, nat_tests)
           other (suc k) r got same zero_place = omega arith

@@ -1,5 +1,33 @@
 -- What is kept in ordinary memory while a table is loaded.
-use Rattle.std.proofs.Common.{◌≡◌, ◌≢◌, inl, inr, ℕ, ◌+◌, ◌-◌, ◌^◌, ◌<◌, ◌≤◌, Bool, true, false, List, [], ◌∷◌, ◌++◌, length, map, take, get_or, refl, sym, ◌∙◌, ap, subst, arith}
+use Rattle.std.proofs.Common.{
+  ◌≡◌,
+  ◌≢◌,
+  inl,
+  inr,
+  ℕ,
+  ◌+◌,
+  ◌-◌,
+  ◌^◌,
+  ◌<◌,
+  ◌≤◌,
+  Bool,
+  true,
+  false,
+  List,
+  [],
+  ◌∷◌,
+  ◌++◌,
+  length,
+  map,
+  take,
+  get_or,
+  refl,
+  sym,
+  ◌∙◌,
+  ap,
+  subst,
+  arith,
+}
 use Rattle.std.specs.Prelude.{slice_index, slice_index_or, slice_set, Contains, Result, Ok, Err, IfOk, ◌↔◌}
 use Rattle.std.proofs.lemmas.Bool.{cases_eq, false≢true}
 use Rattle.std.proofs.lemmas.List.{get_or-set_same, get_or-set_other, length-set, take_more, map-append}
@@ -57,7 +85,8 @@ module _ (used : List Bool) (n : ℕ) (set : FreePages) (has : HasUnmarked used 
 -- the pointer of one row more
 module _ (g : Geometry) (rs : List Row) (wanted : List ℕ) (is : ArePointers g rs wanted) (row : Row) (small : row.page < g.pages) where
   at_page : (page : ℕ) → page ≡ row.page → slice_index (slice_set wanted row.page (row.slot + 1)) page ≡ row.slot + 1
-  at_page page e = let lt : row.page < length wanted = omega (arith, small, is.all) in ap (slice_index (slice_set wanted row.page (row.slot + 1))) e ∙ get_or-set_same wanted row.page (row.slot + 1) 0 lt
+  at_page page e = let lt : row.page < length wanted = omega (arith, small, is.all) in ap (slice_index (slice_set wanted row.page (row.slot + 1)))
+      e ∙ get_or-set_same wanted row.page (row.slot + 1) 0 lt
 
   elsewhere : (page : ℕ) → page ≢ row.page → slice_index (slice_set wanted row.page (row.slot + 1)) page ≡ slice_index wanted page
   elsewhere page ne = get_or-set_other wanted row.page page (row.slot + 1) 0 ne
@@ -74,7 +103,12 @@ module _ (g : Geometry) (rs : List Row) (wanted : List ℕ) (is : ArePointers g 
     ];
     leads = λ page some. elim (cases_eq page row.page) [
       | inl e ↦ (row, in-push_new rs row, sym e, at_page page e)
-      | inr ne ↦ let old = is.leads page (λ none. some (elsewhere page ne ∙ none)) in (old.0, in-push_old rs row old.0 old.1, old.2, elsewhere page ne ∙ old.3)
+      | inr ne ↦ let old = is.leads page (λ none. some (elsewhere page ne ∙ none)) in (
+        old.0,
+        in-push_old rs row old.0 old.1,
+        old.2,
+        elsewhere page ne ∙ old.3,
+      )
     ];
   }
 
@@ -95,7 +129,8 @@ module _ (g : Geometry) (rs : List Row) (used : List Bool) (is : AreUsed g rs us
     place = row.slot - directs g
 
     at_place : (k : ℕ) → k ≡ place → slice_index_or (slice_set used place true) k false ≡ true
-    at_place k e = let lt : place < length used = omega (arith, far, small, is.all) in ap (λ (j : ℕ). slice_index_or (slice_set used place true) j false) e ∙ get_or-set_same used place true false lt
+    at_place k e = let lt : place < length used = omega (arith, far, small, is.all) in
+        ap (λ (j : ℕ). slice_index_or (slice_set used place true) j false) e ∙ get_or-set_same used place true false lt
 
     apart : (k : ℕ) → k ≢ place → slice_index_or (slice_set used place true) k false ≡ slice_index_or used k false
     apart k ne = get_or-set_other used place k true false ne
@@ -117,7 +152,8 @@ module _ (g : Geometry) (rs : List Row) (used : List Bool) (is : AreUsed g rs us
     }
 
 -- one row more is seen
-pub rows-more : (found : List FoundRow) (k : ℕ) (default : FoundRow) → k < length found → map as_row (take (k + 1) found) ≡ map as_row (take k found) ++ as_row (get_or found k default) ∷ []
+pub rows-more : (found : List FoundRow) (k : ℕ) (default : FoundRow) → k < length found → map as_row (take (k + 1) found) ≡ map as_row (take k found)
+    ++ as_row (get_or found k default) ∷ []
 rows-more found k default lt = ap (map as_row) (take_more found k default lt) ∙ map-append as_row (take k found) (get_or found k default ∷ [])
 
 -- there are few slots
@@ -128,13 +164,24 @@ slots-few g accepted =
 
 -- no pointers and no slots, where there are no rows
 pub pointers_none : (g : Geometry) (wanted : List ℕ) → length wanted ≡ g.pages → ((k : ℕ) → slice_index wanted k ≡ 0) → ArePointers g [] wanted
-pointers_none g wanted all none = record { all = all; some = λ row there. absurd (omega (arith, there.1)); leads = λ page some. absurd (some (none page)) }
+pointers_none g wanted all none = record {
+  all = all;
+  some = λ row there. absurd (omega (arith, there.1));
+  leads = λ page some. absurd
+      (some (none page));
+}
 
 pub used_none : (g : Geometry) (used : List Bool) → length used ≡ g.pages → ((k : ℕ) → slice_index_or used k false ≡ false) → AreUsed g [] used
-used_none g used all none = record { all = all; some = λ row there far. absurd (omega (arith, there.1)); taken = λ k marked. absurd (false≢true (sym (none k) ∙ marked)) }
+used_none g used all none = record {
+  all = all;
+  some = λ row there far. absurd (omega (arith, there.1));
+  taken = λ k marked. absurd
+      (false≢true (sym (none k) ∙ marked));
+}
 
 -- the numbers that aren't marked are the slots without a row
-pub unused_from : (g : Geometry) (rs : List Row) (used : List Bool) (set : FreePages) → AreUsed g rs used → HasUnmarked used (length used) set → AreUnused g rs set
+pub unused_from : (g : Geometry) (rs : List Row) (used : List Bool) (set : FreePages) → AreUsed g rs used → HasUnmarked used (length used) set
+    → AreUnused g rs set
 unused_from g rs used set is has = record {
   all = has.all ∙ is.all;
   free = λ k in_set row there at.
@@ -143,11 +190,14 @@ unused_from g rs used set is has = record {
   taken = λ k lt not_in. by_mark k lt not_in (slice_index_or used k false) refl;
 }
   where
-    by_mark : (k : ℕ) → k < g.pages → ¬ Contains set.free k → (b : Bool) → slice_index_or used k false ≡ b → (row : Row) × Contains rs row × (row.slot ≡ directs g + k)
+    by_mark : (k : ℕ) → k < g.pages → ¬ Contains set.free k → (b : Bool) → slice_index_or used k false ≡ b
+        → (row : Row) × Contains rs row × (row.slot ≡ directs g + k)
     by_mark k lt not_in true e = is.taken k e
     by_mark k lt not_in false e = absurd (not_in (has.there k (omega (arith, lt, is.all)) e))
 
-pub unused_ok : {E : Type 0} (g : Geometry) (rs : List Row) (used : List Bool) → AreUsed g rs used → (r : Result FreePages E) → IfOk r (λ set. set.pages ≡ length used)
+pub unused_ok : {E : Type 0} (g : Geometry) (rs : List Row) (used : List Bool) → AreUsed g rs used → (r : Result FreePages E)
+    → IfOk r (λ set. set.pages ≡ length used)
     → IfOk r (λ set. (k : ℕ) → Contains set.free k ↔ ((k < length used) × (slice_index_or used k false ≡ false))) → IfOk r (λ set. AreUnused g rs set)
-unused_ok g rs used is (Ok set) all free = unused_from g rs used set is (record { all = all; unmarked = λ k in_set. (free k).0 in_set; there = λ k lt is_free. (free k).1 (lt, is_free) })
+unused_ok g rs used is (Ok set) all free = unused_from g rs used set is
+    (record { all = all; unmarked = λ k in_set. (free k).0 in_set; there = λ k lt is_free. (free k).1 (lt, is_free) })
 unused_ok g rs used is (Err e) all free = tt

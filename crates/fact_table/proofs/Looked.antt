@@ -21,7 +21,8 @@ pub record IsLookedUp (words : List ℕ) (t : Table) (print : List ℕ) (p : ℕ
   pub read : IsReadFrom (words_of inside words p) held
   pub fits : IsSlot held
 
-module _ (words : List ℕ) (t : Table) (print : List ℕ) (p : ℕ) (inside : Geometry) (held : FactSlot) (look : IsLookedUp words t print p inside held) (d : Disk) (is : IsTable d words t) where
+module _ (words : List ℕ) (t : Table) (print : List ℕ) (p : ℕ) (inside : Geometry) (held : FactSlot) (look : IsLookedUp words t print p inside held)
+    (d : Disk) (is : IsTable d words t) where
   prefix_here : p ≡ prefix_of t.geometry print
   prefix_here = look.prefix_is ∙ ap (λ (g : Geometry). prefix_of g print) look.same
 
@@ -32,7 +33,8 @@ module _ (words : List ℕ) (t : Table) (print : List ℕ) (p : ℕ) (inside : G
   read_here = subst (λ (g : Geometry). IsReadFrom (words_of g words p) held) look.same look.read
 
   pub look_chain : IsChainFrom inside words held.next (chained p (d.chain p))
-  look_chain = subst (λ (g : Geometry). IsChainFrom g words held.next (chained p (d.chain p))) (sym look.same) (chain_from d words t is print p prefix_here direct_here held read_here look.fits)
+  look_chain = subst (λ (g : Geometry). IsChainFrom g words held.next (chained p (d.chain p))) (sym look.same)
+      (chain_from d words t is print p prefix_here direct_here held read_here look.fits)
 
   pub look_direct : held.page ≢ 0 → held.print ≡ print → IsFound (rows d) print (as_row (answer p held))
   look_direct = found_direct d words t is print p prefix_here direct_here held read_here look.fits

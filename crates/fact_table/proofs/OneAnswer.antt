@@ -25,7 +25,8 @@ module _ (g : Geometry) (words : List ℕ) where
     are = subst (λ (k : Geometry). (q : ℕ) → q < directs k → AreRows k q (d.chain q)) read.geometry (λ q lt k row got. read.valid q k row lt got)
 
     reads : (q : ℕ) → q < directs g → Reads (ChainSays g q (d.chain q)) words
-    reads = subst (λ (k : Geometry). (q : ℕ) → q < directs k → Reads (ChainSays k q (d.chain q)) words) read.geometry (λ q lt a v says. read.chains a v (record { prefix = q; direct = lt; says = says }))
+    reads = subst (λ (k : Geometry). (q : ℕ) → q < directs k → Reads (ChainSays k q (d.chain q)) words) read.geometry
+        (λ q lt a v says. read.chains a v (record { prefix = q; direct = lt; says = says }))
 
     pointer_is : (page : ℕ) → page < g.pages → slice_index words (pointer_word g page) ≡ d.pointer page
     pointer_is = subst (λ (k : Geometry). (page : ℕ) → page < k.pages → slice_index words (pointer_word k page) ≡ d.pointer page) read.geometry
@@ -55,7 +56,8 @@ module _ (g : Geometry) (words : List ℕ) where
       same_rows : rows d ≡ rows e
       same_rows = rows-same d e same_geometry (λ prefix small.
           let direct : prefix < directs g = subst (λ (k : Geometry). prefix < directs k) rd.geometry small in
-          chain_one g prefix words (d.chain prefix) (e.chain prefix) direct (are d rd prefix direct) (are e re prefix direct) (reads d rd prefix direct) (reads e re prefix direct))
+          chain_one g prefix words (d.chain prefix) (e.chain prefix) direct (are d rd prefix direct) (are e re prefix direct)
+          (reads d rd prefix direct) (reads e re prefix direct))
 
       by_bad : IsBadPointer d page → IsBadPointer e page
       by_bad (inl past) = inl (omega (arith, past, same_pointer, same_slots))
@@ -80,7 +82,14 @@ one_fault g words (BadTable s) NoMemory some other x y = absurd (other refl)
 one_fault g words (BadPointer p) NoMemory some other x y = absurd (other refl)
 
 table_reads : (words : List ℕ) (t : Table) (d : Disk) → IsTable d words t → ReadsAs t.geometry words d
-table_reads words t d is = record { geometry = is.geometry; chains = λ a v told. is.says a v (inl told); pointers = λ a v told. is.says a v (inr told); valid = is.good.table; apart = is.good.apart }
+table_reads words t d is = record {
+  geometry = is.geometry;
+  chains = λ a v told. is.says a v (inl told);
+  pointers = λ a v told. is.says a v
+      (inr told);
+  valid = is.good.table;
+  apart = is.good.apart;
+}
 
 table_right : (words : List ℕ) (t : Table) (d : Disk) → IsTable d words t → (page : ℕ) → page < t.geometry.pages → IsBadPointer d page → ⊥
 table_right words t d is page lt (inl past) =
@@ -91,5 +100,6 @@ table_right words t d is page lt (inr row) =
 pub table_or_fault : HasTableOrFault
 table_or_fault words t (BadTable s) has some fault = no_table_fault t.geometry words has.disk (table_reads words t has.disk has.is) s fault
 table_or_fault words t (BadPointer p) has some fault =
-    table_right words t has.disk has.is p fault.least.below (bad_same t.geometry words fault.disk has.disk fault.read (table_reads words t has.disk has.is) p fault.least.below fault.least.has)
+    table_right words t has.disk has.is p fault.least.below (bad_same t.geometry words fault.disk has.disk fault.read
+    (table_reads words t has.disk has.is) p fault.least.below fault.least.has)
 table_or_fault words t NoMemory has some fault = some refl

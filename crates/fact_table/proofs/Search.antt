@@ -20,8 +20,14 @@ pub record IsSearched (g : Geometry) (words : List ℕ) (first : ℕ) (print : L
   pub steps_are : steps ≡ before + i
   pub walked : (rows : List Row) → IsChainFrom g words first rows → IsWalked rows print i slot
 
-pub walk_begins : (g : Geometry) (words : List ℕ) (first : ℕ) (print : List ℕ) (rows : List Row) → IsChainFrom g words first rows → IsWalked rows print 0 first
-walk_begins g words first print rows is = record { slot_is = is.first_is ∙ sym (first_from rows); within = omega arith; passed = λ k row lt got. absurd (omega arith) }
+pub walk_begins : (g : Geometry) (words : List ℕ) (first : ℕ) (print : List ℕ) (rows : List Row) → IsChainFrom g words first rows
+    → IsWalked rows print 0 first
+walk_begins g words first print rows is = record {
+  slot_is = is.first_is ∙ sym (first_from rows);
+  within = omega arith;
+  passed = λ k row lt got.
+      absurd (omega arith);
+}
 
 module _ (g : Geometry) (words : List ℕ) (first : ℕ) (print : List ℕ) (rows : List Row) (is : IsChainFrom g words first rows)
     (i slot : ℕ) (walked : IsWalked rows print i slot) where
@@ -62,7 +68,8 @@ module _ (g : Geometry) (words : List ℕ) (first : ℕ) (print : List ℕ) (row
 
       next_here : held.next ≡ slot_from rows (i + 1)
       next_here =
-          let next = subst (λ (s : ℕ). slice_index words (slot_word g s 5) ≡ slot_from rows (suc i)) at (is.chained.reads _ _ (says_next g rows i here.0 here.1)) in
+          let next = subst (λ (s : ℕ). slice_index words (slot_word g s 5) ≡ slot_from rows (suc i)) at
+          (is.chained.reads _ _ (says_next g rows i here.0 here.1)) in
           let place : suc i ≡ i + 1 = omega arith in
           read.next ∙ next ∙ ap (slot_from rows) place
 

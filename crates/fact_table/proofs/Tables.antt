@@ -1,5 +1,31 @@
 -- Where the rows of a table stand.
-use Rattle.std.proofs.Common.{◌≡◌, ◌≢◌, ◌⊎◌, inl, inr, ℕ, zero, suc, ◌+◌, ◌-◌, ◌<◌, ◌≤◌, Bool, true, false, List, [], ◌∷◌, length, refl, sym, ◌∙◌, ap, subst, arith}
+use Rattle.std.proofs.Common.{
+  ◌≡◌,
+  ◌≢◌,
+  ◌⊎◌,
+  inl,
+  inr,
+  ℕ,
+  zero,
+  suc,
+  ◌+◌,
+  ◌-◌,
+  ◌<◌,
+  ◌≤◌,
+  Bool,
+  true,
+  false,
+  List,
+  [],
+  ◌∷◌,
+  length,
+  refl,
+  sym,
+  ◌∙◌,
+  ap,
+  subst,
+  arith,
+}
 use Rattle.std.specs.Prelude.{slice_index, slice_get, Some, Contains, if◌then◌else◌, ◌==◌}
 use Rattle.std.proofs.lemmas.Bool.{cases_lt}
 use Rattle.std.proofs.lemmas.Bool.Decides.{nat_tests}
@@ -21,7 +47,8 @@ use Rattle.fact_table.proofs.Chains.{says_field, behind}
 use Rattle.fact_scan.proofs.Held.{HoldsRow, answer, held_page, held_print, answer_is}
 
 -- a row stands in the direct slot, or behind it
-pub head_or_behind : (p : ℕ) (rs : List Row) (k : ℕ) (row : Row) → slice_get rs k ≡ Some row → ((row.slot ≡ p) × (direct_page_word p rs ≡ row.page)) ⊎ Contains (chained p rs) row
+pub head_or_behind : (p : ℕ) (rs : List Row) (k : ℕ) (row : Row) → slice_get rs k ≡ Some row → ((row.slot ≡ p) × (direct_page_word p rs ≡ row.page))
+    ⊎ Contains (chained p rs) row
 head_or_behind p [] k row got = cc
 head_or_behind p (r ∷ rs) zero row got = by_test (r.slot == p) refl
   where
@@ -61,7 +88,8 @@ first_data-some g = omega arith
 
 module _ (d : Disk) (words : List ℕ) (t : Table) (is : IsTable d words t) where
   chain_reads : (p : ℕ) → p < directs t.geometry → Reads (ChainSays t.geometry p (d.chain p)) words
-  chain_reads p = subst (λ (g : Geometry). p < directs g → Reads (ChainSays g p (d.chain p)) words) is.geometry (λ lt a v says. is.says a v (inl (record { prefix = p; direct = lt; says = says })))
+  chain_reads p = subst (λ (g : Geometry). p < directs g → Reads (ChainSays g p (d.chain p)) words) is.geometry
+      (λ lt a v says. is.says a v (inl (record { prefix = p; direct = lt; says = says })))
 
   pub pointer_read : (page : ℕ) → page < t.geometry.pages → slice_index words (pointer_word t.geometry page) ≡ d.pointer page
   pointer_read page = subst (λ (g : Geometry). page < g.pages → slice_index words (pointer_word g page) ≡ d.pointer page) is.geometry
@@ -71,12 +99,14 @@ module _ (d : Disk) (words : List ℕ) (t : Table) (is : IsTable d words t) wher
   pointer_small page = subst (λ (g : Geometry). page < g.pages → d.pointer page ≤ slots g) is.geometry (is.good.pointers page)
 
   pub row_valid : (p : ℕ) → p < directs t.geometry → (k : ℕ) (row : Row) → slice_get (d.chain p) k ≡ Some row → IsRow t.geometry p k row
-  row_valid p = subst (λ (g : Geometry). p < directs g → (k : ℕ) (row : Row) → slice_get (d.chain p) k ≡ Some row → IsRow g p k row) is.geometry (λ lt k row got. is.good.table p k row lt got)
+  row_valid p = subst (λ (g : Geometry). p < directs g → (k : ℕ) (row : Row) → slice_get (d.chain p) k ≡ Some row → IsRow g p k row) is.geometry
+      (λ lt k row got. is.good.table p k row lt got)
 
   same_directs : directs d.geometry ≡ directs t.geometry
   same_directs = ap (λ (g : Geometry). directs g) is.geometry
 
-  got_in_rows : (p : ℕ) → p < directs t.geometry → (k : ℕ) (row : Row) → slice_get (d.chain p) k ≡ Some row → slice_get (rows d) (rows_before d.chain 0 p + k) ≡ Some row
+  got_in_rows : (p : ℕ) → p < directs t.geometry → (k : ℕ) (row : Row) → slice_get (d.chain p) k ≡ Some row
+      → slice_get (rows d) (rows_before d.chain 0 p + k) ≡ Some row
   unfolding rows
   got_in_rows p lt k row got =
       let here : 0 + p ≡ p = omega arith in
@@ -91,9 +121,11 @@ module _ (d : Disk) (words : List ℕ) (t : Table) (is : IsTable d words t) wher
       let found = chain_of d.chain 0 (directs d.geometry) row there in
       record { prefix = found.prefix; place = found.place; lt = omega (arith, found.lt, same_directs); got = found.got }
 
-  chain_apart : (p : ℕ) → p < directs t.geometry → (j k : ℕ) (r s : Row) → slice_get (d.chain p) j ≡ Some r → slice_get (d.chain p) k ≡ Some s → r.slot ≡ s.slot → j ≡ k
+  chain_apart : (p : ℕ) → p < directs t.geometry → (j k : ℕ) (r s : Row) → slice_get (d.chain p) j ≡ Some r → slice_get (d.chain p) k ≡ Some s
+      → r.slot ≡ s.slot → j ≡ k
   chain_apart p lt j k r s is_r is_s same =
-      let both = is.good.apart.slot (rows_before d.chain 0 p + j) (rows_before d.chain 0 p + k) r s (got_in_rows p lt j r is_r) (got_in_rows p lt k s is_s) same in omega (arith, both)
+      let both = is.good.apart.slot (rows_before d.chain 0 p + j) (rows_before d.chain 0 p + k) r s (got_in_rows p lt j r is_r)
+      (got_in_rows p lt k s is_s) same in omega (arith, both)
 
   pub chain_behind : (p : ℕ) → p < directs t.geometry → IsChained t.geometry words (chained p (d.chain p))
   chain_behind p lt = behind t.geometry p lt words (d.chain p) (chain_reads p lt) (row_valid p lt) (chain_apart p lt)
@@ -163,8 +195,10 @@ module _ (d : Disk) (words : List ℕ) (t : Table) (is : IsTable d words t) wher
       subst (HasNoneAt d) place (is.free (slot - directs t.geometry) unused.1)
 
   -- a page's row stands where its pointer leads
-  pub leads_to : (page : ℕ) → page < t.geometry.pages → (row : Row) → Contains (rows d) row → row.page ≡ page → slice_index words (pointer_word t.geometry page) ≡ row.slot + 1
-  leads_to page lt row there same = pointer_read page lt ∙ ap d.pointer (sym same) ∙ All-contains (λ (r : Row). d.pointer r.page ≡ r.slot + 1) (rows d) row is.good.leads there
+  pub leads_to : (page : ℕ) → page < t.geometry.pages → (row : Row) → Contains (rows d) row → row.page ≡ page
+      → slice_index words (pointer_word t.geometry page) ≡ row.slot + 1
+  leads_to page lt row there same = pointer_read page lt ∙ ap d.pointer (sym same) ∙ All-contains (λ (r : Row). d.pointer r.page ≡ r.slot + 1)
+      (rows d) row is.good.leads there
 
   -- two rows in one slot are one
   pub one_row : (r s : Row) → Contains (rows d) r → Contains (rows d) s → r.slot ≡ s.slot → r ≡ s
@@ -184,10 +218,14 @@ module _ (d : Disk) (words : List ℕ) (t : Table) (is : IsTable d words t) wher
     chain_from = record { chained = chain_behind p direct; first_is = read.next ∙ next_word p direct }
 
     pub found_direct : held.page ≢ 0 → held.print ≡ print → IsFound (rows d) print (as_row (answer p held))
-    found_direct some same = let row = direct_row p held read fits direct some in record { there = (is_at_slot p held read fits row.row row.is.there row.is.slot_is).there; print_is = same }
+    found_direct some same = let row = direct_row p held read fits direct some in
+        record { there = (is_at_slot p held read fits row.row row.is.there row.is.slot_is).there; print_is = same }
 
     pub found_behind : (row : Row) → IsFound (chained p (d.chain p)) print row → IsFound (rows d) print row
-    found_behind row found = let at = behind_in p (d.chain p) row found.there in record { there = in_rows p direct at.0 row at.1; print_is = found.print_is }
+    found_behind row found = let at = behind_in p (d.chain p) row found.there in record {
+      there = in_rows p direct at.0 row at.1;
+      print_is = found.print_is;
+    }
 
     pub none_found : (held.page ≢ 0 → held.print ≡ print → ⊥) → HasNoRow (chained p (d.chain p)) print → HasNoRow (rows d) print
     none_found not_direct not_behind row there same =

@@ -105,7 +105,8 @@ module _ (g : Geometry) (words : List ℕ) (rs : List Row) (has : HasRows g word
       least = record { below = is.below; has = wrong_bad page is.has; least = λ m lt bad. is.least m lt (bad_wrong m bad) };
     }
 
-    pub whole : IsAccepted g → length words ≡ 512 * g.pages → ((page : ℕ) → page < g.pages → ¬ IsWrong g words wanted page) → (free : FreePages) → AreUnused g rs free → HasTable words (record { geometry = g; free = free })
+    pub whole : IsAccepted g → length words ≡ 512 * g.pages → ((page : ℕ) → page < g.pages → ¬ IsWrong g words wanted page) → (free : FreePages)
+        → AreUnused g rs free → HasTable words (record { geometry = g; free = free })
     whole accepted size right free unused = record {
       disk = d;
       is = record {
@@ -124,7 +125,10 @@ module _ (g : Geometry) (words : List ℕ) (rs : List Row) (has : HasRows g word
         };
         set = unused.all;
         free = λ k in_set row there. unused.free k in_set row (from row there);
-        taken = λ k lt not_in. let row = unused.taken k lt not_in in record { row = row.0; is = record { there = into row.0 row.1; slot_is = row.2 } };
+        taken = λ k lt not_in. let row = unused.taken k lt not_in in record {
+          row = row.0;
+          is = record { there = into row.0 row.1; slot_is = row.2 };
+        };
       };
     }
       where

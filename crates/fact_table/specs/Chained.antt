@@ -1,5 +1,21 @@
 -- Rows of indirect slots, one after another.
-use Rattle.std.specs.Prelude.{◌≡◌, ◌≢◌, ℕ, zero, suc, ◌^◌, ◌<◌, ◌≤◌, List, [], ◌∷◌, length, slice_get, Some, Contains}
+use Rattle.std.specs.Prelude.{
+  ◌≡◌,
+  ◌≢◌,
+  ℕ,
+  zero,
+  suc,
+  ◌^◌,
+  ◌<◌,
+  ◌≤◌,
+  List,
+  [],
+  ◌∷◌,
+  length,
+  slice_get,
+  Some,
+  Contains,
+}
 use Rattle.pm_device.specs.Reading.{Reads}
 use Rattle.pm_layout.specs.declared.Geometry.{Geometry}
 use Rattle.pm_layout.specs.Geometry.{directs, slots}
@@ -13,11 +29,13 @@ pub record IsIndirect (g : Geometry) (row : Row) : Type 0 where
   pub print : IsPrint row.print
   pub uc : row.uc < 2 ^ 32
 
--- the words read as these rows, each of which leads to the next; they stand in different indirect slots
+-- the words read as these rows, each of which leads to the next; they stand in different indirect
+-- slots
 pub record IsChained (g : Geometry) (words : List ℕ) (rows : List Row) : Type 0 where
   pub reads : Reads (RowsSay g rows) words
   pub indirect : (k : ℕ) (row : Row) → slice_get rows k ≡ Some row → IsIndirect g row
-  pub apart : (j k : ℕ) (r s : Row) → slice_get rows j ≡ Some r → slice_get rows k ≡ Some s → r.slot ≡ s.slot → j ≡ k
+  pub apart : (j k : ℕ) (r s : Row) → slice_get rows j ≡ Some r → slice_get rows k ≡ Some s
+      → r.slot ≡ s.slot → j ≡ k
 
 -- a chain begins with this slot, which is 0 where there is none
 pub record IsChainFrom (g : Geometry) (words : List ℕ) (first : ℕ) (rows : List Row) : Type 0 where

@@ -9,7 +9,8 @@ use Rattle.dn_model.specs.Table.{Row}
 use Rattle.dn_model.specs.Disk.{Disk, TableSays, rows}
 use Rattle.dn_model.specs.Valid.{HasGoodRows}
 
--- What is kept of a table in ordinary memory: its geometry, and which indirect slots have no row. Number k of the
+-- What is kept of a table in ordinary memory: its geometry, and which indirect slots have no row.
+-- Number k of the
 -- set stands for the k-th indirect slot.
 pub record Table : Type 0 where
   pub geometry : Geometry
@@ -48,7 +49,8 @@ pub record IsTable (d : Disk) (words : List ℕ) (t : Table) : Type 0 where
   pub good : HasGoodRows d
   pub set : t.free.pages ≡ t.geometry.pages
   pub free : (k : ℕ) → Contains t.free.free k → HasNoneAt d (directs t.geometry + k)
-  pub taken : (k : ℕ) → k < t.geometry.pages → ¬ Contains t.free.free k → HasRow d (directs t.geometry + k)
+  pub taken : (k : ℕ) → k < t.geometry.pages → ¬ Contains t.free.free k
+      → HasRow d (directs t.geometry + k)
 
 -- so it is, and a stop leaves these words as they are read
 pub record IsSettledTable (d : Disk) (s : State) (t : Table) : Type 0 where

@@ -25,9 +25,12 @@ pub fn find_chained<D: Pm, L: Ledger>(
     requires accepted { IsAccepted g.now }
     requires size { length (D.state device.now).now ≡ 512 * g.now.pages }
     requires chain { HasChain g.now (D.state device.now).now first }
-    ensures found { IfSome result (λ r. (rows : List TableRow) → IsChainFrom g.now (D.state device.now).now first rows → IsFound rows print.now (as_row r)) }
-    ensures none { IfNone result ((rows : List TableRow) → IsChainFrom g.now (D.state device.now).now first rows → HasNoRow rows print.now) }
-    ensures cost { (rows : List TableRow) → IsChainFrom g.now (D.state device.now).now first rows → steps.new ≤ steps.old + length rows }
+    ensures found { IfSome result (λ r. (rows : List TableRow)
+        → IsChainFrom g.now (D.state device.now).now first rows → IsFound rows print.now (as_row r)) }
+    ensures none { IfNone result ((rows : List TableRow)
+        → IsChainFrom g.now (D.state device.now).now first rows → HasNoRow rows print.now) }
+    ensures cost { (rows : List TableRow) → IsChainFrom g.now (D.state device.now).now first rows
+        → steps.new ≤ steps.old + length rows }
 {
     let mut slot = first;
     for _i in 0..g.pages {

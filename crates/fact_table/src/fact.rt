@@ -89,8 +89,10 @@ impl Fact {
     pub fn row_at<D: Pm>(&self, device: &D, slot: u64) -> Option<Row>
         requires table { HasTable (D.state device.now).now self.now }
         requires slot { slot < slots self.now.geometry }
-        ensures found { IfSome result (λ r. (d : Disk) → IsTable d (D.state device.now).now self.now → IsAtSlot d slot (as_row r)) }
-        ensures none { IfNone result ((d : Disk) → IsTable d (D.state device.now).now self.now → HasNoneAt d slot) }
+        ensures found { IfSome result (λ r. (d : Disk) → IsTable d (D.state device.now).now self.now
+            → IsAtSlot d slot (as_row r)) }
+        ensures none { IfNone result ((d : Disk) → IsTable d (D.state device.now).now self.now
+            → HasNoneAt d slot) }
     {
         if self.is_unused(slot) {
             return None;
@@ -106,8 +108,10 @@ impl Fact {
     pub fn by_page<D: Pm>(&self, device: &D, page: u64) -> Option<Row>
         requires table { HasTable (D.state device.now).now self.now }
         requires page { page < self.now.geometry.pages }
-        ensures found { IfSome result (λ r. (d : Disk) → IsTable d (D.state device.now).now self.now → IsOfPage d page (as_row r)) }
-        ensures none { IfNone result ((d : Disk) → IsTable d (D.state device.now).now self.now → HasNoneOf d page) }
+        ensures found { IfSome result (λ r. (d : Disk) → IsTable d (D.state device.now).now self.now
+            → IsOfPage d page (as_row r)) }
+        ensures none { IfNone result ((d : Disk) → IsTable d (D.state device.now).now self.now
+            → HasNoneOf d page) }
     {
         let slot = entry_of(device, &self.geometry, page)?;
         let row = self.row_at(device, slot)?;
@@ -123,9 +127,12 @@ impl Fact {
         steps: &mut Steps<L>,
     ) -> Option<Row>
         requires table { HasTable (D.state device.now).now self.now }
-        ensures found { IfSome result (λ r. (d : Disk) → IsTable d (D.state device.now).now self.now → IsFound (rows d) print.now (as_row r)) }
-        ensures none { IfNone result ((d : Disk) → IsTable d (D.state device.now).now self.now → HasNoRow (rows d) print.now) }
-        ensures cost { (d : Disk) → IsTable d (D.state device.now).now self.now → steps.new ≤ steps.old + behind_direct self.now.geometry d.chain print.now + 1 }
+        ensures found { IfSome result (λ r. (d : Disk) → IsTable d (D.state device.now).now self.now
+            → IsFound (rows d) print.now (as_row r)) }
+        ensures none { IfNone result ((d : Disk) → IsTable d (D.state device.now).now self.now
+            → HasNoRow (rows d) print.now) }
+        ensures cost { (d : Disk) → IsTable d (D.state device.now).now self.now
+            → steps.new ≤ steps.old + behind_direct self.now.geometry d.chain print.now + 1 }
     {
         let direct = direct_of(&self.geometry, print);
         let held = read_direct(device, &self.geometry, direct, steps);

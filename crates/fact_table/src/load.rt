@@ -92,8 +92,10 @@ pub fn wrong_pointer<D: Pm>(device: &D, g: &Geometry, wanted: &[u64]) -> Option<
     requires accepted { IsAccepted g.now }
     requires size { length (D.state device.now).now ≡ 512 * g.now.pages }
     requires all { length wanted.now ≡ g.now.pages }
-    ensures some { IfSome result (IsLeast g.now.pages (IsWrong g.now (D.state device.now).now wanted.now)) }
-    ensures none { IfNone result ((page : ℕ) → page < g.now.pages → ¬ IsWrong g.now (D.state device.now).now wanted.now page) }
+    ensures some { IfSome result
+        (IsLeast g.now.pages (IsWrong g.now (D.state device.now).now wanted.now)) }
+    ensures none { IfNone result ((page : ℕ) → page < g.now.pages
+        → ¬ IsWrong g.now (D.state device.now).now wanted.now page) }
 {
     for page in 0..g.pages {
         if is_wrong(device, g, wanted, page) {
@@ -122,7 +124,8 @@ fn used_slots(alloc: Global, g: &Geometry, rows: &[Row]) -> Result<Vec<bool>, Al
 // The numbers that aren't marked.
 fn unmarked(alloc: Global, used: &[bool]) -> Result<FreeSet, AllocError>
     ensures all { IfOk result (λ set. set.pages ≡ length used.now) }
-    ensures free { IfOk result (λ set. (k : ℕ) → Contains set.free k ↔ ((k < length used.now) × (slice_index_or used.now k false ≡ false))) }
+    ensures free { IfOk result (λ set. (k : ℕ)
+        → Contains set.free k ↔ ((k < length used.now) × (slice_index_or used.now k false ≡ false))) }
 {
     let mut set = FreeSet::none(alloc, used.len() as u64)?;
     for (k, marked) in used.iter().enumerate() {

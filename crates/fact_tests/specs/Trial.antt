@@ -3,7 +3,15 @@ use Rattle.std.specs.Prelude.{◌≡◌}
 use Rattle.dn_model.specs.Table.{Row}
 use Rattle.fact_counts.specs.Counted.{MayRaise, MaySettleUp, MaySettleDown}
 use Rattle.fact_calls.specs.declared.call.TableCall.{TableCall}
-use Rattle.fact_calls.specs.declared.call.TableCall.TheVariants.{Insert, Raise, SettleUp, SettleDown, Recount, RemoveZero, ClearStale}
+use Rattle.fact_calls.specs.declared.call.TableCall.TheVariants.{
+  Insert,
+  Raise,
+  SettleUp,
+  SettleDown,
+  Recount,
+  RemoveZero,
+  ClearStale,
+}
 
 -- the call is one of this row's slot, and the row's counts allow it
 abbrev pub MayBy : Row → TableCall → Type 0

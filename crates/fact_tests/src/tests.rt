@@ -126,7 +126,8 @@ fn load(rt: &impl Abort, alloc: Global, words: Vec<u64>) -> Result<(MemPm, Fact)
 // The row in a slot, if there is one.
 fn row_at<D: Pm>(fact: &Fact, device: &D, slot: u64) -> Option<Row>
     requires { HasTable (D.state device.now).now fact.now }
-    ensures { IfSome result (λ r. (d : Disk) → IsTable d (D.state device.now).now fact.now → IsAtSlot d slot (as_row r)) }
+    ensures { IfSome result (λ r. (d : Disk) → IsTable d (D.state device.now).now fact.now
+        → IsAtSlot d slot (as_row r)) }
 {
     if slot >= fact.geometry().slots() {
         return None;
@@ -145,7 +146,8 @@ fn find_over<D: Pm, L: Ledger>(
     requires parts { blank.parts ≡ L.parts }
     requires part { 0 < blank.parts }
     requires table { HasTable (D.state device.now).now fact.now }
-    ensures { IfNone result ((d : Disk) → IsTable d (D.state device.now).now fact.now → HasNoRow (rows d) print.now) }
+    ensures { IfNone result ((d : Disk) → IsTable d (D.state device.now).now fact.now
+        → HasNoRow (rows d) print.now) }
 {
     let mut steps = Steps::<L>::new(blank);
     fact.find(device, print, &mut steps)
@@ -153,7 +155,8 @@ fn find_over<D: Pm, L: Ledger>(
 
 fn find<D: Pm>(fact: &Fact, device: &D, print: &[u8; 20]) -> Option<Row>
     requires { HasTable (D.state device.now).now fact.now }
-    ensures { IfNone result ((d : Disk) → IsTable d (D.state device.now).now fact.now → HasNoRow (rows d) print.now) }
+    ensures { IfNone result ((d : Disk) → IsTable d (D.state device.now).now fact.now
+        → HasNoRow (rows d) print.now) }
 {
     find_over::<D, Brand>(fact, device, print, Blank::new(1))
 }
@@ -187,7 +190,8 @@ fn may_at<D: Pm>(fact: &Fact, device: &D, slot: u64, call: &TableCall) -> bool
 // Whether a row of a print and page may come in.
 fn may_insert<D: Pm>(fact: &Fact, device: &D, print: &[u8; 20], page: u64) -> bool
     requires { HasTable (D.state device.now).now fact.now }
-    ensures { IsTrue result → CanCall (D.state device.now).now fact.now (TableCall.Insert print.now page) }
+    ensures { IsTrue result → CanCall (D.state device.now).now fact.now
+        (TableCall.Insert print.now page) }
 {
     let g = fact.geometry();
     if page < g.first_data() || page >= g.pages || find(fact, device, print).is_some() {

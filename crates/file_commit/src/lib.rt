@@ -1,8 +1,7 @@
-//! The commit of a write to a file: the items that map places of the file to pages that were filled before.
+//! The commit of a change of a file's data: its items become part of the file's log, once the pages that they map were
+//! filled and flushed.
 #![tactic(auto)]
 
 pub mod append;
-pub mod commit;
 
 pub use append::append_items;
-pub use commit::commit_runs;

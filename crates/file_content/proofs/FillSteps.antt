@@ -5,13 +5,11 @@ use Rattle.std.specs.Ordering.{nat_cmp}
 use Rattle.std.specs.FinMap.{FinMap}
 use Rattle.std.proofs.lemmas.Bool.{cases_lt}
 use Rattle.pm_device.specs.State.{State}
-use Rattle.pm_device.specs.Settled.{StoresOnly, KeepsFlushed, Others}
+use Rattle.pm_device.specs.Settled.{StoresOnly, KeepsFlushed, Anyone}
 use Rattle.pm_device.specs.Reading.{Stands}
 use Rattle.pm_device.specs.Pages.{IsInPage}
 use Rattle.pm_device.proofs.Only.{stores_only-then, stores_only-weaken}
 use Rattle.pm_device.proofs.Flushed.{keeps-then, keeps-weaken}
-use Rattle.pm_device.proofs.Calls.{settled_is_flushed}
-use Rattle.pm_device.proofs.Layers.{settled-stores}
 use Rattle.pm_device.proofs.OneWord.{stands-stores}
 use Rattle.pm_layout.specs.declared.Geometry.{Geometry}
 use Rattle.page_bytes.specs.Bytes.{word_byte}
@@ -21,15 +19,16 @@ use Rattle.dn_model.specs.Files.{bytes}
 use Rattle.dn_model.specs.Valid.{IsValid}
 use Rattle.law_write.specs.Events.{IsUnused}
 use Rattle.law_write.proofs.Unread.{unused_unsaid}
-use Rattle.file_content.specs.Content.{IsFileOf, IsFilled, SettlesBut}
-use Rattle.file_content.specs.Pages.{IsInPages, AreApart}
+use Rattle.file_content.specs.Content.{IsFileOf, IsFilledBy, merged_byte}
+use Rattle.file_content.specs.Pages.{IsInPages, AreApart, FillsPlace}
 use Rattle.file_content.specs.FillLoop.{FillsTo}
+use Rattle.file_content.proofs.Filling.{filled-whole}
 
 -- a page stays filled while another one is stored to
-filled-stores : (s t : State) (block page : ℕ) (old : List ℕ) (place at : ℕ) (text : List ℕ) → block ≢ page → StoresOnly (IsInPage page) s t → IsFilled s block old place at text → IsFilled t block old place at text
-filled-stores s t block page old place at text differ only filled = record {
-  bytes = λ k lt. ap (λ (w : ℕ). word_byte w (k % 8)) (only.read (512 * block + k / 8) (out (k / 8) (omega (arith, lt)))) ∙ filled.bytes k lt;
-  settled = λ k lt. settled-stores (IsInPage page) s t (512 * block + k) only (out k lt) (filled.settled k lt);
+pub filled-stores : (who : ℕ) (s t : State) (block page : ℕ) (byte : ℕ → ℕ) → block ≢ page → 512 * block + 512 ≤ length s.now → StoresOnly (IsInPage page) s t → KeepsFlushed Anyone (IsInPage page) s t → IsFilledBy who s block byte → IsFilledBy who t block byte
+filled-stores who s t block page byte differ inside only keeps filled = record {
+  bytes_are = λ k lt. ap (λ (w : ℕ). word_byte w (k % 8)) (only.read (512 * block + k / 8) (out (k / 8) (omega (arith, lt)))) ∙ filled.bytes_are k lt;
+  flushed = λ k lt. keeps.flushed who (512 * block + k) tt (out k lt) (omega (arith, lt, inside)) (filled.flushed k lt);
 }
   where
     out : (k : ℕ) → k < 512 → IsInPage page (512 * block + k) → ⊥
@@ -44,40 +43,27 @@ module _ (g : Geometry) (who : ℕ) (map : FinMap nat_cmp Mapping) (size first a
   still_stands d valid unused s t only stands =
       stands-stores (IsInPages pages) s t only (DiskSays d) (λ a v says here. unused_unsaid d valid (slice_index pages here.i) (unused here.i here.below) a v here.in_page says) stands
 
-  module _ (n : ℕ) (s t u : State) (lt : n < length pages) (to : FillsTo g who map size first at text pages n s t) (only : StoresOnly (IsInPage (slice_index pages n)) t u) where
+  module _ (n : ℕ) (s t u : State) (lt : n < length pages) (to : FillsTo g who map size first at text pages n s t) (only : StoresOnly (IsInPage (slice_index pages n)) t u) (long : length s.now ≡ 512 * g.pages) where
     wider : (a : ℕ) → IsInPage (slice_index pages n) a → IsInPages pages a
     wider a here = record { i = n; below = lt; in_page = here }
 
-    pub only-next : StoresOnly (IsInPages pages) s u
-    only-next = stores_only-then (IsInPages pages) s t u to.only (stores_only-weaken (IsInPage (slice_index pages n)) (IsInPages pages) t u wider only)
-
-    pub others-next : KeepsFlushed (Others who) (IsInPage (slice_index pages n)) t u → KeepsFlushed (Others who) (IsInPages pages) s u
-    others-next keeps =
-        keeps-then (Others who) (IsInPages pages) s t u to.others (keeps-weaken (Others who) (Others who) (IsInPage (slice_index pages n)) (IsInPages pages) t u (λ q other. other) wider keeps)
-
-    settled-next : SettlesBut who (IsInPage (slice_index pages n)) t u → SettlesBut who (IsInPages pages) s u
-    settled-next settles = record {
-      flushed = λ a out flushed. settles.flushed a (λ here. out (wider a here)) (to.flushed a out flushed);
-    }
-
     -- one page more
-    pub fills-next : AreApart pages → KeepsFlushed (Others who) (IsInPage (slice_index pages n)) t u → SettlesBut who (IsInPage (slice_index pages n)) t u → t.spare ≤ u.spare + 577 → t.faults ≤ u.faults
-        → ((d : Disk) (ino : ℕ) → IsFileOf d ino size map → IsValid d → d.geometry ≡ g → Stands (DiskSays d) t → IsFilled u (slice_index pages n) (bytes d ino) (first + n) at text)
-        → FillsTo g who map size first at text pages (n + 1) s u
-    fills-next apart keeps settles spare faults fills = record {
+    pub fills-next : AreApart pages → KeepsFlushed Anyone (IsInPage (slice_index pages n)) t u → t.spare ≤ u.spare + 576 → t.faults ≤ u.faults
+        → FillsPlace g who map size (first + n) at text (slice_index pages n) t u → FillsTo g who map size first at text pages (n + 1) s u
+    fills-next apart keeps spare faults fills = record {
       pages_are = record {
         filled = λ d ino is valid same stands unused i below. elim (cases_lt i n) [
-          | inl low ↦ filled-stores t u (slice_index pages i) (slice_index pages n) (bytes d ino) (first + i) at text
-              (λ e. omega (arith, low, apart i n (omega (arith, low, lt)) lt e)) only (to.pages_are.filled d ino is valid same stands unused i low)
+          | inl low ↦ filled-stores who t u (slice_index pages i) (slice_index pages n) (λ k. merged_byte (bytes d ino) at text (4096 * (first + i) + k))
+              (λ e. omega (arith, low, apart i n (omega (arith, low, lt)) lt e))
+              (omega (arith, (unused i (omega (arith, low, lt))).free.data_page.high, ap (λ (h : Geometry). h.pages) same, long, to.only.words)) only keeps (to.pages_are.filled d ino is valid same stands unused i low)
           | inr high ↦
               let here : n ≡ i = omega (arith, below, high) in
-              subst (λ (j : ℕ). IsFilled u (slice_index pages j) (bytes d ino) (first + j) at text) here (fills d ino is valid same (still_stands d valid unused s t to.only stands))
+              subst (λ (j : ℕ). IsFilledBy who u (slice_index pages j) (λ k. merged_byte (bytes d ino) at text (4096 * (first + j) + k))) here
+              (filled-whole d ino size map is u who (slice_index pages n) (first + n) at text (fills d ino size is (omega arith) valid same (still_stands d valid unused s t to.only stands)))
         ];
       };
-      only = only-next;
-      others = others-next keeps;
-      flushed = λ a out flushed. settled_is_flushed u who a ((settled-next settles).flushed a out flushed);
-      settled = λ some. settled-next settles;
+      only = stores_only-then (IsInPages pages) s t u to.only (stores_only-weaken (IsInPage (slice_index pages n)) (IsInPages pages) t u wider only);
+      keeps = keeps-then Anyone (IsInPages pages) s t u to.keeps (keeps-weaken Anyone Anyone (IsInPage (slice_index pages n)) (IsInPages pages) t u (λ q anyone. anyone) wider keeps);
       spare = omega (arith, spare, to.spare);
       faults = omega (arith, faults, to.faults);
     }

@@ -45,12 +45,11 @@ pub record IsPlaceOf (image : List ℕ) (map : FinMap nat_cmp Mapping) (size pla
 abbrev pub merged_byte : List ℕ → ℕ → List ℕ → ℕ → ℕ
 merged_byte old at text j = if nat_le at j && nat_lt j (at + length text) then slice_index text (j - at) else slice_index old j
 
--- The page holds the bytes of this place of a file of these bytes, once a text is put in from byte `at` on; and a
--- stop leaves them.
-pub record IsFilled (s : State) (block : ℕ) (old : List ℕ) (place at : ℕ) (text : List ℕ) : Type 0 where
-  pub bytes : (k : ℕ) → k < 4096 → page_byte s.now block k ≡ merged_byte old at text (4096 * place + k)
-  pub settled : (k : ℕ) → k < 512 → IsSettled s (512 * block + k)
+-- byte j of a file of these bytes of which those below `size` are kept
+abbrev pub kept_byte : ℕ → List ℕ → ℕ → ℕ
+kept_byte size old j = if nat_lt j size then slice_index old j else 0
 
--- all that this actor had flushed outside the words W is settled
-pub record SettlesBut (who : ℕ) (W : ℕ → Type 0) (s t : State) : Type 0 where
-  pub flushed : (a : ℕ) → (W a → ⊥) → IsFlushed who s a → IsSettled t a
+-- these bytes stand in the page, and this actor has flushed them
+pub record IsFilledBy (who : ℕ) (s : State) (page : ℕ) (byte : ℕ → ℕ) : Type 0 where
+  pub bytes_are : (k : ℕ) → k < 4096 → page_byte s.now page k ≡ byte k
+  pub flushed : (k : ℕ) → k < 512 → IsFlushed who s (512 * page + k)

@@ -1,26 +1,20 @@
 // New pages of a file are filled.
-ghost use Rattle.std.specs.Prelude.{◌≡◌, ◌+◌, ◌*◌, ◌<◌, ◌≤◌, ℕ, length, All, OnOk, IsErr};
-ghost use Rattle.pm_device.specs.State.{Rose};
-ghost use Rattle.pm_device.specs.Settled.{StoresOnly, KeepsFlushed, Others};
-ghost use Rattle.pm_device.specs.Reading.{Stands};
+ghost use Rattle.std.specs.Prelude.{◌≡◌, ◌+◌, ◌*◌, ◌<◌, ◌≤◌, length, All};
+ghost use Rattle.pm_device.specs.Settled.{StoresOnly, KeepsFlushed, Anyone, FlushesAll};
 ghost use Rattle.pm_device.specs.Pages.{IsInPage};
 ghost use Rattle.pm_layout.specs.Geometry.{IsAccepted};
-ghost use Rattle.dn_model.specs.Disk.{Disk, DiskSays};
-ghost use Rattle.dn_model.specs.Files.{bytes};
-ghost use Rattle.dn_model.specs.Valid.{IsValid};
-ghost use Rattle.file_content.specs.Content.{IsFileOf, AreBlocksIn, IsFilled, SettlesBut};
-ghost use Rattle.file_content.specs.Pages.{IsInPages, AreApart, AreFilled};
+ghost use Rattle.file_content.specs.Content.{AreBlocksIn};
+ghost use Rattle.file_content.specs.Pages.{IsInPages, AreApart, FillsPlace, AreFilled};
 ghost use Rattle.file_content.specs.PutLoop.{PutsText, put_byte};
 
 use crate::place::read_place;
 use file_index::PageMap;
 use page_bytes::fill_page_bytes;
-use pm_device::settle::settle;
-use pm_device::{Failed, Pm};
+use pm_device::Pm;
 use pm_layout::Geometry;
 
 /// The units of the device that `fill_place` uses.
-pub const FILL_UNITS: u64 = 577;
+pub const FILL_UNITS: u64 = 576;
 
 // Byte j of a file where a text is put in from byte `at` on.
 fn new_byte(old: u8, j: u64, at: u64, text: &[u8]) -> u8
@@ -44,11 +38,9 @@ fn put_text(page: &mut [u8], start: u64, at: u64, text: &[u8])
     }
 }
 
-/// Fills a page with the bytes of a place of a file, and with the part of a text that falls there once it is written
-/// from byte `at` on; flushes and fences. It stores to this page alone, takes no memory and `FILL_UNITS` of the device.
-///
-/// # Errors
-/// `Failed` where the fence failed. The page is stored then, but a stop may leave each of its words as it was before.
+/// Fills a page with the bytes of a place of a file, as far as they lie below byte `size`, and with the part of a text
+/// that falls there once it is written from byte `at` on; flushes it. This actor's next fence settles the page. It stores
+/// to this page alone, takes no memory and `FILL_UNITS` of the device.
 pub fn fill_place<D: Pm>(
     device: &mut D,
     g: &Geometry,
@@ -59,35 +51,29 @@ pub fn fill_place<D: Pm>(
     at: u64,
     text: &[u8],
     block: u64,
-) -> Result<(), Failed>
+)
     requires accepted { IsAccepted g.now }
     requires device { length (D.state device.old).now ≡ 512 * g.now.pages }
     requires blocks { AreBlocksIn g.now map.now.map }
     requires place { place < 4096 }
     requires block { block < g.now.pages }
     requires room { FILL_UNITS ≤ (D.state device.old).spare }
-    ensures filled { OnOk result ((d : Disk) (ino : ℕ) → IsFileOf d ino size map.now.map → IsValid d → d.geometry ≡ g.now → Stands (DiskSays d) (D.state device.old) → IsFilled (D.state device.new) block (bytes d ino) place at text.now) }
-    ensures settled { OnOk result (SettlesBut who (IsInPage block) (D.state device.old) (D.state device.new)) }
+    ensures filled { FillsPlace g.now who map.now.map size place at text.now block (D.state device.old) (D.state device.new) }
     ensures only { StoresOnly (IsInPage block) (D.state device.old) (D.state device.new) }
-    ensures others { KeepsFlushed (Others who) (IsInPage block) (D.state device.old) (D.state device.new) }
+    ensures keeps { KeepsFlushed Anyone (IsInPage block) (D.state device.old) (D.state device.new) }
+    ensures flushes { FlushesAll who (D.state device.old) (D.state device.new) }
     ensures spare { (D.state device.old).spare ≤ (D.state device.new).spare + FILL_UNITS }
     ensures faults { (D.state device.old).faults ≤ (D.state device.new).faults }
-    ensures failed { IsErr result → Rose (D.state device.old).faults (D.state device.new).faults }
 {
     let mut page = [0; 4096];
     read_place(device, g, map, size, place, &mut page);
     put_text(&mut page, 4096 * place, at, text);
     fill_page_bytes(device, who, block, &page);
-    settle(device, who)
 }
 
-/// Fills these pages, one after another, with the bytes of the places of a file from `first` on, with a text put in
-/// from byte `at` on; flushes and fences. The pages are different ones, and the disk doesn't use them. It takes no
+/// Fills these pages, one after another, with the bytes of the places of a file of this size from `first` on, with a
+/// text put in from byte `at` on; flushes them. The pages are different ones, and the disk doesn't use them. It takes no
 /// memory, and `FILL_UNITS` of the device for each page.
-///
-/// # Errors
-/// `Failed` where a fence failed. Some of the pages are stored then, but a stop may leave each word of the last of them
-/// as it was before.
 pub fn fill_places<D: Pm>(
     device: &mut D,
     g: &Geometry,
@@ -98,7 +84,7 @@ pub fn fill_places<D: Pm>(
     at: u64,
     text: &[u8],
     blocks: &[u64],
-) -> Result<(), Failed>
+)
     requires accepted { IsAccepted g.now }
     requires device { length (D.state device.old).now ≡ 512 * g.now.pages }
     requires mapped { AreBlocksIn g.now map.now.map }
@@ -106,13 +92,11 @@ pub fn fill_places<D: Pm>(
     requires blocks { All (λ block. block < g.now.pages) blocks.now }
     requires apart { AreApart blocks.now }
     requires room { FILL_UNITS * length blocks.now ≤ (D.state device.old).spare }
-    ensures filled { OnOk result (AreFilled g.now map.now.map size first at text.now blocks.now (length blocks.now) (D.state device.old) (D.state device.new)) }
-    ensures settled { OnOk result (1 ≤ length blocks.now → SettlesBut who (IsInPages blocks.now) (D.state device.old) (D.state device.new)) }
+    ensures filled { AreFilled g.now who map.now.map size first at text.now blocks.now (length blocks.now) (D.state device.old) (D.state device.new) }
     ensures only { StoresOnly (IsInPages blocks.now) (D.state device.old) (D.state device.new) }
-    ensures others { KeepsFlushed (Others who) (IsInPages blocks.now) (D.state device.old) (D.state device.new) }
+    ensures keeps { KeepsFlushed Anyone (IsInPages blocks.now) (D.state device.old) (D.state device.new) }
     ensures spare { (D.state device.old).spare ≤ (D.state device.new).spare + FILL_UNITS * length blocks.now }
     ensures faults { (D.state device.old).faults ≤ (D.state device.new).faults }
-    ensures failed { IsErr result → Rose (D.state device.old).faults (D.state device.new).faults }
 {
     for (i, block) in blocks.iter().enumerate() {
         fill_place(
@@ -125,7 +109,6 @@ pub fn fill_places<D: Pm>(
             at,
             text,
             *block,
-        )?;
+        );
     }
-    Ok(())
 }

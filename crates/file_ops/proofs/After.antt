@@ -1,20 +1,21 @@
 -- The volume, once a write or a cut is ended.
-use Rattle.std.proofs.Common.{◌≡◌, ◌≢◌, inl, ℕ, ◌+◌, ◌*◌, ◌<◌, ◌≤◌, List, [], ◌∷◌, length, sym, ◌∙◌, ap, subst, arith}
+use Rattle.std.proofs.Common.{◌≡◌, ◌≢◌, inl, ℕ, ◌+◌, ◌*◌, ◌<◌, ◌≤◌, List, [], ◌∷◌, length, refl, sym, ◌∙◌, ap, subst, arith}
 use Rattle.std.specs.Prelude.{Contains, All}
 use Rattle.std.specs.FinMap.{get}
 use Rattle.pm_device.specs.State.{State}
+use Rattle.pm_device.specs.Settled.{SettlesAll}
 use Rattle.pm_device.specs.Reading.{Stands}
 use Rattle.pm_layout.specs.declared.Geometry.{Geometry}
 use Rattle.pm_layout.specs.Geometry.{slots}
 use Rattle.dn_model.specs.Table.{Row}
 use Rattle.dn_model.specs.Disk.{Disk, DiskSays, rows}
 use Rattle.law_write.proofs.WriteValid.{named_same, written_valid}
-use Rattle.file_commit.specs.Append.{AppendsOnly, SettlesItems}
+use Rattle.file_commit.specs.Append.{AppendsOnly}
 use Rattle.dn_volume.specs.declared.flight.Flight.{Flight}
 use Rattle.dn_volume.specs.declared.flight.Change.{Change}
 use Rattle.dn_volume.specs.declared.flight.Change.TheVariants.{Data, Names}
 use Rattle.dn_volume.specs.declared.flight.DataChange.{DataChange}
-use Rattle.dn_volume.specs.declared.outcome.CountChange.{CountChange}
+use Rattle.dn_model.specs.declared.op.CountChange.{CountChange}
 use Rattle.dn_volume.specs.declared.volume.Parts.{Parts}
 use Rattle.dn_volume.specs.Parties.{Flies, Holds, by_client, for_client, taken_by}
 use Rattle.dn_volume.specs.Flights.{IsDataFlight, IsFlight, IsFlightOf, GrowsBy}
@@ -22,6 +23,7 @@ use Rattle.dn_volume.specs.Space.{AreSlotsOf}
 use Rattle.dn_volume.specs.Reserve.{units_by}
 use Rattle.dn_volume.specs.Rely.{StayInHand}
 use Rattle.dn_volume.specs.Agrees.{StandsFast, IsVolume, NamesSlots}
+use Rattle.dn_volume.proofs.Heads.{none_stale_kept}
 use Rattle.dn_volume.proofs.OthersStay.{others_stay}
 use Rattle.dn_volume.proofs.Stills.{still_settles}
 use Rattle.file_ops.specs.Ends.{ChangesData, Ends}
@@ -36,7 +38,7 @@ use Rattle.file_ops.proofs.Owed.{room_after}
 
 module _ (d e : Disk) (b b' : Parts) (s t : State) (who : ℕ) (f : Flight) (c : DataChange) (from n : ℕ) (v : IsVolume d b s) (flies : Flies b who f) (kind : f.change ≡ Data c)
     (is : IsDataFlight d who f c s) (all_raised : f.raised ≡ length f.rows.items) (disk : ChangesData d e f c from n) (ends : Ends d e who f c from n b b')
-    (stands : Stands (DiskSays e) t) (appends : AppendsOnly who f.ino d e s t) (settles : SettlesItems who s t) (units : s.spare ≤ t.spare + units_by f (Data c)) where
+    (stands : Stands (DiskSays e) t) (appends : AppendsOnly who f.ino d e s t) (settles : SettlesAll who s t) (units : s.spare ≤ t.spare + units_by f (Data c)) where
   held : f.held.items ≡ f.ino ∷ []
   held = held_is d f c f.op is.plans
 
@@ -105,6 +107,8 @@ module _ (d e : Disk) (b b' : Parts) (s t : State) (who : ℕ) (f : Flight) (c :
     queue = queued_after d e b b' f c from n (length c.runs.items) v.inodes disk ends.keeps ends.inode ends.queue v.queue;
     sharing = others_after.1.sharing (λ him. omega (arith, him, client));
     reclaiming = reclaiming_after d e b b' f c from n (length c.runs.items) v.inodes disk ends.keeps ends.inode ends.releases (others_after.1.raised (λ him. omega (arith, him, client))) v.reclaiming;
+    pointers = none_stale_kept d e disk.event.relogs.geometry disk.event.relogs.pointer
+        (λ row has. record { row = row; there = subst (λ (rs : List Row). Contains rs row) (sym rows_still) has; page_is = refl }) v.pointers;
     room = room_after b b' who f flies v.flights.clients ends.keeps ends.flight ends.owed e c s t kind ends.history.0 from n ends.inode ends.releases ends.queue ends.history.1 units other_file v.room;
     trace = trace_after;
     still = still_settles who b b' s t (record { words = settles.words; kept = settles.kept; own = settles.own }) (same_others b b' who f flies ends.keeps ends.flight) v.still;

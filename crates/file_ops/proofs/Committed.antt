@@ -2,9 +2,9 @@
 use Rattle.std.proofs.Common.{◌≡◌, ◌≢◌, ⊎_elim, ℕ, ◌+◌, ◌-◌, ◌*◌, ◌<◌, ◌≤◌, true, List, [], ◌∷◌, ◌++◌, length, refl, sym, ◌∙◌, ap, subst, arith}
 use Rattle.std.proofs.lemmas.Bool.{cases_eq}
 use Rattle.std.proofs.lemmas.List.{append-nil}
-use Rattle.std.specs.Prelude.{slice_get, Some, All}
+use Rattle.std.specs.Prelude.{slice_get, Some, All, Contains}
 use Rattle.pm_device.specs.State.{State, Rose}
-use Rattle.pm_device.specs.Settled.{LeavesOnly}
+use Rattle.pm_device.specs.Settled.{LeavesOnly, SettlesAll}
 use Rattle.pm_layout.specs.declared.Geometry.{Geometry}
 use Rattle.pm_layout.specs.Geometry.{IsAccepted, slots}
 use Rattle.dn_model.specs.Log.{count, tail_at}
@@ -21,18 +21,21 @@ use Rattle.law_write.proofs.WriteValid.{rows_kept}
 use Rattle.dn_volume.specs.declared.flight.Flight.{Flight}
 use Rattle.dn_volume.specs.declared.flight.Change.TheVariants.{Data}
 use Rattle.dn_volume.specs.declared.flight.DataChange.{DataChange}
-use Rattle.dn_volume.specs.declared.outcome.CountChange.{CountChange}
+use Rattle.dn_model.specs.declared.op.CountChange.{CountChange}
 use Rattle.dn_volume.specs.declared.volume.InodeState.{InodeState}
 use Rattle.dn_volume.specs.declared.volume.Parts.{Parts}
 use Rattle.dn_volume.specs.declared.volume.Volume.{Volume}
-use Rattle.dn_volume.specs.Parties.{Flies, flight_at}
+use Rattle.dn_volume.specs.Parties.{Flies, for_client, flight_at, taken_by}
 use Rattle.dn_volume.specs.Flights.{IsDataFlight, left_by, left_of}
 use Rattle.dn_volume.specs.Events.{IsBetween, word_in, Counts, Answers, Breaks}
-use Rattle.dn_volume.specs.Agrees.{IsVolume}
-use Rattle.file_commit.specs.Append.{AppendsBetween, AppendsNew, AppendsThere, SettlesItems, IsReadyToAppend}
+use Rattle.dn_volume.specs.Agrees.{IsVolume, HasHead}
+use Rattle.file_commit.specs.Append.{AppendsBetween, AppendsNew, AppendsThere, IsReadyToAppend}
 use Rattle.file_ops.specs.Ends.{EndsFlight, Ends}
 use Rattle.file_ops.specs.Giving.{Gives, IsUnsharedAmong}
 use Rattle.file_ops.specs.Ending.{FinishesParts}
+use Rattle.law_write.specs.Events.{IsUnused}
+use Rattle.dn_volume.proofs.Heads.{head_after}
+use Rattle.file_ops.proofs.Frame.{leaves_rest}
 use Rattle.dn_volume.proofs.Kept.{ops_at}
 use Rattle.dn_volume.proofs.Between.{old_or_new}
 use Rattle.file_ops.proofs.Basics.{same_others}
@@ -65,14 +68,19 @@ module _ {D F : Type 0} (state : D → State) (print : Print) (v v' : Volume D F
       one blocks filled rows raised full all = omega (arith, full, all)
 
   -- it failed
-  pub breaks : (op : Op) → f.op ≡ op → v'.parts.stopped ≡ true → v'.parts.geometry ≡ v.parts.geometry → v'.parts.trace ≡ v.parts.trace → v'.parts.history ≡ v.parts.history → Counts v.parts v'.parts
+  pub breaks : (op : Op) → f.op ≡ op → v'.parts.stopped ≡ true → v'.parts.geometry ≡ v.parts.geometry → v'.parts.trace ≡ v.parts.trace → v'.parts.sharing ≡ v.parts.sharing
+      → v'.parts.history ≡ v.parts.history → Counts v.parts v'.parts
       → Rose (state v.device).faults (state v'.device).faults
       → flight_at v'.parts.flights.items (who - 1) ≡ Some f → ((k : ℕ) → k ≢ who - 1 → flight_at v'.parts.flights.items k ≡ flight_at v.parts.flights.items k) → Breaks state print who (Some op) v v' d
-  breaks op same stopped geometry trace history counts rose back others = record {
+  breaks op same stopped geometry trace sharing history counts rose back others = record {
     stopped = record {
       stopped = stopped;
       accepted = subst IsAccepted (is_v.fast.geometry ∙ sym geometry) is_v.fast.valid.accepted;
       long = (there d e w ready_here).only.words ∙ is_v.fast.long ∙ ap (λ (g : Geometry). 512 * g.pages) (is_v.fast.geometry ∙ sym geometry);
+      head = subst (λ (g : Geometry). HasHead g (state v'.device).now) (sym geometry)
+          (head_after d (f.ino ∷ []) (taken_by f) v.parts.geometry (state v.device) (state v'.device) is_v.fast taken_unused
+          (leaves_rest d e f c c.first (length c.blocks.items) kind
+          (changes d v.parts (state v.device) who f c is_v flies kind is name at text op_is all_filled all_raised) who (state v.device) (state v'.device) (there d e w ready_here)).only);
       trace = subst (λ (g : Geometry). All (λ (change : CountChange). change.slot < slots g) v'.parts.trace.items) (sym geometry)
           (subst (λ tr. All (λ (change : CountChange). change.slot < slots v.parts.geometry) tr.items) (sym trace) is_v.trace);
     };
@@ -81,6 +89,9 @@ module _ {D F : Type 0} (state : D → State) (print : Print) (v v' : Volume D F
     rose = rose;
     quiet = λ none. cc;
     ops = ops_at v.parts v'.parts all_same;
+    others = record { flights = λ q some ne. all_same (q - 1); sharing = λ ne. sharing };
+    trace = record { more = []; trace = ap (λ tr. tr.items) trace ∙ sym (append-nil v.parts.trace.items) };
+    geometry = geometry;
     answering = λ o is_o own.
         let whole : f.op ≡ o = same ∙ some_op op o is_o in (
           subst (IsGranted (files d)) whole (granted d v.parts (state v.device) who f c is_v flies kind is name at text op_is all_filled all_raised),
@@ -92,6 +103,10 @@ module _ {D F : Type 0} (state : D → State) (print : Print) (v v' : Volume D F
     faults = faults;
   }
     where
+      taken_unused : (page : ℕ) → Contains (taken_by f) page → IsUnused d page
+      taken_unused page has = is_v.space.unused page (λ none.
+          let his = is_v.space.takes who page (for_client f flies has) in let some = flies.client in omega (arith, his, none, some))
+
       some_op : (a b : Op) → Some a ≡ Some b → a ≡ b
       some_op a b e = cc
 
@@ -100,7 +115,7 @@ module _ {D F : Type 0} (state : D → State) (print : Print) (v v' : Volume D F
 
   -- it is done
   module _ (stands : AppendsNew v.parts.geometry who f.ino f.fresh.items f.slots.items (state v.device) (state v'.device))
-      (settles : SettlesItems who (state v.device) (state v'.device)) (spare : (state v.device).spare ≤ (state v'.device).spare + 9 * (length f.slots.items + length f.fresh.items) + 4)
+      (settles : SettlesAll who (state v.device) (state v'.device)) (spare : (state v.device).spare ≤ (state v'.device).spare + 9 * (length f.slots.items + length f.fresh.items) + 4)
       (node : InodeState) (node_is : slice_get v.parts.inodes.items f.ino ≡ Some node)
       (mid : Parts) (tail : ℕ) (tail_is : tail ≡ tail_at (d.inode f.ino).log.pages (count (d.inode f.ino).log)) (out : IsOut v.parts mid) (ended : EndsFlight who v.parts mid)
       (gives : Gives (IsUnsharedAmong d node.map.map c.first (length c.blocks.items)) v.parts.free mid.free) (finish : FinishesParts who tail f c mid v'.parts) where

@@ -12,8 +12,7 @@ use Rattle.dn_model.specs.Table.{Row, row_of}
 use Rattle.dn_model.specs.Disk.{Disk}
 use Rattle.law_write.proofs.WriteValid.{named_same, was_used}
 use Rattle.law_table.proofs.Rows.{listed_here}
-use Rattle.file_commit.specs.Commit.{IsItemWord}
-use Rattle.file_commit.specs.Append.{AppendsOnly}
+use Rattle.file_commit.specs.Append.{IsItemWord, AppendsOnly}
 use Rattle.dn_volume.specs.declared.flight.Flight.{Flight}
 use Rattle.dn_volume.specs.declared.flight.Change.TheVariants.{Data}
 use Rattle.dn_volume.specs.declared.flight.DataChange.{DataChange}
@@ -74,5 +73,5 @@ module _ (d e : Disk) (f : Flight) (c : DataChange) (from n : ℕ) (kind : f.cha
   leaves_rest who s t appends = record {
     rest = keeps_rest;
     only = stores_only-weaken (IsItemWord f.ino d e) (IsWordOf (f.ino ∷ []) (taken_by f) d) s t item_word appends.only;
-    others = λ q a other out lt flushed. appends.others q a other (λ item. out (item_word a item)) lt flushed;
+    others = λ q a other out lt flushed. appends.others.flushed q a other (λ item. out (item_word a item)) lt flushed;
   }

@@ -4,6 +4,7 @@ use Rattle.std.specs.Prelude.{Option, Some, None, vec_len, vec_capacity}
 use Rattle.pm_device.specs.State.{State}
 use Rattle.dn_model.specs.declared.op.Entry.{Entry}
 use Rattle.law_write.proofs.Counting.{total-change}
+use Rattle.dn_volume.specs.declared.units.TheConstants.{FALL_UNITS, ZERO_CHECK_UNITS}
 use Rattle.dn_volume.specs.declared.background.DyingPlace.{DyingPlace}
 use Rattle.dn_volume.specs.declared.background.Sharing.{Sharing}
 use Rattle.dn_volume.specs.declared.flight.Flight.{Flight}
@@ -56,7 +57,8 @@ module _ (b b' : Parts) (who : ℕ) (f : Flight) (flies : Flies b who f) (client
       three : (x y z x' z' p p' : ℕ) → x' + y ≡ x → z' + y ≡ z → p' ≡ p → x + p ≤ z → x' + p' ≤ z'
       three x y z x' z' p p' a b c le = omega arith
 
-      four : (x y z x' z' p p' q q' r r' : ℕ) → x' + y ≡ x → z' + y ≡ z → p' ≡ p → q' ≡ q → r' ≡ r → x + p + 20 * q + 20 * r ≤ z → x' + p' + 20 * q' + 20 * r' ≤ z'
+      four : (x y z x' z' p p' q q' r r' : ℕ) → x' + y ≡ x → z' + y ≡ z → p' ≡ p → q' ≡ q → r' ≡ r → x + p + (FALL_UNITS * q + ZERO_CHECK_UNITS * r) ≤ z
+          → x' + p' + (FALL_UNITS * q' + ZERO_CHECK_UNITS * r') ≤ z'
       four x y z x' z' p p' q q' r r' a b c e g le = omega arith
 
   -- the flight of another actor is on another inode

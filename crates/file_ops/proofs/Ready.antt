@@ -28,6 +28,8 @@ use Rattle.law_write.proofs.Unread.{read_in_data}
 use Rattle.law_write.proofs.WriteFree.{places_apart}
 use Rattle.law_write.proofs.WriteValid.{not_mapped}
 use Rattle.law_table.proofs.Rows.{none_found, none_listed}
+use Rattle.dn_volume.specs.declared.units.TheConstants.{SLOT_UNITS, TAIL_UNITS}
+use Rattle.dn_volume.specs.Reserve.{slots_of}
 use Rattle.dn_volume.specs.declared.flight.Flight.{Flight}
 use Rattle.dn_volume.specs.declared.flight.Change.{Change}
 use Rattle.dn_volume.specs.declared.flight.Change.TheVariants.{Data}
@@ -211,7 +213,7 @@ module _ (d : Disk) (b : Parts) (s : State) (who : ℕ) (f : Flight) (c : DataCh
       fresh = λ k x lt. fresh_small (get_or f.fresh.items k x) (Contains-get_or f.fresh.items k x lt);
       releases = subst (λ (r : _). deque_len r.releases + length f.rows.items ≤ deque_capacity r.releases) (sym reclaiming) (omega (arith, v.room.releases, v.room.owes.releases, owed_part (λ room. room.releases)));
       waiting = subst (λ (r : _). r.waiting + 2 * length f.rows.items < 18446744073709551616) (sym reclaiming) waiting_few;
-      units = subst (λ (o : Room). 9 * (length f.slots.items + length f.fresh.items) + 10 ≤ o.units) (sym owed) units_there;
+      units = subst (λ (o : Room). SLOT_UNITS * slots_of f + TAIL_UNITS ≤ o.units) (sym owed) units_there;
       owed_history = subst (λ (o : Room). 1 ≤ o.history) (sym owed) (omega (arith, v.room.owes.history, owed_part (λ room. room.history)));
       owed_queue = subst (λ (o : Room). length c.runs.items ≤ o.queue) (sym owed) (omega (arith, v.room.owes.queue, runs_part));
       owed_releases = subst (λ (o : Room). length f.rows.items ≤ o.releases) (sym owed) (omega (arith, v.room.owes.releases, owed_part (λ room. room.releases)));
@@ -227,7 +229,7 @@ module _ (d : Disk) (b : Parts) (s : State) (who : ℕ) (f : Flight) (c : DataCh
         units_part : units_by f (Data c) ≤ owed_sum b (λ room. room.units)
         units_part = subst (λ (x : Change). units_by f x ≤ owed_sum b (λ room. room.units)) kind (owed_part (λ room. room.units))
 
-        units_there : 9 * (length f.slots.items + length f.fresh.items) + 10 ≤ b.owed.units
+        units_there : SLOT_UNITS * slots_of f + TAIL_UNITS ≤ b.owed.units
         units_there = omega (arith, units_part, v.room.owes.units)
 
         some_same : (o : Option InodeState) (x y : InodeState) → o ≡ Some x → o ≡ Some y → x ≡ y

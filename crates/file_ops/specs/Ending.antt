@@ -18,6 +18,8 @@ use Rattle.dn_volume.specs.declared.flight.Change.TheVariants.{Data}
 use Rattle.dn_volume.specs.declared.flight.DataChange.{DataChange}
 use Rattle.dn_volume.specs.declared.volume.InodeState.{InodeState}
 use Rattle.dn_volume.specs.declared.volume.Parts.{Parts}
+use Rattle.dn_volume.specs.declared.units.TheConstants.{SLOT_UNITS, TAIL_UNITS}
+use Rattle.dn_volume.specs.Reserve.{slots_of}
 use Rattle.dn_volume.specs.Parties.{Flies}
 
 -- the client's write is in flight, all its pages are filled, and all its rows are raised
@@ -67,7 +69,7 @@ pub record FinishesParts (who tail : ℕ) (f : Flight) (c : DataChange) (b b' : 
   pub releases_len : deque_len b'.reclaiming.releases ≡ deque_len b.reclaiming.releases + length f.rows.items
   pub releases_capacity : deque_capacity b'.reclaiming.releases ≡ deque_capacity b.reclaiming.releases
   pub waiting : b'.reclaiming.waiting ≡ b.reclaiming.waiting + 2 * length f.rows.items
-  pub units : b'.owed.units + (9 * (length f.slots.items + length f.fresh.items) + 10) ≡ b.owed.units
+  pub units : b'.owed.units + (SLOT_UNITS * slots_of f + TAIL_UNITS) ≡ b.owed.units
   pub owed_trace : b'.owed.trace ≡ b.owed.trace
   pub owed_history : b'.owed.history + 1 ≡ b.owed.history
   pub owed_queue : b'.owed.queue + length c.runs.items ≡ b.owed.queue
@@ -92,7 +94,7 @@ pub record CanFinish (tail : ℕ) (f : Flight) (c : DataChange) (b : Parts) : Ty
   pub fresh : All (λ page. page < 65536) f.fresh.items
   pub releases : deque_len b.reclaiming.releases + length f.rows.items ≤ deque_capacity b.reclaiming.releases
   pub waiting : b.reclaiming.waiting + 2 * length f.rows.items < 18446744073709551616
-  pub units : 9 * (length f.slots.items + length f.fresh.items) + 10 ≤ b.owed.units
+  pub units : SLOT_UNITS * slots_of f + TAIL_UNITS ≤ b.owed.units
   pub owed_history : 1 ≤ b.owed.history
   pub owed_queue : length c.runs.items ≤ b.owed.queue
   pub owed_releases : length f.rows.items ≤ b.owed.releases

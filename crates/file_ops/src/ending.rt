@@ -11,6 +11,7 @@ ghost use Rattle.file_ops.specs.Ending.{MapsInode, MapsAt, FinishesParts, CanFin
 
 use crate::giving::{give_back_pages, queue_slots, release_rows};
 use dn_model::{Entry, Reply};
+use dn_volume::units::{SLOT_UNITS, TAIL_UNITS};
 use dn_volume::{Change, Flight, InodeState, Parts, Room};
 use file_content::remap::map_runs;
 use file_content::runs::Run;
@@ -107,7 +108,7 @@ pub fn finish_parts(parts: &mut Parts, who: u32, tail: u64, flight: Flight)
     };
     let runs = change.runs.len() as u64;
     let rows = flight.rows.len() as u64;
-    let units = 9 * (flight.slots.len() as u64 + flight.fresh.len() as u64) + 10;
+    let units = SLOT_UNITS * (flight.slots.len() as u64 + flight.fresh.len() as u64) + TAIL_UNITS;
     let round = parts.inodes[flight.ino as usize].round;
     give_back_pages(&mut parts.free, &flight.spare);
     queue_slots(

@@ -1,5 +1,30 @@
 -- The mappings and the size of a file, item by item.
-use Rattle.std.proofs.Common.{◌≡◌, ◌≢◌, inl, inr, ℕ, suc, ◌+◌, ◌-◌, ◌<◌, ◌≤◌, Bool, true, false, List, [], ◌∷◌, length, map, get_or, refl, sym, ◌∙◌, ap, arith}
+use Rattle.std.proofs.Common.{
+  ◌≡◌,
+  ◌≢◌,
+  inl,
+  inr,
+  ℕ,
+  suc,
+  ◌+◌,
+  ◌-◌,
+  ◌<◌,
+  ◌≤◌,
+  Bool,
+  true,
+  false,
+  List,
+  [],
+  ◌∷◌,
+  length,
+  map,
+  get_or,
+  refl,
+  sym,
+  ◌∙◌,
+  ap,
+  arith,
+}
 use Rattle.std.specs.Prelude.{◌&&◌, nat_le, nat_lt, if◌then◌else◌, drop, Option, Some, None}
 use Rattle.std.specs.Option.{option_map}
 use Rattle.std.specs.Ordering.{nat_cmp}
@@ -39,14 +64,18 @@ past_run : (first n idx : ℕ) → first + n ≤ idx → (nat_le first idx && na
 past_run first n idx le = grind (arith, nat_tests)
 
 module _ (slot first block : ℕ) where
-  set_inside : (n idx : ℕ) (m : Option Mapping) → first ≤ idx → idx < first + n → set_mapping slot first n block idx m ≡ Some (record { block = block + (idx - first); slot = slot; bit = idx - first })
-  set_inside n idx m low high = ap (λ (b : Bool). if b then Some (record { block = block + (idx - first); slot = slot; bit = idx - first }) else m) (in_run first n idx low high)
+  set_inside : (n idx : ℕ) (m : Option Mapping) → first ≤ idx → idx < first + n → set_mapping slot first n block idx m ≡ Some
+      (record { block = block + (idx - first); slot = slot; bit = idx - first })
+  set_inside n idx m low high = ap (λ (b : Bool). if b then Some (record { block = block + (idx - first); slot = slot; bit = idx - first }) else m)
+      (in_run first n idx low high)
 
   set_before : (n idx : ℕ) (m : Option Mapping) → idx < first → set_mapping slot first n block idx m ≡ m
-  set_before n idx m lt = ap (λ (b : Bool). if b then Some (record { block = block + (idx - first); slot = slot; bit = idx - first }) else m) (before_run first n idx lt)
+  set_before n idx m lt = ap (λ (b : Bool). if b then Some (record { block = block + (idx - first); slot = slot; bit = idx - first }) else m)
+      (before_run first n idx lt)
 
   set_past : (n idx : ℕ) (m : Option Mapping) → first + n ≤ idx → set_mapping slot first n block idx m ≡ m
-  set_past n idx m le = ap (λ (b : Bool). if b then Some (record { block = block + (idx - first); slot = slot; bit = idx - first }) else m) (past_run first n idx le)
+  set_past n idx m le = ap (λ (b : Bool). if b then Some (record { block = block + (idx - first); slot = slot; bit = idx - first }) else m)
+      (past_run first n idx le)
 
   -- one place more
   set_more : (k idx : ℕ) (m : Option Mapping) → idx ≢ first + k → set_mapping slot first k block idx m ≡ set_mapping slot first (k + 1) block idx m
@@ -76,7 +105,8 @@ module _ (slot first block : ℕ) where
     so_far = λ idx. elim (cases_eq idx (first + k)) [
       | inl e ↦
           let n : idx - first ≡ k = omega arith in
-          ap (get new.map) e ∙ puts.there ∙ sym (ap (λ (i : ℕ). Some (record { block = block + i; slot = slot; bit = i })) n) ∙ sym (set_inside (k + 1) idx (get old.map idx) (omega arith) (omega arith))
+          ap (get new.map) e ∙ puts.there ∙ sym (ap (λ (i : ℕ). Some (record { block = block + i; slot = slot; bit = i })) n) ∙ sym
+          (set_inside (k + 1) idx (get old.map idx) (omega arith) (omega arith))
       | inr ne ↦ puts.others idx ne ∙ so_far.so_far idx ∙ set_more k idx (get old.map idx) ne
     ];
     room = omega (arith, so_far.room, puts.room);
@@ -90,7 +120,8 @@ cut_stays : (size idx : ℕ) (m : Option DiskMapping) → idx < pages_of size �
 cut_stays size idx m lt = ap (λ (b : Bool). if b then m else None) (lt_true idx (pages_of size) lt)
 
 -- cutting what is kept
-cut_kept : (size idx : ℕ) (m : Option DiskMapping) (old new : Index nat_cmp Mapping) → CutsOff (pages_of size) old new → get old.map idx ≡ option_map kept m
+cut_kept : (size idx : ℕ) (m : Option DiskMapping) (old new : Index nat_cmp Mapping) → CutsOff (pages_of size) old new → get old.map idx ≡ option_map
+    kept m
     → get new.map idx ≡ option_map kept (cut_to size idx m)
 cut_kept size idx m old new cuts is = elim (cases_lt idx (pages_of size)) [
   | inl below ↦ cuts.below idx below ∙ is ∙ sym (ap (option_map kept) (cut_stays size idx m below))
@@ -100,7 +131,8 @@ cut_kept size idx m old new cuts is = elim (cases_lt idx (pages_of size)) [
 -- mapping what is kept
 set_kept : (slot first count block idx : ℕ) (flag : Flag) (mask : ℕ) (m : Option DiskMapping)
     → set_mapping slot first count block idx (option_map kept m)
-    ≡ option_map kept (if nat_le first idx && nat_lt idx (first + count) then Some (record { block = block + (idx - first); slot = slot; bit = idx - first; flag = flag; mask = mask }) else m)
+    ≡ option_map kept (if nat_le first idx && nat_lt idx (first + count) then Some
+    (record { block = block + (idx - first); slot = slot; bit = idx - first; flag = flag; mask = mask }) else m)
 set_kept slot first count block idx flag mask m = by_test (nat_le first idx && nat_lt idx (first + count))
   where
     by_test : (b : Bool) → (if b then Some (record { block = block + (idx - first); slot = slot; bit = idx - first }) else option_map kept m)
@@ -108,14 +140,18 @@ set_kept slot first count block idx flag mask m = by_test (nat_le first idx && n
     by_test true = refl
     by_test false = refl
 
-pub remaps-write : (slot first count block size : ℕ) (flag : Flag) (mask : ℕ) (old new : FileIndex) (mid mid' : Index nat_cmp Mapping) → ((idx : ℕ) → get mid.map idx ≡ get old.map.map idx)
-    → SetsPlaces slot first count block mid mid' → CutsOff (pages_of size) mid' new.map → new.size ≡ size → Remaps (record { slot = slot; item = Write first count block size flag mask }) old new
+pub remaps-write : (slot first count block size : ℕ) (flag : Flag) (mask : ℕ) (old new : FileIndex) (mid mid' : Index nat_cmp Mapping)
+    → ((idx : ℕ) → get mid.map idx ≡ get old.map.map idx)
+    → SetsPlaces slot first count block mid mid' → CutsOff (pages_of size) mid' new.map → new.size ≡ size
+    → Remaps (record { slot = slot; item = Write first count block size flag mask }) old new
 remaps-write slot first count block size flag mask old new mid mid' reserved sets cuts is = record {
   size = is;
-  places = λ idx m kept_old. cut_kept size idx _ mid' new.map cuts (sets idx ∙ ap (set_mapping slot first count block idx) (reserved idx ∙ kept_old) ∙ set_kept slot first count block idx flag mask m);
+  places = λ idx m kept_old. cut_kept size idx _ mid' new.map cuts (sets idx ∙ ap (set_mapping slot first count block idx) (reserved idx ∙ kept_old) ∙
+      set_kept slot first count block idx flag mask m);
 }
 
-pub remaps-size : (slot size : ℕ) (old new : FileIndex) → CutsOff (pages_of size) old.map new.map → new.size ≡ size → Remaps (record { slot = slot; item = Size size }) old new
+pub remaps-size : (slot size : ℕ) (old new : FileIndex) → CutsOff (pages_of size) old.map new.map → new.size ≡ size
+    → Remaps (record { slot = slot; item = Size size }) old new
 remaps-size slot size old new cuts is = record {
   size = is;
   places = λ idx m kept_old. cut_kept size idx m old.map new.map cuts kept_old;
@@ -134,7 +170,8 @@ indexed-none items index none is = record {
   places = λ idx. record { by = None; is = ap (λ m. get m idx) is ∙ get-empty nat_cmp idx; rest = refl };
 }
 
-pub indexed-next : (items : List PlacedItem) (i : ℕ) (p : PlacedItem) (old new : FileIndex) → i < length items → p ≡ get_or items i p → IsIndexedTo items i old → Remaps (seen p) old new → IsIndexedTo items (i + 1) new
+pub indexed-next : (items : List PlacedItem) (i : ℕ) (p : PlacedItem) (old new : FileIndex) → i < length items → p ≡ get_or items i p
+    → IsIndexedTo items i old → Remaps (seen p) old new → IsIndexedTo items (i + 1) new
 indexed-next items i p old new lt here so_far remaps = record {
   size = ap (λ (n : ℕ). size_after n (map item_of (drop (i + 1) items))) remaps.size
       ∙ size_first old.size p.item (map item_of (drop (i + 1) items))
@@ -165,10 +202,13 @@ seen-items (p ∷ ps) = ap (λ (xs : List LogItem). p.item ∷ xs) (seen-items p
 pub items_of : (items : List PlacedItem) (log : Log) → map seen items ≡ placed log → map item_of items ≡ log.items
 items_of items log is = sym (seen-items items) ∙ ap (map (λ (p : Placed). p.item)) is ∙ placed-items log.pages 0 log.items
 
-pub indexed-all : (items : List PlacedItem) (i : ℕ) (index : FileIndex) → length items ≤ i → IsIndexedTo items i index → (log : Log) → map seen items ≡ placed log → IsIndexOf log index
+pub indexed-all : (items : List PlacedItem) (i : ℕ) (index : FileIndex) → length items ≤ i → IsIndexedTo items i index → (log : Log)
+    → map seen items ≡ placed log → IsIndexOf log index
 unfolding mapping size_of
 indexed-all items i index all so_far log is = record {
-  size_is = ap (size_after 0) (sym (items_of items log is)) ∙ sym so_far.size ∙ ap (λ (ps : List PlacedItem). size_after index.size (map item_of ps)) (drop_all i items all);
+  size_is = ap (size_after 0) (sym (items_of items log is)) ∙ sym so_far.size ∙ ap (λ (ps : List PlacedItem). size_after index.size (map item_of ps))
+      (drop_all i items all);
   places = λ idx. let here = so_far.places idx in
-      here.is ∙ ap (option_map kept) (ap (λ (ps : List PlacedItem). mapped_after idx here.by (map seen ps)) (sym (drop_all i items all)) ∙ here.rest ∙ ap (mapped_after idx None) is);
+      here.is ∙ ap (option_map kept) (ap (λ (ps : List PlacedItem). mapped_after idx here.by (map seen ps)) (sym (drop_all i items all)) ∙ here.rest ∙
+      ap (mapped_after idx None) is);
 }

@@ -29,7 +29,8 @@ module _ (new name : List ℕ) where
       true_false : true ≡ false → ⊥
       true_false e = cc
 
-pub renames-put : (ino : ℕ) (new : List ℕ) (old : NamesMap) (mid after : NameIndex) → mid.map ≡ old → Puts new ino mid after → Renames (Add ino new) old after.map
+pub renames-put : (ino : ℕ) (new : List ℕ) (old : NamesMap) (mid after : NameIndex) → mid.map ≡ old → Puts new ino mid after
+    → Renames (Add ino new) old after.map
 renames-put ino new old mid after same puts name = by_test (same_name new name) refl
   where
     by_test : (t : Bool) → same_name new name ≡ t → get after.map name ≡ (if t then Some ino else get old name)
@@ -44,16 +45,19 @@ renames-drop gone old after drops name = by_test (same_name gone name) refl
     by_test false test = drops.others name (other_name gone name test)
 
 -- names, item by item
-name_first : (name : List ℕ) (found : Option ℕ) (item : LogItem) (items : List LogItem) → named_after name (named_after name found (item ∷ [])) items ≡ named_after name found (item ∷ items)
+name_first : (name : List ℕ) (found : Option ℕ) (item : LogItem) (items : List LogItem) → named_after name (named_after name found (item ∷ []))
+    items ≡ named_after name found (item ∷ items)
 name_first name found (Write first count block size flag mask) items = refl
 name_first name found (Size size) items = refl
 name_first name found (Add ino new) items = refl
 name_first name found (Forget old) items = refl
 
 pub named-none : (items : List PlacedItem) (names : NamesMap) → names ≡ empty → IsNamedTo items 0 names
-named-none items names is name = ap (λ (o : Option ℕ). named_after name o (map item_of items)) (ap (λ (m : NamesMap). get m name) is ∙ get-empty (slice_cmp nat_cmp) name)
+named-none items names is name = ap (λ (o : Option ℕ). named_after name o (map item_of items)) (ap (λ (m : NamesMap). get m name) is ∙ get-empty
+    (slice_cmp nat_cmp) name)
 
-pub named-next : (items : List PlacedItem) (i : ℕ) (p : PlacedItem) (old new : NamesMap) → i < length items → p ≡ get_or items i p → IsNamedTo items i old → Renames p.item old new → IsNamedTo items (i + 1) new
+pub named-next : (items : List PlacedItem) (i : ℕ) (p : PlacedItem) (old new : NamesMap) → i < length items → p ≡ get_or items i p
+    → IsNamedTo items i old → Renames p.item old new → IsNamedTo items (i + 1) new
 named-next items i p old new lt here so_far renames name =
     ap (λ (o : Option ℕ). named_after name o (map item_of (drop (i + 1) items))) (renames name)
     ∙ name_first name (get old name) p.item (map item_of (drop (i + 1) items))
@@ -66,7 +70,8 @@ named-next items i p old new lt here so_far renames name =
     drops : drop i items ≡ p ∷ drop (i + 1) items
     drops = drop-cons items i p lt ∙ ap (λ (q : PlacedItem). q ∷ drop (suc i) items) (sym here) ∙ ap (λ (n : ℕ). p ∷ drop n items) one
 
-pub named-all : (items : List PlacedItem) (i : ℕ) (names : NamesMap) → length items ≤ i → IsNamedTo items i names → (log : Log) → map seen items ≡ placed log → IsNamesOf log names
+pub named-all : (items : List PlacedItem) (i : ℕ) (names : NamesMap) → length items ≤ i → IsNamedTo items i names → (log : Log)
+    → map seen items ≡ placed log → IsNamesOf log names
 named-all items i names all so_far log is name =
     ap (λ (ps : List PlacedItem). named_after name (get names name) (map item_of ps)) (sym (drop_all i items all))
     ∙ so_far name

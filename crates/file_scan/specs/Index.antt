@@ -1,5 +1,19 @@
 -- The index of a file, from the items of its log.
-use Rattle.std.specs.Prelude.{◌≡◌, ℕ, ◌+◌, ◌-◌, ◌≤◌, ◌&&◌, nat_le, nat_lt, if◌then◌else◌, [], ◌∷◌, Option, Some}
+use Rattle.std.specs.Prelude.{
+  ◌≡◌,
+  ℕ,
+  ◌+◌,
+  ◌-◌,
+  ◌≤◌,
+  ◌&&◌,
+  nat_le,
+  nat_lt,
+  if◌then◌else◌,
+  [],
+  ◌∷◌,
+  Option,
+  Some,
+}
 use Rattle.std.specs.Option.{option_map}
 use Rattle.std.specs.Ordering.{nat_cmp}
 use Rattle.std.specs.FinMap.{get}
@@ -27,15 +41,19 @@ MayBeIndexed p = IsSpelled p.item × HasSmallBlocks p.item
 -- the mapping of a place, once so many from `first` on are mapped, one after another
 abbrev pub set_mapping : (slot first count block idx : ℕ) → Option Mapping → Option Mapping
 set_mapping slot first count block idx m =
-    if nat_le first idx && nat_lt idx (first + count) then Some (record { block = block + (idx - first); slot = slot; bit = idx - first }) else m
+    if nat_le first idx && nat_lt idx (first + count) then Some
+    (record { block = block + (idx - first); slot = slot; bit = idx - first }) else m
 
-abbrev pub SetsPlaces : (slot first count block : ℕ) → Index nat_cmp Mapping → Index nat_cmp Mapping → Type 0
-SetsPlaces slot first count block old new = (idx : ℕ) → get new.map idx ≡ set_mapping slot first count block idx (get old.map idx)
+abbrev pub SetsPlaces : (slot first count block : ℕ) → Index nat_cmp Mapping → Index nat_cmp Mapping
+    → Type 0
+SetsPlaces slot first count block old new = (idx : ℕ) → get new.map idx ≡ set_mapping slot first
+    count block idx (get old.map idx)
 
 -- the index goes along with the item
 pub record Remaps (p : Placed) (old new : FileIndex) : Type 0 where
   pub size : new.size ≡ size_after old.size (p.item ∷ [])
-  pub places : (idx : ℕ) (m : Option DiskMapping) → get old.map.map idx ≡ option_map kept m → get new.map.map idx ≡ option_map kept (remapped idx m p)
+  pub places : (idx : ℕ) (m : Option DiskMapping) → get old.map.map idx ≡ option_map kept m
+      → get new.map.map idx ≡ option_map kept (remapped idx m p)
 
 -- the size and the mappings of the log's file
 pub record IsIndexOf (log : Log) (index : FileIndex) : Type 0 where

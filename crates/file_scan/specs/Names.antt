@@ -19,7 +19,8 @@ Renames item old new = (name : List ℕ) → get new name ≡ named_after name (
 
 -- the rest of the items makes of the map that of all
 abbrev pub IsNamedTo : List PlacedItem → ℕ → NamesMap → Type 0
-IsNamedTo items i names = (name : List ℕ) → named_after name (get names name) (map item_of (drop i items)) ≡ named_after name None (map item_of items)
+IsNamedTo items i names = (name : List ℕ) → named_after name (get names name)
+    (map item_of (drop i items)) ≡ named_after name None (map item_of items)
 
 -- the names of the log
 abbrev pub IsNamesOf : Log → NamesMap → Type 0

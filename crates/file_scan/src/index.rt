@@ -12,6 +12,7 @@ use crate::NoMemory;
 use file_index::{Mapping, PageMap};
 use log_entry::LogItem;
 use log_walk::Placed;
+use pm_layout::PAGE_BYTES;
 use std::alloc::Global;
 
 /// How long a file is, and where its places are.
@@ -28,7 +29,7 @@ fn pages_of(size: u64) -> u64
     requires { size ≤ 16777216 }
     ensures { result ≡ pages_of size }
 {
-    (size + 4095) / 4096
+    size.div_ceil(PAGE_BYTES)
 }
 
 // Maps so many places from `first` on to the pages from `block` on, one after another, by the item at this slot.
@@ -72,7 +73,11 @@ fn add_write(
     requires places { first + count ≤ 4096 }
     requires blocks { block + count ≤ 65536 }
     requires size { size ≤ 16777216 }
-    ensures { (flag : Flag) (mask : ℕ) → OnOk result (Remaps (record { slot = slot; item = Write first count block size flag mask }) index.old index.new) }
+    ensures { (flag : Flag) (mask : ℕ)
+        → OnOk result (Remaps (record {
+          slot = slot;
+          item = Write first count block size flag mask;
+        }) index.old index.new) }
 {
     index.map.reserve(count)?;
     set_places(&mut index.map, slot, first, count, block);
@@ -108,7 +113,8 @@ fn add_item(index: &mut FileIndex, placed: &Placed) -> Result<(), NoMemory>
 /// `NoMemory` where there is no memory for the mappings.
 pub fn index_items(alloc: Global, items: &[Placed]) -> Result<FileIndex, NoMemory>
     requires { All MayBeIndexed items.now }
-    ensures { IfOk result (λ index. (log : Log) → map seen items.now ≡ placed log → IsIndexOf log index) }
+    ensures { IfOk result (λ index. (log : Log) → map seen items.now ≡ placed log
+        → IsIndexOf log index) }
 {
     let mut index = FileIndex {
         size: 0,

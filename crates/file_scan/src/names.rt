@@ -40,7 +40,8 @@ fn add_name(names: &mut NameMap, item: &LogItem) -> Result<(), NoMemory>
 /// # Errors
 /// `NoMemory` where there is no memory for the names.
 pub fn index_names(alloc: Global, items: &[Placed]) -> Result<NameMap, NoMemory>
-    ensures { IfOk result (λ names. (log : Log) → map seen items.now ≡ placed log → IsNamesOf log names.map) }
+    ensures { IfOk result (λ names. (log : Log) → map seen items.now ≡ placed log
+        → IsNamesOf log names.map) }
 {
     let mut names = NameMap::new(alloc);
     for (i, placed) in items.iter().enumerate() {

@@ -1,13 +1,11 @@
-//! A write to a file: the pages that it takes, what it stores, and what is kept of the file in memory.
+//! What a write to a file takes: fresh pages for its bytes and for the file's log, and the plan of its items.
 //!
-//! A write takes fresh pages, fills them, and makes them part of the file by one store of its log's tail (NOVA, FAST
-//! 2016). No page that the file has is stored to, so that a stop on the way leaves the file as before or as after.
+//! No page that the file has is stored to, so that a stop on the way leaves the file as before or as after (NOVA, FAST
+//! 2016). The pages are filled by `file_content`, and become part of the file by `file_commit`.
 #![tactic(auto)]
 
 pub mod plan;
-pub mod store;
 pub mod take;
-pub mod write;
 
 use std::alloc::AllocError;
 

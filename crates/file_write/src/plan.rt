@@ -1,11 +1,12 @@
 // What a write takes and will store.
-ghost use Rattle.std.specs.Prelude.{◌≡◌, ◌+◌, ◌<◌, ◌≤◌, ℕ, length, IfOk, if◌then◌else◌, nat_lt};
+ghost use Rattle.std.specs.Prelude.{◌≡◌, ◌+◌, ◌-◌, ◌<◌, ◌≤◌, length, IfOk, IsErr, if◌then◌else◌, nat_lt};
 ghost use Rattle.page_alloc.specs.Free.{IsInOrder};
+ghost use Rattle.log_entry.specs.Spelling.{pages_of};
 ghost use Rattle.dn_model.specs.History.{touched};
-ghost use Rattle.file_write.specs.Plan.{IsPlan};
+ghost use Rattle.file_write.specs.Plan.{SplitsLog, IsPlanOf, IsPlan};
 
 use crate::NoMemory;
-use crate::take::{places_of, return_unused, take_pages};
+use crate::take::{places_of, take_pages, untake_pages};
 use file_content::runs::{Run, cut_into_runs, run_slots};
 use page_alloc::FreeSet;
 use std::alloc::Global;
@@ -24,6 +25,8 @@ pub struct WritePlan {
     pub blocks: Vec<u64>,
     /// The page that the file's log takes, where its items have no room on its last one.
     pub fresh: Vec<u64>,
+    /// A page that was taken for the log and isn't needed.
+    pub spare: Vec<u64>,
     /// The runs that these places are cut into.
     pub runs: Vec<Run>,
     /// The slots of their items.
@@ -38,12 +41,65 @@ pub fn pages_needed(places: u64, room: u64) -> u64
     if room < places { places + 1 } else { places }
 }
 
+// Pages in a list of their own.
+fn copy_of(alloc: Global, pages: &[u64]) -> Result<Vec<u64>, NoMemory>
+    ensures { IfOk result (λ copy. copy.items ≡ pages.now) }
+{
+    let mut copy = Vec::new(alloc);
+    copy.extend_from_slice(pages)?;
+    Ok(copy)
+}
+
+// A page that was taken for a log, and where it is needed.
+fn split_log(alloc: Global, log: &[u64], used: bool) -> Result<(Vec<u64>, Vec<u64>), NoMemory>
+    ensures { IfOk result (λ r. SplitsLog used log.now r.0.items r.1.items) }
+{
+    let taken = copy_of(alloc, log)?;
+    let none = Vec::new(alloc);
+    if used {
+        Ok((taken, none))
+    } else {
+        Ok((none, taken))
+    }
+}
+
+// The plan of a write that has these pages, of which the first `extra` are for the log.
+fn plan_pages(
+    alloc: Global,
+    pages: &[u64],
+    extra: u64,
+    room: u64,
+    first: u64,
+    size: u64,
+) -> Result<WritePlan, NoMemory>
+    requires some { extra < length pages.now }
+    requires few { length pages.now - extra ≤ 17 }
+    requires in_size { first + (length pages.now - extra) ≤ pages_of size }
+    requires small { size ≤ 16777216 }
+    ensures { IfOk result (IsPlanOf room first size pages.now (length pages.now - extra)) }
+{
+    let (log, places) = pages.split_at(extra as usize);
+    let blocks = copy_of(alloc, places)?;
+    let runs = cut_into_runs(alloc, first, &blocks)?;
+    let slots = run_slots(alloc, &runs, size)?;
+    let (fresh, spare) = split_log(alloc, log, room < runs.len() as u64)?;
+    Ok(WritePlan {
+        first,
+        size,
+        blocks,
+        fresh,
+        spare,
+        runs,
+        slots,
+    })
+}
+
 /// Takes the pages for a write of so many bytes from byte `at` on, to a file of this size whose log has so much room:
-/// first the page for the log, then those for the bytes, each the least free one. The log's page is given back where
-/// the items, one for each run of consecutive pages, have room without it.
+/// first the page for the log, then those for the bytes, each the least free one. The log's page is spare where the
+/// items, one for each run of consecutive pages, have room without it; it is given back once the write is committed.
 ///
 /// # Errors
-/// `NoMemory` where memory is wanting. Some pages may be taken then.
+/// `NoMemory` where memory is wanting. The free pages are as they were then.
 pub fn plan_write(
     alloc: Global,
     free: &mut FreeSet,
@@ -57,23 +113,25 @@ pub fn plan_write(
     requires fits { at + count ≤ 16777216 }
     requires small { size ≤ 16777216 }
     requires in_order { IsInOrder free.old }
-    requires enough { touched at count + (if nat_lt room (touched at count) then 1 else 0) + RESERVE ≤ length free.old.free }
-    ensures { IfOk result (IsPlan size at count room free.old free.new) }
+    requires enough { touched at count + (if nat_lt room (touched at count) then 1 else 0) ≤ length free.old.free }
+    ensures plan { IfOk result (IsPlan size at count room free.old free.new) }
+    ensures no_memory { IsErr result → free.new ≡ free.old }
 {
-    let first = at / 4096;
     let places = places_of(at, count);
-    let size = size.max(at + count);
-    let mut fresh = take_pages(alloc, free, pages_needed(places, room) - places)?;
-    let blocks = take_pages(alloc, free, places)?;
-    let runs = cut_into_runs(alloc, first, &blocks)?;
-    let slots = run_slots(alloc, &runs, size)?;
-    return_unused(free, &mut fresh, room < runs.len() as u64);
-    Ok(WritePlan {
-        first,
-        size,
-        blocks,
-        fresh,
-        runs,
-        slots,
-    })
+    let needed = pages_needed(places, room);
+    let pages = take_pages(alloc, free, needed)?;
+    match plan_pages(
+        alloc,
+        &pages,
+        needed - places,
+        room,
+        at / 4096,
+        size.max(at + count),
+    ) {
+        Ok(plan) => Ok(plan),
+        Err(fault) => {
+            untake_pages(free, pages);
+            Err(fault)
+        }
+    }
 }

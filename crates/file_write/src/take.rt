@@ -1,10 +1,10 @@
 // Pages are taken for a write.
-ghost use Rattle.std.specs.Prelude.{◌≡◌, ◌+◌, ◌<◌, ◌≤◌, ℕ, length, Contains, IfOk, All};
+ghost use Rattle.std.specs.Prelude.{◌≡◌, ◌+◌, ◌<◌, ◌≤◌, ℕ, length, Contains, IfOk, IsErr, All};
 ghost use Rattle.pm_layout.specs.declared.Geometry.{Geometry};
-ghost use Rattle.page_alloc.specs.Free.{Takes};
+ghost use Rattle.page_alloc.specs.Free.{FreePages, IsInOrder, Takes};
 ghost use Rattle.dn_model.specs.Log.{Log, IsPaged, count, tail_at};
 ghost use Rattle.dn_model.specs.History.{room, touched};
-ghost use Rattle.file_write.specs.Take.{TakesFirst, ReturnsUnused};
+ghost use Rattle.file_write.specs.Take.{TakesFirst, ReturnsSpare};
 
 use crate::NoMemory;
 use page_alloc::FreeSet;
@@ -45,29 +45,39 @@ fn take_page(free: &mut FreeSet) -> u64
 /// Takes the least free pages, so many of them.
 ///
 /// # Errors
-/// `NoMemory` where there is no memory for their list. Some may be taken then.
+/// `NoMemory` where there is no memory for their list. None is taken then.
 pub fn take_pages(alloc: Global, free: &mut FreeSet, count: u64) -> Result<Vec<u64>, NoMemory>
     requires { count ≤ length free.old.free }
     ensures taken { IfOk result (λ pages. TakesFirst free.old free.new pages.items) }
     ensures count { IfOk result (λ pages. length pages.items ≡ count) }
+    ensures no_memory { IsErr result → free.new ≡ free.old }
 {
-    let mut pages = Vec::new(alloc);
+    let mut pages = Vec::with_capacity(alloc, count as usize)?;
     for _i in 0..count {
-        pages.push(take_page(free))?;
+        pages.push_reserved(take_page(free));
     }
     Ok(pages)
 }
 
-/// Gives the page that was taken for a log back where it isn't used.
-pub fn return_unused(free: &mut FreeSet, fresh: &mut Vec<u64>, used: bool)
-    requires few { length fresh.old.items ≤ 1 }
-    requires below { All (λ page. page < free.old.pages) fresh.old.items }
-    requires taken { (page : ℕ) → Contains fresh.old.items page → Contains free.old.free page → ⊥ }
-    ensures { ReturnsUnused used free.old free.new fresh.old.items fresh.new.items }
+/// Puts pages back that were just taken, so that all is as it was.
+pub fn untake_pages(free: &mut FreeSet, pages: Vec<u64>)
+    requires { (set : FreePages) × IsInOrder set × TakesFirst set free.old pages.items }
+    ensures { (set : FreePages) → IsInOrder set → TakesFirst set free.old pages.items → free.new ≡ set }
 {
-    if !used {
-        if let Some(page) = fresh.pop() {
-            free.give_back(page);
-        }
+    let mut left = pages;
+    'pages: while let Some(page) = left.pop() {
+        free.give_back(page);
+    }
+}
+
+/// Gives the page that was taken for a log and isn't used back, if there is one.
+pub fn give_back_spare(free: &mut FreeSet, spare: &[u64])
+    requires few { length spare.now ≤ 1 }
+    requires below { All (λ page. page < free.old.pages) spare.now }
+    requires taken { (page : ℕ) → Contains spare.now page → Contains free.old.free page → ⊥ }
+    ensures { ReturnsSpare free.old free.new spare.now }
+{
+    if let Some(page) = spare.first() {
+        free.give_back(*page);
     }
 }

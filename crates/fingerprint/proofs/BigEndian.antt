@@ -36,12 +36,14 @@ pub big_from-one : (xs ys : List ℕ) → ((k : ℕ) → slice_index xs k < 256)
     → (i j n : ℕ) → big_from i n xs ≡ big_from j n ys → (k : ℕ) → k < n → slice_index xs (i + k) ≡ slice_index ys (j + k)
 big_from-one xs ys bx by i j zero same k lt = absurd (omega arith)
 big_from-one xs ys bx by i j (suc n) same zero lt =
-    let first = digit_one (slice_index xs i) (slice_index ys j) (big_from (suc i) n xs) (big_from (suc j) n ys) (256 ^ n) (big_from-lt (suc i) n xs bx) (big_from-lt (suc j) n ys by) same in
+    let first = digit_one (slice_index xs i) (slice_index ys j) (big_from (suc i) n xs) (big_from (suc j) n ys) (256 ^ n)
+    (big_from-lt (suc i) n xs bx) (big_from-lt (suc j) n ys by) same in
     let left : i + 0 ≡ i = omega arith in
     let right : j + 0 ≡ j = omega arith in
     rw (left, right) first
 big_from-one xs ys bx by i j (suc n) same (suc k) lt =
-    let first = digit_one (slice_index xs i) (slice_index ys j) (big_from (suc i) n xs) (big_from (suc j) n ys) (256 ^ n) (big_from-lt (suc i) n xs bx) (big_from-lt (suc j) n ys by) same in
+    let first = digit_one (slice_index xs i) (slice_index ys j) (big_from (suc i) n xs) (big_from (suc j) n ys) (256 ^ n)
+    (big_from-lt (suc i) n xs bx) (big_from-lt (suc j) n ys by) same in
     let rest = rest_one (slice_index xs i) (slice_index ys j) (big_from (suc i) n xs) (big_from (suc j) n ys) (256 ^ n) first same in
     let left : i + suc k ≡ suc i + k = omega arith in
     let right : j + suc k ≡ suc j + k = omega arith in

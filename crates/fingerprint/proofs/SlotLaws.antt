@@ -1,5 +1,29 @@
 -- What the words of a slot say of its print.
-use Rattle.std.proofs.Common.{◌≡◌, inl, inr, ℕ, ◌+◌, ◌-◌, ◌%◌, ◌^◌, ◌<◌, ◌≤◌, List, [], ◌++◌, length, get_or, drop, take, refl, sym, ◌∙◌, ap, subst, arith}
+use Rattle.std.proofs.Common.{
+  ◌≡◌,
+  inl,
+  inr,
+  ℕ,
+  ◌+◌,
+  ◌-◌,
+  ◌%◌,
+  ◌^◌,
+  ◌<◌,
+  ◌≤◌,
+  List,
+  [],
+  ◌++◌,
+  length,
+  get_or,
+  drop,
+  take,
+  refl,
+  sym,
+  ◌∙◌,
+  ap,
+  subst,
+  arith,
+}
 use Rattle.std.specs.Prelude.{slice_index}
 use Rattle.std.proofs.lemmas.Bool.{cases_lt}
 use Rattle.std.proofs.lemmas.List.{get_or_past}
@@ -20,15 +44,20 @@ byte_of p is k = elim (cases_lt k (length p)) [
 ]
 
 -- a print is known by its three words
-pub print_word-one : (p q : List ℕ) → IsPrint p → IsPrint q → print_word p 0 ≡ print_word q 0 → print_word p 1 ≡ print_word q 1 → print_word p 2 ≡ print_word q 2 → p ≡ q
-print_word-one p q is_p is_q first second third = same_number_lists p q (is_p.twenty ∙ sym is_q.twenty) (λ k lt. at k (let long = is_p.twenty in omega arith))
+pub print_word-one : (p q : List ℕ) → IsPrint p → IsPrint q → print_word p 0 ≡ print_word q 0 → print_word p 1 ≡ print_word q 1
+    → print_word p 2 ≡ print_word q 2 → p ≡ q
+print_word-one p q is_p is_q first second third = same_number_lists p q (is_p.twenty ∙ sym is_q.twenty)
+    (λ k lt. at k (let long = is_p.twenty in omega arith))
   where
     at : (k : ℕ) → k < 20 → get_or p k 0 ≡ get_or q k 0
     at k lt = elim (cases_lt k 8) [
-      | inl low ↦ subst (λ (j : ℕ). slice_index p j ≡ slice_index q j) (omega arith) (be_number-one p q (byte_of p is_p) (byte_of q is_q) 0 8 first k low)
+      | inl low ↦ subst (λ (j : ℕ). slice_index p j ≡ slice_index q j) (omega arith) (be_number-one p q (byte_of p is_p) (byte_of q is_q) 0 8 first k
+          low)
       | inr past ↦ elim (cases_lt k 16) [
-        | inl low ↦ subst (λ (j : ℕ). slice_index p j ≡ slice_index q j) (omega arith) (be_number-one p q (byte_of p is_p) (byte_of q is_q) 8 8 second (k - 8) (omega arith))
-        | inr past ↦ subst (λ (j : ℕ). slice_index p j ≡ slice_index q j) (omega arith) (be_number-one p q (byte_of p is_p) (byte_of q is_q) 16 4 third (k - 16) (omega arith))
+        | inl low ↦ subst (λ (j : ℕ). slice_index p j ≡ slice_index q j) (omega arith) (be_number-one p q (byte_of p is_p) (byte_of q is_q) 8 8 second
+            (k - 8) (omega arith))
+        | inr past ↦ subst (λ (j : ℕ). slice_index p j ≡ slice_index q j) (omega arith) (be_number-one p q (byte_of p is_p) (byte_of q is_q) 16 4
+            third (k - 16) (omega arith))
       ]
     ]
 
@@ -49,7 +78,8 @@ module _ (x y z : ℕ) (x_fits : x < 256 ^ 8) (y_fits : y < 256 ^ 8) (z_fits : z
   pub made-second : print_word made 1 ≡ y
   made-second =
       be_number-is_big_from made 8 8
-      ∙ big_from-append_right 0 8 8 (big_bytes 8 x) (big_bytes 8 y ++ big_bytes 4 z) (length-bytes_high_first 8 x) ∙ big_number-reads_back 8 y (big_bytes 4 z) y_fits
+      ∙ big_from-append_right 0 8 8 (big_bytes 8 x) (big_bytes 8 y ++ big_bytes 4 z) (length-bytes_high_first 8 x) ∙ big_number-reads_back 8 y
+      (big_bytes 4 z) y_fits
 
   pub made-third : print_word made 2 ≡ z
   made-third =
@@ -66,7 +96,12 @@ count_word-one a b c d b_fits d_fits same = (omega arith, omega arith)
 
 -- words that are those of a slot are of one slot
 pub read-one : (words : List ℕ) (slot : FactSlot) → IsSlot slot → IsReadFrom words slot → IsTheSlotOf words slot
-read-one words slot fits read other is same = λ i. record { page = page i; print = print i; count = record { rfc = counts.0 i; uc = counts.1 i }; next = next i }
+read-one words slot fits read other is same = λ i. record {
+  page = page i;
+  print = print i;
+  count = record { rfc = counts.0 i; uc = counts.1 i };
+  next = next i;
+}
   where
     word : (k : ℕ) → slice_index words k ≡ slice_index (slot_words other) k
     word k = ap (λ (ws : List ℕ). slice_index ws k) same
@@ -84,4 +119,5 @@ read-one words slot fits read other is same = λ i. record { page = page i; prin
     low = let lt = be_number-lt other.print is.print 16 4 in omega arith
 
     print : slot.print ≡ other.print
-    print = print_word-one slot.print other.print fits.print is.print (read.first ∙ word 1) (read.second ∙ word 2) (read.third ∙ ap (λ (w : ℕ). w % 2 ^ 32) (word 3) ∙ low)
+    print = print_word-one slot.print other.print fits.print is.print (read.first ∙ word 1) (read.second ∙ word 2)
+        (read.third ∙ ap (λ (w : ℕ). w % 2 ^ 32) (word 3) ∙ low)

@@ -1,5 +1,19 @@
 -- What a print of bytes is.
-use Rattle.std.specs.Prelude.{◌≡◌, ℕ, zero, suc, ◌%◌, ◌^◌, ◌<◌, List, ◌++◌, length, replicate, sum, All}
+use Rattle.std.specs.Prelude.{
+  ◌≡◌,
+  ℕ,
+  zero,
+  suc,
+  ◌%◌,
+  ◌^◌,
+  ◌<◌,
+  List,
+  ◌++◌,
+  length,
+  replicate,
+  sum,
+  All,
+}
 use Rattle.byteorder.specs.Endian.{big_bytes}
 use Rattle.fingerprint.specs.Bytes.{be_number}
 

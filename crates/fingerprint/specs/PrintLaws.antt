@@ -1,5 +1,20 @@
 -- That the two fingerprints of this crate are prints.
-use Rattle.std.proofs.Common.{◌≡◌, ℕ, zero, suc, ◌*◌, ◌%◌, ◌^◌, ◌<◌, List, length, refl, arith, w32, length-append}
+use Rattle.std.proofs.Common.{
+  ◌≡◌,
+  ℕ,
+  zero,
+  suc,
+  ◌*◌,
+  ◌%◌,
+  ◌^◌,
+  ◌<◌,
+  List,
+  length,
+  refl,
+  arith,
+  w32,
+  length-append,
+}
 use Rattle.std.specs.Prelude.{All, sum, replicate, slice_index}
 use Rattle.std.specs.Int.{byte_at, bytes_high_first, to_be_bytes}
 use Rattle.std.proofs.lemmas.List.Elements.{All-nil, All-cons, All-append, All-replicate}
@@ -15,7 +30,8 @@ byte_at-lt (suc k) n = omega arith
 
 bytes-high_first : (k n : ℕ) → All IsByte (bytes_high_first k n)
 bytes-high_first zero n = All-nil IsByte
-bytes-high_first (suc k) n = All-cons IsByte (byte_at k n) (bytes_high_first k n) (byte_at-lt k n) (bytes-high_first k n)
+bytes-high_first (suc k) n = All-cons IsByte (byte_at k n) (bytes_high_first k n) (byte_at-lt k n)
+    (bytes-high_first k n)
 
 pub length-bytes_high_first : (k n : ℕ) → length (bytes_high_first k n) ≡ k
 length-bytes_high_first zero n = refl
@@ -33,7 +49,9 @@ length-digest_bytes h (suc n) =
 bytes-digest_bytes : (h : List ℕ) (n : ℕ) → All IsByte (digest_bytes h n)
 unfolding digest_bytes
 bytes-digest_bytes h zero = All-nil IsByte
-bytes-digest_bytes h (suc n) = All-append IsByte (digest_bytes h n) (to_be_bytes w32 (slice_index h n)) (bytes-digest_bytes h n) (bytes-high_first 4 (slice_index h n))
+bytes-digest_bytes h (suc n) = All-append IsByte (digest_bytes h n)
+    (to_be_bytes w32 (slice_index h n)) (bytes-digest_bytes h n)
+    (bytes-high_first 4 (slice_index h n))
 
 pub sha1-print : (bytes : List ℕ) → IsPrint (sha1 bytes)
 unfolding sha1
@@ -42,5 +60,6 @@ sha1-print bytes = record { twenty = length-digest_bytes _ 5; bytes = bytes-dige
 pub sum-print : (bytes : List ℕ) → IsPrint (sum_print bytes)
 sum-print bytes = record {
   twenty = refl;
-  bytes = All-append IsByte (bytes_high_first 4 (sum bytes % 2 ^ 32)) (replicate 16 0) (bytes-high_first 4 (sum bytes % 2 ^ 32)) (All-replicate IsByte 16 0 (omega arith));
+  bytes = All-append IsByte (bytes_high_first 4 (sum bytes % 2 ^ 32)) (replicate 16 0)
+      (bytes-high_first 4 (sum bytes % 2 ^ 32)) (All-replicate IsByte 16 0 (omega arith));
 }

@@ -14,8 +14,11 @@ IsUse state cut use_of = (state ≡ state_number use_of) × ((k : ℕ) → use_o
 
 pub is_use : (d : Disk) (words : List ℕ) (ino : ℕ) → ino < d.geometry.inodes → Reads (InodesSay d) words
     → IsUse (slice_index words (inode_word ino 0)) (slice_index words (inode_word ino 3)) (d.inode ino).use_of
-is_use d words ino lt reads =
-    (reads (inode_word ino 0) (state_number (d.inode ino).use_of) (at_state ino lt refl refl), λ k dying. reads (inode_word ino 3) k (at_cut ino k lt dying refl refl))
+is_use d words ino lt reads = (
+  reads (inode_word ino 0) (state_number (d.inode ino).use_of) (at_state ino lt refl refl),
+  λ k dying. reads (inode_word ino 3) k
+      (at_cut ino k lt dying refl refl),
+)
 
 pub free_by : (state cut : ℕ) (of : Use) → IsUse state cut of → state ≡ 0 → of ≡ Free
 free_by state cut Free is e = refl

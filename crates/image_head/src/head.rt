@@ -6,22 +6,16 @@ ghost use Rattle.image_head.specs.Heads.{IsSized};
 
 use crate::journal::is_gate;
 use dn_model::ImageFault;
-use pm_layout::{Geometry, PAGE_WORDS};
-
-/// The first word of an image; in an image file its bytes read `DENOVA01`.
-pub const MAGIC: u64 = 0x313041564F4E4544;
-
-/// The second word of an image.
-pub const VERSION: u64 = 1;
-
-/// The fewest words of an image: 64 pages.
-pub const FEWEST_WORDS: usize = 32768;
+use pm_layout::{
+    FEWEST_PAGES, Geometry, INODES_WORD, MAGIC, MAGIC_WORD, PAGE_WORDS, PAGES_WORD, VERSION,
+    VERSION_WORD,
+};
 
 // Whether there are enough words, and the magic comes first.
 fn is_image(image: &[u64]) -> bool
     ensures { IsTrue result ↔ IsImage image.now }
 {
-    image.len() >= FEWEST_WORDS && image[0] == MAGIC
+    image.len() as u64 >= PAGE_WORDS * FEWEST_PAGES && image[MAGIC_WORD as usize] == MAGIC
 }
 
 // The geometry by words 2 and 3, if it is one and the image has just its pages.
@@ -30,7 +24,7 @@ fn sized_geometry(image: &[u64]) -> Option<Geometry>
     ensures some { IfSome result (λ g. (g ≡ geometry_of image.now) × IsSized image.now) }
     ensures none { IsNone result → IsSized image.now → ⊥ }
 {
-    match Geometry::of(image[2], image[3]) {
+    match Geometry::of(image[PAGES_WORD as usize], image[INODES_WORD as usize]) {
         Ok(g) if image.len() as u64 == PAGE_WORDS * g.pages => Some(g),
         _ => None,
     }
@@ -48,7 +42,7 @@ pub fn head_fault(image: &[u64]) -> Option<ImageFault>
     if !is_image(image) {
         return Some(ImageFault::NotAnImage);
     }
-    let found = image[1];
+    let found = image[VERSION_WORD as usize];
     if found != VERSION {
         return Some(ImageFault::WrongVersion { found });
     }
@@ -69,7 +63,7 @@ pub fn geometry_of(image: &[u64]) -> Geometry
     ensures size { length image.now ≡ 512 * result.pages }
 {
     Geometry {
-        pages: image[2],
-        inodes: image[3],
+        pages: image[PAGES_WORD as usize],
+        inodes: image[INODES_WORD as usize],
     }
 }

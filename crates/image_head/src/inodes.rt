@@ -7,20 +7,8 @@ ghost use Rattle.dn_model.specs.Faults.{IsLeast, IsBadInode};
 ghost use Rattle.image_head.specs.Uses.{told_use};
 ghost use Rattle.image_head.specs.Laws.{InodesAreRead, InodesStay};
 
-use pm_layout::Geometry;
-
-// The fields of an inode that are read here.
-const STATE: u64 = 0;
-
-const CUT: u64 = 3;
-
-// The states of an inode that is used.
-const LIVE: u64 = 1;
-
-const DYING: u64 = 2;
-
-// The most pages of a file.
-const MOST_PAGES: u64 = 4096;
+use log_entry::FILE_PAGES;
+use pm_layout::{CUT, DYING, FREE, Geometry, LIVE, STATE};
 
 /// What an inode is used for.
 #[derive(Clone, Copy, Debug, PartialEq, Eq)]
@@ -51,7 +39,7 @@ fn is_bad_inode(words: &[u64], g: &Geometry, ino: u64) -> bool
 {
     let state = field_of(words, g, ino, STATE);
     let cut = field_of(words, g, ino, CUT);
-    state > DYING || (ino == 0 && state != LIVE) || (state == DYING && cut > MOST_PAGES)
+    state > DYING || (ino == 0 && state != LIVE) || (state == DYING && cut > FILE_PAGES)
 }
 
 /// The least inode with a fault in a rolled image: its state is above 2, or it is the root and not live, or it is
@@ -75,10 +63,11 @@ pub fn use_of_inode(words: &[u64], g: &Geometry, ino: u64) -> InodeUse
     requires accepted { IsAccepted g.now }
     requires size { length words.now ≡ 512 * g.now.pages }
     requires ino { ino < g.now.inodes }
-    ensures { (d : Disk) → d.geometry ≡ g.now → Reads (InodesSay d) words.now → (d.inode ino).use_of ≡ told_use result }
+    ensures { (d : Disk) → d.geometry ≡ g.now → Reads (InodesSay d) words.now
+        → (d.inode ino).use_of ≡ told_use result }
 {
     match field_of(words, g, ino, STATE) {
-        0 => InodeUse::Free,
+        FREE => InodeUse::Free,
         LIVE => InodeUse::Live,
         _ => InodeUse::Dying {
             cut: field_of(words, g, ino, CUT),

@@ -6,14 +6,14 @@ ghost use Rattle.dn_model.specs.Faults.{HasGate};
 ghost use Rattle.name_journal.specs.Pairs.{ArePairs};
 
 use name_journal::change::{Change, MOST_CHANGES, are_changes};
-use pm_layout::Geometry;
+use pm_layout::{GATE_WORD, Geometry, PAIRS_WORD};
 use std::alloc::{AllocError, Global};
 
-// The word of the gate.
-const GATE: usize = 512;
+// The word of the gate, as a place in an image.
+const GATE: usize = GATE_WORD as usize;
 
-// The first word of the pairs.
-const PAIRS: usize = 520;
+// The first word of the pairs, as a place in an image.
+const PAIRS: usize = PAIRS_WORD as usize;
 
 // Pair i of the journal, whatever the gate says.
 fn pair(image: &[u64], i: usize) -> Change

@@ -1,5 +1,32 @@
 -- Counting the uses of a page, one after another.
-use Rattle.std.proofs.Common.{take, drop, take_all, ◌++◌, append-nil, ◌≡◌, ◌≢◌, inl, inr, ℕ, zero, suc, ◌+◌, ◌<◌, ◌≤◌, Bool, true, false, List, length, get_or, refl, sym, ◌∙◌, ap, arith}
+use Rattle.std.proofs.Common.{
+  take,
+  drop,
+  take_all,
+  ◌++◌,
+  append-nil,
+  ◌≡◌,
+  ◌≢◌,
+  inl,
+  inr,
+  ℕ,
+  zero,
+  suc,
+  ◌+◌,
+  ◌<◌,
+  ◌≤◌,
+  Bool,
+  true,
+  false,
+  List,
+  length,
+  get_or,
+  refl,
+  sym,
+  ◌∙◌,
+  ap,
+  arith,
+}
 use Rattle.std.specs.Prelude.{slice_index, Option, Some, None, IfSome, Any, if◌then◌else◌, ◌==◌}
 use Rattle.std.specs.List.{list_any}
 use Rattle.std.proofs.lemmas.Bool.{cases_eq, eqb-true, eq-eqb, ne_eqb}
@@ -58,16 +85,19 @@ pub counts-none : (f : ℕ → Option ℕ) (counts : List ℕ) → CountsPages f
 counts-none f counts = record { long = refl; each = λ p lt. omega (arith, total-none (λ k. page_hit p (f k))) }
 
 module _ (f : ℕ → Option ℕ) (n : ℕ) (old mid : List ℕ) (so_far : CountsPages f n old mid) where
-  pub counts-next : (o : Option ℕ) → o ≡ f n → (new : List ℕ) → length new ≡ length mid → ((p : ℕ) → p < length mid → slice_index new p ≡ slice_index mid p + page_hit p o) → CountsPages f (n + 1) old new
+  pub counts-next : (o : Option ℕ) → o ≡ f n → (new : List ℕ) → length new ≡ length mid
+      → ((p : ℕ) → p < length mid → slice_index new p ≡ slice_index mid p + page_hit p o) → CountsPages f (n + 1) old new
   counts-next o is new long each = record {
     long = long ∙ so_far.long;
     each = λ p lt. omega (arith, each p (omega (arith, lt, so_far.long)), so_far.each p lt, total-next (λ k. page_hit p (f k)) n, ap (page_hit p) is);
   }
 
-  pub may-count : (bound : ℕ) → n < bound → ((p : ℕ) → p < length old → slice_index old p + bound < 4294967296) → (p : ℕ) → p < length old → (p < length mid) × (slice_index mid p + 1 < 4294967296)
+  pub may-count : (bound : ℕ) → n < bound → ((p : ℕ) → p < length old → slice_index old p + bound < 4294967296) → (p : ℕ) → p < length old
+      → (p < length mid) × (slice_index mid p + 1 < 4294967296)
   may-count bound lt room p inside = (omega (arith, inside, so_far.long), omega (arith, so_far.each p inside, hits-few p f n, room p inside, lt))
 
-  pub may-count_at : (bound : ℕ) → n < bound → ((p : ℕ) → p < length old → slice_index old p + bound < 4294967296) → ((q : ℕ) → f n ≡ Some q → q < length old)
+  pub may-count_at : (bound : ℕ) → n < bound → ((p : ℕ) → p < length old → slice_index old p + bound < 4294967296)
+      → ((q : ℕ) → f n ≡ Some q → q < length old)
       → (o : Option ℕ) → o ≡ f n → IfSome o (λ p. (p < length mid) × (slice_index mid p + 1 < 4294967296))
   may-count_at bound lt room inside None is = tt
   may-count_at bound lt room inside (Some p) is = may-count bound lt room p (inside p (sym is))
@@ -76,7 +106,8 @@ module _ (f : ℕ → Option ℕ) (n : ℕ) (old mid : List ℕ) (so_far : Count
   pub counts-past : (end : ℕ) → n ≤ end → ((k : ℕ) → n ≤ k → k < end → f k ≡ None) → CountsPages f end old mid
   counts-past end le none = record {
     long = so_far.long;
-    each = λ p lt. so_far.each p lt ∙ ap (λ (t : ℕ). slice_index old p + t) (sym (total-past (λ k. page_hit p (f k)) n end le (λ k low high. ap (page_hit p) (none k low high))));
+    each = λ p lt. so_far.each p lt ∙ ap (λ (t : ℕ). slice_index old p + t)
+        (sym (total-past (λ k. page_hit p (f k)) n end le (λ k low high. ap (page_hit p) (none k low high))));
   }
 
 -- pages none of which comes twice
@@ -100,18 +131,21 @@ module _ (pages : List ℕ) (apart : (j k : ℕ) → j < length pages → k < le
           let at : slice_index pages found.0 ≡ p = sym (get_or_default_zero pages found.0 found.1 found.2) ∙ found.3 ∙ eqb-true found.1 p found.4 in
           let most = total-one hits (length pages) found.0 (λ j lt ne. other j (λ e. ne (apart j found.0 lt found.2 (e ∙ sym at)))) in
           omega (arith, most, term-le hits (length pages) found.0 found.2, one found.0 at)
-      by_test false any = total-zero hits (length pages) (λ j lt. other j (λ e. true_false (sym (list_any_at (λ (q : ℕ). q == p) pages j 0 lt (eq-eqb (slice_index pages j) p e)) ∙ any)))
+      by_test false any = total-zero hits (length pages)
+          (λ j lt. other j (λ e. true_false (sym (list_any_at (λ (q : ℕ). q == p) pages j 0 lt (eq-eqb (slice_index pages j) p e)) ∙ any)))
         where
           true_false : true ≡ false → ⊥
           true_false e = cc
 
   -- so there are no more of them than numbers below a bound
   pub pages-few : (n : ℕ) → ((k : ℕ) → k < length pages → slice_index pages k < n) → length pages ≤ n
-  pages-few n below = length-le_from_distinct_below pages n (IsDistinct-from_AllPairs Decides-eqb pages pairs) (λ q any. small q (Any-from_list_any (λ (x : ℕ). q == x) pages any))
+  pages-few n below = length-le_from_distinct_below pages n (IsDistinct-from_AllPairs Decides-eqb pages pairs)
+      (λ q any. small q (Any-from_list_any (λ (x : ℕ). q == x) pages any))
     where
       pairs : (i j d : ℕ) → i < j → j < length pages → get_or pages i d ≢ get_or pages j d
       pairs i j d lt inside e =
-          let same : slice_index pages i ≡ slice_index pages j = sym (get_or_default_zero pages i d (omega arith)) ∙ e ∙ get_or_default_zero pages j d inside in
+          let same : slice_index pages i ≡ slice_index pages j = sym (get_or_default_zero pages i d (omega arith)) ∙ e ∙ get_or_default_zero pages j d
+          inside in
           omega (arith, apart i j (omega arith) inside same)
 
       small : (q : ℕ) → Any (λ (x : ℕ). (q == x) ≡ true) pages → q < n

@@ -44,7 +44,8 @@ rest (p ∷ ps) = ps
 cons_not_nil : (p : Placed) (ps : List Placed) → p ∷ ps ≡ [] → ⊥
 cons_not_nil p ps e = cc
 
-may_index : (g : Geometry) (ino : ℕ) → IsAccepted g → (pages : List ℕ) (k : ℕ) (xs : List LogItem) (ps : List PlacedItem) → All IsSpelled xs → All (MayStand g ino) xs → map seen ps ≡ placed_from pages k xs → All MayBeIndexed ps
+may_index : (g : Geometry) (ino : ℕ) → IsAccepted g → (pages : List ℕ) (k : ℕ) (xs : List LogItem) (ps : List PlacedItem) → All IsSpelled xs
+    → All (MayStand g ino) xs → map seen ps ≡ placed_from pages k xs → All MayBeIndexed ps
 may_index g ino accepted pages k xs [] spelled may e = All-nil MayBeIndexed
 may_index g ino accepted pages k [] (p ∷ ps) spelled may e = absurd (cons_not_nil (seen p) (map seen ps) e)
 may_index g ino accepted pages k (x ∷ xs) (p ∷ ps) spelled may e =
@@ -52,7 +53,8 @@ may_index g ino accepted pages k (x ∷ xs) (p ∷ ps) spelled may e =
     let s : IsSpelled x = All-head IsSpelled x xs spelled in
     let m : MayStand g ino x = All-head (MayStand g ino) x xs may in
     All-cons MayBeIndexed p ps (subst (λ (y : LogItem). IsSpelled y × HasSmallBlocks y) same (s, small_blocks g ino accepted x s m))
-    (may_index g ino accepted pages (k + length (spelling x)) xs ps (All-tail IsSpelled x xs spelled) (All-tail (MayStand g ino) x xs may) (ap rest e))
+    (may_index g ino accepted pages (k + length (spelling x)) xs ps (All-tail IsSpelled x xs spelled) (All-tail (MayStand g ino) x xs may)
+    (ap rest e))
 
 -- the page to which a place is mapped
 pub block_in : (g : Geometry) (ino : ℕ) (log : Log) → IsLog g ino log → (idx : ℕ) (m : DiskMapping) → mapping log idx ≡ Some m → m.block < g.pages
@@ -61,21 +63,24 @@ block_in g zero log valid idx m is =
     absurd (All-contains (MayStand g 0) log.items (Write s.first s.n s.block s.size s.flag s.mask) valid.standing s.listed)
 block_in g (suc k) log valid idx m is =
     let s = mapping_set_by log idx m is in
-    let may : InData g s.block × InData g (s.block + s.n - 1) = All-contains (MayStand g (suc k)) log.items (Write s.first s.n s.block s.size s.flag s.mask) valid.standing s.listed in
+    let may : InData g s.block × InData g (s.block + s.n - 1) = All-contains (MayStand g (suc k)) log.items
+    (Write s.first s.n s.block s.size s.flag s.mask) valid.standing s.listed in
     omega (arith, s.is, s.low, s.high, may.1.high)
 
 hit_kept : (p : ℕ) (o : Option DiskMapping) → page_hit p (option_map (λ m. m.block) (option_map kept o)) ≡ hit p o
 hit_kept p None = refl
 hit_kept p (Some m) = refl
 
-kept_block : (o : Option DiskMapping) (page : ℕ) → option_map (λ m. m.block) (option_map kept o) ≡ Some page → (m : DiskMapping) × (o ≡ Some m) × (m.block ≡ page)
+kept_block : (o : Option DiskMapping) (page : ℕ) → option_map (λ m. m.block) (option_map kept o) ≡ Some page
+    → (m : DiskMapping) × (o ≡ Some m) × (m.block ≡ page)
 kept_block None page e = cc
 kept_block (Some m) page e = (m, refl, same m.block page e)
   where
     same : (a b : ℕ) → Some a ≡ Some b → a ≡ b
     same a b e = cc
 
-module _ (g : Geometry) (c : List ℕ) (ino : ℕ) (pages : List ℕ) (items : List PlacedItem) (accepted : IsAccepted g) (has : HasWholeLog g c ino pages items) where
+module _ (g : Geometry) (c : List ℕ) (ino : ℕ) (pages : List ℕ) (items : List PlacedItem) (accepted : IsAccepted g)
+    (has : HasWholeLog g c ino pages items) where
   whole : ReadsAs g c ino has.log
   whole = record { reads = has.reads; valid = has.valid }
 
@@ -83,10 +88,12 @@ module _ (g : Geometry) (c : List ℕ) (ino : ℕ) (pages : List ℕ) (items : L
   may_be_indexed = may_index g ino accepted has.log.pages 0 has.log.items items has.valid.spelled has.valid.standing has.items_are
 
   apart : (j k : ℕ) → j < length pages → k < length pages → slice_index pages j ≡ slice_index pages k → j ≡ k
-  apart = subst (λ (ps : List ℕ). (j k : ℕ) → j < length ps → k < length ps → slice_index ps j ≡ slice_index ps k → j ≡ k) (sym has.pages_are) has.valid.paged.apart
+  apart = subst (λ (ps : List ℕ). (j k : ℕ) → j < length ps → k < length ps → slice_index ps j ≡ slice_index ps k → j ≡ k) (sym has.pages_are)
+      has.valid.paged.apart
 
   below : (k : ℕ) → k < length pages → slice_index pages k < g.pages
-  below = subst (λ (ps : List ℕ). (k : ℕ) → k < length ps → slice_index ps k < g.pages) (sym has.pages_are) (λ k lt. (has.valid.paged.in_data k lt).high)
+  below = subst (λ (ps : List ℕ). (k : ℕ) → k < length ps → slice_index ps k < g.pages) (sym has.pages_are)
+      (λ k lt. (has.valid.paged.in_data k lt).high)
 
   pub all_below : All (λ (p : ℕ). p < g.pages) pages
   all_below k d lt = subst (λ (p : ℕ). p < g.pages) (sym (get_or_default_zero pages k d lt)) (below k lt)
@@ -103,14 +110,16 @@ module _ (g : Geometry) (c : List ℕ) (ino : ℕ) (pages : List ℕ) (items : L
     module _ (end : ℕ) (old new : LogsRead) (room : HasRoom g old) (small : end ≤ 4096) where
       pub adds_log : new.files ≡ old.files → new.dying ≡ old.dying → (ino ≢ 0 → new.names.map ≡ old.names.map)
           → (ino ≡ 0 → (log : Log) → map seen items ≡ placed log → IsNamesOf log new.names.map)
-          → CountsPages (listed pages) (length pages) old.in_logs.items new.in_logs.items → CountsPages (mapped_by index.map.map) end old.mapped.items new.mapped.items
+          → CountsPages (listed pages) (length pages) old.in_logs.items new.in_logs.items → CountsPages (mapped_by index.map.map) end old.mapped.items
+          new.mapped.items
           → AddsLog g c ino end old new
       adds_log files dying same root logs places = record {
         faultless = λ place fault. log_or_fault g c ino place has.log whole fault;
         files = files;
         dying = dying;
         same_names = same;
-        root_names = λ e log reads. root e log (has.items_are ∙ ap placed (one_log g c ino has.log log whole (subst (λ (i : ℕ). ReadsAs g c i log) (sym e) reads)));
+        root_names = λ e log reads. root e log
+            (has.items_are ∙ ap placed (one_log g c ino has.log log whole (subst (λ (i : ℕ). ReadsAs g c i log) (sym e) reads)));
         long_logs = logs.long;
         long_mapped = places.long;
         few_logs = λ p lt. omega (arith, logs.each p (omega (arith, lt, room.long_logs)), hits-few p (listed pages) (length pages), few_pages);
@@ -118,13 +127,15 @@ module _ (g : Geometry) (c : List ℕ) (ino : ℕ) (pages : List ℕ) (items : L
         in_logs = λ log reads p lt.
             let same_log : has.log ≡ log = one_log g c ino has.log log whole reads in
             logs.each p (omega (arith, lt, room.long_logs))
-            ∙ ap (λ (n : ℕ). slice_index old.in_logs.items p + n) (listed-once pages apart p ∙ ap (λ (l : Log). log_page l p) same_pages ∙ ap (λ (l : Log). log_page l p) same_log);
+            ∙ ap (λ (n : ℕ). slice_index old.in_logs.items p + n) (listed-once pages apart p ∙ ap (λ (l : Log). log_page l p) same_pages ∙ ap
+            (λ (l : Log). log_page l p) same_log);
         mapped = λ log reads p lt.
             let same_log : has.log ≡ log = one_log g c ino has.log log whole reads in
             places.each p (omega (arith, lt, room.long_mapped))
             ∙ ap (λ (n : ℕ). slice_index old.mapped.items p + n)
             (total-same (λ idx. hit p (mapping log idx)) (λ idx. page_hit p (mapped_by index.map.map idx)) end
-            (λ idx below. ap (λ o. page_hit p (option_map (λ m. m.block) o)) ((is log (has.items_are ∙ ap placed same_log)).places idx) ∙ hit_kept p (mapping log idx)));
+            (λ idx below. ap (λ o. page_hit p (option_map (λ m. m.block) o)) ((is log (has.items_are ∙ ap placed same_log)).places idx) ∙ hit_kept p
+            (mapping log idx)));
       }
         where
           same_pages : record { pages = pages; items = has.log.items } ≡ has.log

@@ -19,7 +19,26 @@ use Rattle.log_walk.specs.Laws.{ReadsAs}
 use Rattle.image_logs.specs.declared.logs.LogsRead.{LogsRead}
 use Rattle.image_logs.specs.declared.logs.LogsFault.{LogsFault}
 use Rattle.image_logs.specs.declared.logs.LogsFault.TheVariants.{BadLog, NoMemory}
-use Rattle.image_logs.specs.Logs.{IsInUse, IsSaid, log_page, log_hit, logs_with, AreCounted, AreRead, IsFirstFault, IsFaultOfEach, AddsLog, HasRoom, IsOneFault, IsEnd, CountsUse, AddsInode, adds_none, adds_log, IsEmptyRead}
+use Rattle.image_logs.specs.Logs.{
+  IsInUse,
+  IsSaid,
+  log_page,
+  log_hit,
+  logs_with,
+  AreCounted,
+  AreRead,
+  IsFirstFault,
+  IsFaultOfEach,
+  AddsLog,
+  HasRoom,
+  IsOneFault,
+  IsEnd,
+  CountsUse,
+  AddsInode,
+  adds_none,
+  adds_log,
+  IsEmptyRead,
+}
 use Rattle.image_logs.specs.LogsLoop.{IsCountedOf, IsCountedTo}
 use Rattle.image_logs.proofs.Hits.{total-next, total-none, total-past}
 
@@ -83,9 +102,11 @@ module _ (d : Disk) (ino : ℕ) where
 
   -- the places of a free, of a live and of a dying inode
   free_places : (p : ℕ) → (d.inode ino).use_of ≡ Free → total 4096 (λ idx. hit p (maps d ino idx)) ≡ 0
-  free_places p e = total-same (λ idx. hit p None) (λ idx. hit p (maps d ino idx)) 4096 (λ idx lt. ap (hit p) (maps_are Free e idx)) ∙ hits_zero p 4096
+  free_places p e = total-same (λ idx. hit p None) (λ idx. hit p (maps d ino idx)) 4096 (λ idx lt. ap (hit p) (maps_are Free e idx)) ∙ hits_zero p
+      4096
 
-  live_places : (p end : ℕ) → (d.inode ino).use_of ≡ Live → end ≡ 4096 → total 4096 (λ idx. hit p (maps d ino idx)) ≡ total end (λ idx. hit p (mapping (d.inode ino).log idx))
+  live_places : (p end : ℕ) → (d.inode ino).use_of ≡ Live → end ≡ 4096 → total 4096 (λ idx. hit p (maps d ino idx)) ≡ total end
+      (λ idx. hit p (mapping (d.inode ino).log idx))
   live_places p end e all =
       total-same (λ idx. hit p (mapping (d.inode ino).log idx)) (λ idx. hit p (maps d ino idx)) 4096 (λ idx lt. ap (hit p) (maps_are Live e idx))
       ∙ ap (λ (n : ℕ). total n (λ idx. hit p (mapping (d.inode ino).log idx))) (sym all)
@@ -93,7 +114,9 @@ module _ (d : Disk) (ino : ℕ) where
   dying_places : (p end cut : ℕ) → (d.inode ino).use_of ≡ Dying cut → end ≤ 4096 → (cut ≤ 4096 → end ≡ cut) → (4096 ≤ cut → end ≡ 4096)
       → total 4096 (λ idx. hit p (maps d ino idx)) ≡ total end (λ idx. hit p (mapping (d.inode ino).log idx))
   dying_places p end cut e most below past =
-      total-past (λ idx. hit p (maps d ino idx)) end 4096 most (λ idx low high. ap (hit p) (maps_are (Dying cut) e idx ∙ ap (λ (b : Bool). if b then mapping (d.inode ino).log idx else None) (gone idx low high)))
+      total-past (λ idx. hit p (maps d ino idx)) end 4096 most
+      (λ idx low high. ap (hit p) (maps_are (Dying cut) e idx ∙ ap (λ (b : Bool). if b then mapping (d.inode ino).log idx else None)
+      (gone idx low high)))
       ∙ total-same (λ idx. hit p (mapping (d.inode ino).log idx)) (λ idx. hit p (maps d ino idx)) end
       (λ idx lt. ap (hit p) (maps_are (Dying cut) e idx ∙ ap (λ (b : Bool). if b then mapping (d.inode ino).log idx else None) (there idx lt)))
     where
@@ -160,10 +183,22 @@ module _ (g : Geometry) (c : List ℕ) (k : ℕ) (old : LogsRead) (so_far : IsCo
       faultless = faultless-next (λ place used fault. used free);
       counted = λ d said.
           let before = so_far.counted d said in
-          let is_free : (d.inode k).use_of ≡ Free = free_use (d.inode k).use_of (sym (state_word g c d said.geometry said.inodes k in_table) ∙ free) in
+          let is_free : (d.inode k).use_of ≡ Free = free_use (d.inode k).use_of (sym (state_word g c d said.geometry said.inodes k in_table) ∙ free)
+          in
           record {
-            in_logs = λ p lt. omega (arith, before.in_logs p lt, total-next (λ ino. log_hit p (d.inode ino).use_of (d.inode ino).log) k, ap (λ (u : Use). log_hit p u (d.inode k).log) is_free);
-            mapped = λ p lt. omega (arith, before.mapped p lt, total-next (λ ino. total 4096 (λ idx. hit p (maps d ino idx))) k, free_places d k p is_free);
+            in_logs = λ p lt. omega (
+              arith,
+              before.in_logs p lt,
+              total-next (λ ino. log_hit p (d.inode ino).use_of (d.inode ino).log) k,
+              ap (λ (u : Use). log_hit p u (d.inode k).log) is_free,
+            );
+            mapped = λ p lt. omega (
+              arith,
+              before.mapped p lt,
+              total-next (λ ino. total 4096 (λ idx. hit p (maps d ino idx))) k,
+              free_places d k p
+                  is_free,
+            );
             files = omega (arith, before.files, total-next (λ ino. file_hit ino (d.inode ino).use_of) k, ap (file_hit k) is_free, file_free k);
             dying = omega (arith, before.dying, total-next (λ ino. dying_hit (d.inode ino).use_of) k, ap dying_hit is_free);
             names = λ le. elim (cases_eq k 0) [
@@ -182,7 +217,8 @@ module _ (g : Geometry) (c : List ℕ) (k : ℕ) (old : LogsRead) (so_far : IsCo
       state = slice_index c (inode_word k 0)
 
       -- only the two counts of inodes differ
-      kept_parts : {X : Type 0} (part : LogsRead → X) → ((r : LogsRead) (n : ℕ) → part (record r { files = n }) ≡ part r) → ((r : LogsRead) (n : ℕ) → part (record r { dying = n }) ≡ part r) → part new ≡ part mid
+      kept_parts : {X : Type 0} (part : LogsRead → X) → ((r : LogsRead) (n : ℕ) → part (record r { files = n }) ≡ part r)
+          → ((r : LogsRead) (n : ℕ) → part (record r { dying = n }) ≡ part r) → part new ≡ part mid
       kept_parts {X = X} part by_files by_dying = elim (cases_eq state 1) [
         | inl live ↦ elim (cases_eq k 0) [
           | inl root ↦ ap part (counts.root live root)
@@ -236,7 +272,12 @@ module _ (g : Geometry) (c : List ℕ) (k : ℕ) (old : LogsRead) (so_far : IsCo
 
         reads : ReadsAs g c k log
         reads = subst (λ (h : Geometry). ReadsAs h c k log) said.geometry (record {
-          reads = λ a v says. said.logs a v (record { ino = k; in_table = in_disk g c d said.geometry said.inodes k in_table; used = is_used; says = says });
+          reads = λ a v says. said.logs a v (record {
+            ino = k;
+            in_table = in_disk g c d said.geometry said.inodes k in_table;
+            used = is_used;
+            says = says;
+          });
           valid = said.valid k (in_disk g c d said.geometry said.inodes k in_table) is_used;
         })
 
@@ -253,11 +294,26 @@ module _ (g : Geometry) (c : List ℕ) (k : ℕ) (old : LogsRead) (so_far : IsCo
             at_root : k ≡ 0 → get mid.names.map name ≡ named d name
             at_root root = adds.root_names root (d.inode 0).log (subst (λ (i : ℕ). ReadsAs g c i (d.inode i).log) root reads) name ∙ sym is_named
 
-        one_more : ((p : ℕ) → log_hit p (d.inode k).use_of log ≡ log_page log p) → ((p : ℕ) → total 4096 (λ idx. hit p (maps d k idx)) ≡ total end (λ idx. hit p (mapping log idx)))
+        one_more : ((p : ℕ) → log_hit p (d.inode k).use_of log ≡ log_page log p)
+            → ((p : ℕ) → total 4096 (λ idx. hit p (maps d k idx)) ≡ total end (λ idx. hit p (mapping log idx)))
             → new.files ≡ mid.files + file_hit k (d.inode k).use_of → new.dying ≡ mid.dying + dying_hit (d.inode k).use_of → IsCountedOf d (k + 1) new
         one_more hits places files dying = record {
-          in_logs = λ p lt. omega (arith, at_page new.in_logs.items mid.in_logs.items p same_logs, adds.in_logs log reads p (pages_same p lt), before.in_logs p lt, hits p, total-next (λ ino. log_hit p (d.inode ino).use_of (d.inode ino).log) k);
-          mapped = λ p lt. omega (arith, at_page new.mapped.items mid.mapped.items p same_mapped, adds.mapped log reads p (pages_same p lt), before.mapped p lt, places p, total-next (λ ino. total 4096 (λ idx. hit p (maps d ino idx))) k);
+          in_logs = λ p lt. omega (
+            arith,
+            at_page new.in_logs.items mid.in_logs.items p same_logs,
+            adds.in_logs log reads p (pages_same p lt),
+            before.in_logs p lt,
+            hits p,
+            total-next (λ ino. log_hit p (d.inode ino).use_of (d.inode ino).log) k,
+          );
+          mapped = λ p lt. omega (
+            arith,
+            at_page new.mapped.items mid.mapped.items p same_mapped,
+            adds.mapped log reads p (pages_same p lt),
+            before.mapped p lt,
+            places p,
+            total-next (λ ino. total 4096 (λ idx. hit p (maps d ino idx))) k,
+          );
           files = omega (arith, files, adds.files, before.files, total-next (λ ino. file_hit ino (d.inode ino).use_of) k);
           dying = omega (arith, dying, adds.dying, before.dying, total-next (λ ino. dying_hit (d.inode ino).use_of) k);
           names = λ le. names-next;
@@ -281,7 +337,8 @@ module _ (g : Geometry) (c : List ℕ) (k : ℕ) (old : LogsRead) (so_far : IsCo
             let other : state ≢ 1 = λ one. omega (arith, one, two) in
             let at_cut_word : slice_index c (inode_word k 3) ≡ cut = cut_word g c d said.geometry said.inodes k in_table cut e in
             one_more (λ p. ap (λ (u : Use). log_hit p u log) e)
-            (λ p. dying_places d k p end cut e ends.most (λ le. ends.below other (omega (arith, le, at_cut_word)) ∙ at_cut_word) (λ ge. ends.past other (omega (arith, ge, at_cut_word))))
+            (λ p. dying_places d k p end cut e ends.most (λ le. ends.below other (omega (arith, le, at_cut_word)) ∙ at_cut_word)
+            (λ ge. ends.past other (omega (arith, ge, at_cut_word))))
             (omega (arith, ap (λ (r : LogsRead). r.files) (counts.dying other), ap (file_hit k) e, file_dying k cut))
             (omega (arith, ap (λ (r : LogsRead). r.dying) (counts.dying other), ap dying_hit e))
 
@@ -320,7 +377,8 @@ fault-of_each g c (BadLog ino place) is = λ d same says. record {
   least = record {
     below = omega (arith, is.in_table, ap (λ (h : Geometry). h.inodes) same);
     has = (used_from g c d same says ino is.in_table is.used, (place, subst (λ (h : Geometry). LogFault h c ino place) (sym same) is.fault));
-    least = λ m lt bad. is.first m bad.1.0 lt (used_to g c d same says m (omega (arith, lt, is.in_table)) bad.0) (subst (λ (h : Geometry). LogFault h c m bad.1.0) same bad.1.1);
+    least = λ m lt bad. is.first m bad.1.0 lt (used_to g c d same says m (omega (arith, lt, is.in_table)) bad.0)
+        (subst (λ (h : Geometry). LogFault h c m bad.1.0) same bad.1.1);
   };
 }
 

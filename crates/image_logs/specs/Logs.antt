@@ -1,5 +1,19 @@
 -- What all logs of an image say of its pages, its inodes and its names.
-use Rattle.std.specs.Prelude.{◌≡◌, ◌≢◌, ℕ, zero, suc, ◌+◌, ◌<◌, ◌≤◌, if◌then◌else◌, ◌==◌, List, length, slice_index}
+use Rattle.std.specs.Prelude.{
+  ◌≡◌,
+  ◌≢◌,
+  ℕ,
+  zero,
+  suc,
+  ◌+◌,
+  ◌<◌,
+  ◌≤◌,
+  if◌then◌else◌,
+  ◌==◌,
+  List,
+  length,
+  slice_index,
+}
 use Rattle.std.specs.List.{list_any}
 use Rattle.std.specs.FinMap.{get}
 use Rattle.pm_device.specs.Reading.{Reads}
@@ -30,7 +44,8 @@ pub record IsSaid (g : Geometry) (c : List ℕ) (d : Disk) : Type 0 where
   pub inodes : Reads (InodesSay d) c
   pub root : (d.inode 0).use_of ≡ Live
   pub logs : Reads (LogsSay d) c
-  pub valid : (ino : ℕ) → ino < d.geometry.inodes → IsUsed (d.inode ino).use_of → IsLog d.geometry ino (d.inode ino).log
+  pub valid : (ino : ℕ) → ino < d.geometry.inodes → IsUsed (d.inode ino).use_of
+      → IsLog d.geometry ino (d.inode ino).log
 
 -- 1 where the log has the page
 abbrev pub log_page : Log → ℕ → ℕ
@@ -44,12 +59,15 @@ log_hit page (Dying cut) log = log_page log page
 
 -- how many logs of used inodes have the page
 unfoldable pub logs_with : Disk → ℕ → ℕ
-logs_with d page = total d.geometry.inodes (λ ino. log_hit page (d.inode ino).use_of (d.inode ino).log)
+logs_with d page = total d.geometry.inodes
+    (λ ino. log_hit page (d.inode ino).use_of (d.inode ino).log)
 
 -- so the logs of this state are read
 pub record AreCounted (d : Disk) (read : LogsRead) : Type 0 where
-  pub in_logs : (page : ℕ) → page < d.geometry.pages → slice_index read.in_logs.items page ≡ logs_with d page
-  pub mapped : (page : ℕ) → page < d.geometry.pages → slice_index read.mapped.items page ≡ mappings d page
+  pub in_logs : (page : ℕ) → page < d.geometry.pages → slice_index read.in_logs.items
+      page ≡ logs_with d page
+  pub mapped : (page : ℕ) → page < d.geometry.pages → slice_index read.mapped.items page ≡ mappings
+      d page
   pub files : read.files ≡ files_in d
   pub dying : read.dying ≡ dying_in d
   pub names : (name : List ℕ) → get read.names.map name ≡ named d name
@@ -76,10 +94,12 @@ IsFirstFault g c NoMemory = Unit {0}
 pub record IsFaultIn (d : Disk) (c : List ℕ) (ino place : ℕ) : Type 0 where
   pub used : IsUsed (d.inode ino).use_of
   pub fault : LogFault d.geometry c ino place
-  pub least : IsLeast d.geometry.inodes (λ i. IsUsed (d.inode i).use_of × ((n : ℕ) × LogFault d.geometry c i n)) ino
+  pub least : IsLeast d.geometry.inodes
+      (λ i. IsUsed (d.inode i).use_of × ((n : ℕ) × LogFault d.geometry c i n)) ino
 
 abbrev pub IsFaultOfEach : Geometry → List ℕ → LogsFault → Type 0
-IsFaultOfEach g c (BadLog ino place) = (d : Disk) → d.geometry ≡ g → Reads (InodesSay d) c → IsFaultIn d c ino place
+IsFaultOfEach g c (BadLog ino place) = (d : Disk) → d.geometry ≡ g → Reads (InodesSay d) c
+    → IsFaultIn d c ino place
 IsFaultOfEach g c NoMemory = Unit {0}
 
 -- what is kept of one log more, of which the places below the end are counted
@@ -91,10 +111,15 @@ pub record AddsLog (g : Geometry) (c : List ℕ) (ino end : ℕ) (old new : Logs
   pub root_names : ino ≡ 0 → (log : Log) → ReadsAs g c 0 log → IsNamesOf log new.names.map
   pub long_logs : length new.in_logs.items ≡ length old.in_logs.items
   pub long_mapped : length new.mapped.items ≡ length old.mapped.items
-  pub few_logs : (p : ℕ) → p < g.pages → slice_index new.in_logs.items p ≤ slice_index old.in_logs.items p + 65536
-  pub few_mapped : (p : ℕ) → p < g.pages → slice_index new.mapped.items p ≤ slice_index old.mapped.items p + 4096
-  pub in_logs : (log : Log) → ReadsAs g c ino log → (p : ℕ) → p < g.pages → slice_index new.in_logs.items p ≡ slice_index old.in_logs.items p + log_page log p
-  pub mapped : (log : Log) → ReadsAs g c ino log → (p : ℕ) → p < g.pages → slice_index new.mapped.items p ≡ slice_index old.mapped.items p + total end (λ idx. hit p (mapping log idx))
+  pub few_logs : (p : ℕ) → p < g.pages → slice_index new.in_logs.items p ≤ slice_index
+      old.in_logs.items p + 65536
+  pub few_mapped : (p : ℕ) → p < g.pages → slice_index new.mapped.items p ≤ slice_index
+      old.mapped.items p + 4096
+  pub in_logs : (log : Log) → ReadsAs g c ino log → (p : ℕ) → p < g.pages
+      → slice_index new.in_logs.items p ≡ slice_index old.in_logs.items p + log_page log p
+  pub mapped : (log : Log) → ReadsAs g c ino log → (p : ℕ) → p < g.pages
+      → slice_index new.mapped.items p ≡ slice_index old.mapped.items p + total end
+      (λ idx. hit p (mapping log idx))
 
 -- the counts so far leave room for one log more
 pub record HasRoom (g : Geometry) (read : LogsRead) : Type 0 where
@@ -124,8 +149,10 @@ pub record IsEnd (state cut end : ℕ) : Type 0 where
 -- what is kept of one inode more
 pub data AddsInode (g : Geometry) (c : List ℕ) (ino : ℕ) (old new : LogsRead) : Type 0 where
   adds_none : slice_index c (inode_word ino 0) ≡ 0 → new ≡ old → AddsInode g c ino old new
-  adds_log : (end : ℕ) (mid : LogsRead) → IsInUse c ino → IsEnd (slice_index c (inode_word ino 0)) (slice_index c (inode_word ino 3)) end
-      → AddsLog g c ino end old mid → CountsUse ino (slice_index c (inode_word ino 0)) mid new → AddsInode g c ino old new
+  adds_log : (end : ℕ) (mid : LogsRead) → IsInUse c ino → IsEnd (slice_index c (inode_word ino 0))
+      (slice_index c (inode_word ino 3)) end
+      → AddsLog g c ino end old mid → CountsUse ino (slice_index c (inode_word ino 0)) mid new
+      → AddsInode g c ino old new
 
 pub record IsEmptyRead (g : Geometry) (read : LogsRead) : Type 0 where
   pub long_logs : length read.in_logs.items ≡ g.pages

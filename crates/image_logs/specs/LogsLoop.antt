@@ -12,8 +12,10 @@ use Rattle.image_logs.specs.Logs.{IsInUse, IsSaid, log_hit}
 
 -- what the first k inodes of this state say
 pub record IsCountedOf (d : Disk) (k : ℕ) (read : LogsRead) : Type 0 where
-  pub in_logs : (p : ℕ) → p < d.geometry.pages → slice_index read.in_logs.items p ≡ total k (λ ino. log_hit p (d.inode ino).use_of (d.inode ino).log)
-  pub mapped : (p : ℕ) → p < d.geometry.pages → slice_index read.mapped.items p ≡ total k (λ ino. total 4096 (λ idx. hit p (maps d ino idx)))
+  pub in_logs : (p : ℕ) → p < d.geometry.pages → slice_index read.in_logs.items p ≡ total k
+      (λ ino. log_hit p (d.inode ino).use_of (d.inode ino).log)
+  pub mapped : (p : ℕ) → p < d.geometry.pages → slice_index read.mapped.items p ≡ total k
+      (λ ino. total 4096 (λ idx. hit p (maps d ino idx)))
   pub files : read.files ≡ total k (λ ino. file_hit ino (d.inode ino).use_of)
   pub dying : read.dying ≡ total k (λ ino. dying_hit (d.inode ino).use_of)
   pub names : 1 ≤ k → (name : List ℕ) → get read.names.map name ≡ named d name

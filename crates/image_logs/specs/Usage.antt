@@ -1,5 +1,18 @@
 -- How often pages are used: by logs, and by places that are mapped.
-use Rattle.std.specs.Prelude.{◌≡◌, ℕ, ◌+◌, ◌<◌, if◌then◌else◌, ◌==◌, List, length, slice_index, Option, Some, None}
+use Rattle.std.specs.Prelude.{
+  ◌≡◌,
+  ℕ,
+  ◌+◌,
+  ◌<◌,
+  if◌then◌else◌,
+  ◌==◌,
+  List,
+  length,
+  slice_index,
+  Option,
+  Some,
+  None,
+}
 use Rattle.std.specs.Option.{option_map}
 use Rattle.std.specs.Ordering.{nat_cmp}
 use Rattle.std.specs.FinMap.{FinMap, get}
@@ -22,4 +35,5 @@ mapped_by map idx = option_map (λ (m : Mapping). m.block) (get map idx)
 -- each page's count has grown by how often it is among the first n
 pub record CountsPages (f : ℕ → Option ℕ) (n : ℕ) (old new : List ℕ) : Type 0 where
   pub long : length new ≡ length old
-  pub each : (p : ℕ) → p < length old → slice_index new p ≡ slice_index old p + total n (λ k. page_hit p (f k))
+  pub each : (p : ℕ) → p < length old → slice_index new p ≡ slice_index old p + total n
+      (λ k. page_hit p (f k))

@@ -10,19 +10,15 @@ ghost use Rattle.file_scan.specs.Names.{IsNamesOf};
 ghost use Rattle.image_logs.specs.Logs.{AreRead, IsFirstFault, IsFaultOfEach, AddsLog, HasRoom, IsOneFault, IsInUse, AddsInode, IsEmptyRead, IsEnd, CountsUse};
 
 use crate::usage::{count_pages, count_places};
-use file_index::{MOST_PLACES, NameMap};
+use file_index::NameMap;
 use file_scan::{FileIndex, index_items, index_names};
 use inode_table::{InodeSlot, read_inode};
+use log_entry::FILE_PAGES;
 use log_walk::{LogRead, Placed, WalkFault, walk_log};
 use pm_device::Pm;
-use pm_layout::Geometry;
+use pm_layout::{FREE, Geometry, LIVE};
 use std::alloc::Global;
 use thiserror::Error;
-
-// The states of an inode, but for that of a dying one.
-const FREE: u64 = 0;
-
-const LIVE: u64 = 1;
 
 /// Why the logs of an image can't be read.
 #[derive(Clone, Copy, Debug, PartialEq, Eq, Error)]
@@ -60,7 +56,8 @@ fn read_log<D: Pm>(alloc: Global, device: &D, g: &Geometry, ino: u64) -> Result<
     requires accepted { IsAccepted g.now }
     requires size { length (D.state device.now).now ≡ 512 * g.now.pages }
     requires ino { ino < g.now.inodes }
-    ensures log { IfOk result (λ read. HasWholeLog g.now (D.state device.now).now ino read.pages.items read.items.items) }
+    ensures log { IfOk result (λ read. HasWholeLog g.now (D.state device.now).now ino
+        read.pages.items read.items.items) }
     ensures fault { IfErr result (IsOneFault g.now (D.state device.now).now ino) }
 {
     match walk_log(alloc, device, g, ino) {
@@ -73,7 +70,8 @@ fn read_log<D: Pm>(alloc: Global, device: &D, g: &Geometry, ino: u64) -> Result<
 // The places of a log's file.
 fn index_log(alloc: Global, items: &[Placed]) -> Result<FileIndex, LogsFault>
     requires { All MayBeIndexed items.now }
-    ensures index { IfOk result (λ index. (log : Log) → map seen items.now ≡ placed log → IsIndexOf log index) }
+    ensures index { IfOk result (λ index. (log : Log) → map seen items.now ≡ placed log
+        → IsIndexOf log index) }
     ensures fault { IfErr result (λ fault. fault ≡ LogsFault.NoMemory) }
 {
     match index_items(alloc, items) {
@@ -90,7 +88,8 @@ fn add_names(
     items: &[Placed],
 ) -> Result<(), LogsFault>
     ensures same { OnOk result (ino ≢ 0 → names.new.map ≡ names.old.map) }
-    ensures root { OnOk result (ino ≡ 0 → (log : Log) → map seen items.now ≡ placed log → IsNamesOf log names.new.map) }
+    ensures root { OnOk result (ino ≡ 0 → (log : Log) → map seen items.now ≡ placed log
+        → IsNamesOf log names.new.map) }
     ensures fault { IfErr result (λ fault. fault ≡ LogsFault.NoMemory) }
 {
     if ino != 0 {
@@ -134,8 +133,8 @@ fn add_log<D: Pm>(
 fn places_end(slot: &InodeSlot) -> u64
     ensures { IsEnd slot.now.state slot.now.cut result }
 {
-    if slot.state == LIVE || slot.cut > MOST_PLACES {
-        MOST_PLACES
+    if slot.state == LIVE || slot.cut > FILE_PAGES {
+        FILE_PAGES
     } else {
         slot.cut
     }
@@ -170,7 +169,8 @@ fn add_inode<D: Pm>(
     requires files { read.old.files ≤ ino }
     requires dying { read.old.dying ≤ ino }
     ensures adds { OnOk result (AddsInode g.now (D.state device.now).now ino read.old read.new) }
-    ensures used { IfErr result (λ fault. fault ≢ LogsFault.NoMemory → IsInUse (D.state device.now).now ino) }
+    ensures used { IfErr result (λ fault. fault ≢ LogsFault.NoMemory
+        → IsInUse (D.state device.now).now ino) }
     ensures fault { IfErr result (IsOneFault g.now (D.state device.now).now ino) }
 {
     let slot = read_inode(device, g, ino);

@@ -9,7 +9,8 @@ use file_index::PageMap;
 fn count_page(counts: &mut [u32], page: Option<u64>)
     requires { IfSome page (λ p. (p < length counts.old) × (slice_index counts.old p + 1 < 2 ^ 32)) }
     ensures long { length counts.new ≡ length counts.old }
-    ensures each { (p : ℕ) → p < length counts.old → slice_index counts.new p ≡ slice_index counts.old p + page_hit p page }
+    ensures each { (p : ℕ) → p < length counts.old → slice_index counts.new p ≡ slice_index
+        counts.old p + page_hit p page }
 {
     if let Some(page) = page {
         counts[page as usize] += 1;
@@ -19,7 +20,8 @@ fn count_page(counts: &mut [u32], page: Option<u64>)
 // Counts one more use of each of these pages.
 pub(crate) fn count_pages(counts: &mut [u32], pages: &[u64])
     requires inside { All (λ page. page < length counts.old) pages.now }
-    requires room { (p : ℕ) → p < length counts.old → slice_index counts.old p + length pages.now < 2 ^ 32 }
+    requires room { (p : ℕ) → p < length counts.old → slice_index counts.old p + length pages.now <
+        2 ^ 32 }
     ensures { CountsPages (listed pages.now) (length pages.now) counts.old counts.new }
 {
     for (i, page) in pages.iter().enumerate() {
@@ -51,7 +53,8 @@ fn places_below(map: &PageMap, end: u64) -> u64
 // Counts one more use of the page of each place below the end that is mapped.
 pub(crate) fn count_places(counts: &mut [u32], map: &PageMap, end: u64)
     requires few { end ≤ 4096 }
-    requires inside { (idx page : ℕ) → mapped_by map.now.map idx ≡ Some page → page < length counts.old }
+    requires inside { (idx page : ℕ) → mapped_by map.now.map idx ≡ Some page
+        → page < length counts.old }
     requires room { (p : ℕ) → p < length counts.old → slice_index counts.old p + end < 2 ^ 32 }
     ensures { CountsPages (mapped_by map.now.map) end counts.old counts.new }
 {

@@ -43,17 +43,31 @@ hit-some i ino some = elim (cases_eq ino i) [
 ]
 
 -- counting names
-pub names-none : (entries : List (List ℕ × ℕ)) (inodes : ℕ) (links : List ℕ) → length links ≡ inodes → ((i : ℕ) → i < inodes → slice_index links i ≡ 0) → CountsNames entries 0 inodes links
+pub names-none : (entries : List (List ℕ × ℕ)) (inodes : ℕ) (links : List ℕ) → length links ≡ inodes
+    → ((i : ℕ) → i < inodes → slice_index links i ≡ 0) → CountsNames entries 0 inodes links
 names-none entries inodes links long none = record { long = long; each = λ i lt. none i lt ∙ sym (total-none (λ k. name_hit i (ino_at entries k))) }
 
-pub names-few : (entries : List (List ℕ × ℕ)) (n inodes : ℕ) (links : List ℕ) → CountsNames entries n inodes links → (i : ℕ) → i < inodes → slice_index links i ≤ n
-names-few entries n inodes links so_far i lt = omega (arith, so_far.each i lt, total-few (λ k. name_hit i (ino_at entries k)) n (λ k. hit-few i (ino_at entries k)))
+pub names-few : (entries : List (List ℕ × ℕ)) (n inodes : ℕ) (links : List ℕ) → CountsNames entries n inodes links → (i : ℕ) → i < inodes
+    → slice_index links i ≤ n
+names-few entries n inodes links so_far i lt = omega (
+  arith,
+  so_far.each i lt,
+  total-few (λ k. name_hit i (ino_at entries k)) n
+      (λ k. hit-few i (ino_at entries k)),
+)
 
-pub names-next : (entries : List (List ℕ × ℕ)) (n inodes : ℕ) (links new : List ℕ) (ino : ℕ) → CountsNames entries n inodes links → ino ≡ ino_at entries n → length new ≡ length links
+pub names-next : (entries : List (List ℕ × ℕ)) (n inodes : ℕ) (links new : List ℕ) (ino : ℕ) → CountsNames entries n inodes links
+    → ino ≡ ino_at entries n → length new ≡ length links
     → ((i : ℕ) → i < length links → slice_index new i ≡ slice_index links i + name_hit i ino) → CountsNames entries (n + 1) inodes new
 names-next entries n inodes links new ino so_far is long each = record {
   long = long ∙ so_far.long;
-  each = λ i lt. omega (arith, each i (omega (arith, lt, so_far.long)), so_far.each i lt, total-next (λ k. name_hit i (ino_at entries k)) n, ap (name_hit i) is);
+  each = λ i lt. omega (
+    arith,
+    each i (omega (arith, lt, so_far.long)),
+    so_far.each i lt,
+    total-next (λ k. name_hit i (ino_at entries k)) n,
+    ap (name_hit i) is,
+  );
 }
 
 less_not_equal : (o : Ordering) → o ≡ Less → o ≡ Equal → ⊥
@@ -91,10 +105,12 @@ module _ (names : FinMap (slice_cmp nat_cmp) ℕ) (entries : List (List ℕ × �
   pub none_to : ((name : List ℕ) → get names name ≢ Some i) → total (length entries) hits ≡ 0
   none_to none = elim (cases_eq (total (length entries) hits) 0) [
     | inl e ↦ e
-    | inr ne ↦ let k = total-some hits (length entries) (omega (arith, ne)) in absurd (none (name_at k.0) (entry_leads k.0 k.1 (hit-some i (ino_at entries k.0) k.2)))
+    | inr ne ↦ let k = total-some hits (length entries) (omega (arith, ne)) in
+        absurd (none (name_at k.0) (entry_leads k.0 k.1 (hit-some i (ino_at entries k.0) k.2)))
   ]
 
-  pub one_from : total (length entries) hits ≡ 1 → (name : List ℕ) × (get names name ≡ Some i) × ((other : List ℕ) → get names other ≡ Some i → other ≡ name)
+  pub one_from : total (length entries) hits ≡ 1 → (name : List ℕ) × (get names name ≡ Some i) × ((other : List ℕ) → get names other ≡ Some i
+      → other ≡ name)
   one_from one =
       let k = total-some hits (length entries) (omega (arith, one)) in
       let here = hit-some i (ino_at entries k.0) k.2 in (
@@ -102,11 +118,18 @@ module _ (names : FinMap (slice_cmp nat_cmp) ℕ) (entries : List (List ℕ × �
         entry_leads k.0 k.1 here,
         (λ other e. let j = leads_entry other e in elim (cases_eq j.0 k.0) [
           | inl same ↦ sym j.2 ∙ ap name_at same
-          | inr ne ↦ absurd (omega (arith, one, terms-le hits (length entries) j.0 k.0 j.1 k.1 ne, hit-one i (ino_at entries j.0) j.3, hit-one i (ino_at entries k.0) here))
+          | inr ne ↦ absurd (omega (
+            arith,
+            one,
+            terms-le hits (length entries) j.0 k.0 j.1 k.1 ne,
+            hit-one i (ino_at entries j.0) j.3,
+            hit-one i (ino_at entries k.0) here,
+          ))
         ]),
       )
 
-  pub one_to : (name : List ℕ) → get names name ≡ Some i → ((other : List ℕ) → get names other ≡ Some i → other ≡ name) → total (length entries) hits ≡ 1
+  pub one_to : (name : List ℕ) → get names name ≡ Some i → ((other : List ℕ) → get names other ≡ Some i → other ≡ name)
+      → total (length entries) hits ≡ 1
   one_to name leads alone = elim (cases_lt (total (length entries) hits) 2) [
     | inl few ↦ let k = leads_entry name leads in omega (arith, few, term-le hits (length entries) k.0 k.1, hit-one i (ino_at entries k.0) k.3)
     | inr two ↦
@@ -116,7 +139,8 @@ module _ (names : FinMap (slice_cmp nat_cmp) ℕ) (entries : List (List ℕ × �
         absurd (apart found.0 found.1 found.2 found.3 (first ∙ sym second))
   ]
 
-module _ (g : Geometry) (c : List ℕ) (names : FinMap (slice_cmp nat_cmp) ℕ) (links : List ℕ) (are : AreLinks names g.inodes links) (d : Disk) (said : IsNamed g c names d) where
+module _ (g : Geometry) (c : List ℕ) (names : FinMap (slice_cmp nat_cmp) ℕ) (links : List ℕ) (are : AreLinks names g.inodes links) (d : Disk)
+    (said : IsNamed g c names d) where
   module _ (i : ℕ) (in_table : i < g.inodes) where
     count_is : slice_index links i ≡ total (length are.entries) (λ k. name_hit i (ino_at are.entries k))
     count_is = are.counts.each i in_table
@@ -142,15 +166,21 @@ module _ (g : Geometry) (c : List ℕ) (names : FinMap (slice_cmp nat_cmp) ℕ) 
         none : ((name : List ℕ) → named d name ≢ Some i) → slice_index links i ≡ 0
         none nobody = count_is ∙ none_to names are.entries are.lists i (λ name e. nobody name (sym (said.are name) ∙ e))
 
-        by_use : (u : Use) → slice_index c (inode_word i 0) ≡ state_number u → IsLinked d i u → IsLinkedBy (slice_index c (inode_word i 0)) (slice_index links i)
+        by_use : (u : Use) → slice_index c (inode_word i 0) ≡ state_number u → IsLinked d i u → IsLinkedBy (slice_index c (inode_word i 0))
+            (slice_index links i)
         by_use Free e nothing = ((λ one. absurd (omega (arith, e, one))), (λ other. none nothing))
-        by_use Live e one = ((λ live. count_is ∙ one_to names are.entries are.lists i one.name (said.are one.name ∙ one.leads) (λ other leads. one.alone other (sym (said.are other) ∙ leads))), (λ other. absurd (other e)))
+        by_use Live e one = (
+          (λ live. count_is ∙ one_to names are.entries are.lists i one.name (said.are one.name ∙ one.leads)
+              (λ other leads. one.alone other (sym (said.are other) ∙ leads))),
+          (λ other. absurd (other e)),
+        )
         by_use (Dying cut) e nothing = ((λ one. absurd (omega (arith, e, one))), (λ other. none nothing))
 
   inodes_same : d.geometry.inodes ≡ g.inodes
   inodes_same = ap (λ (h : Geometry). h.inodes) said.geometry
 
-  pub first_unlinked : (ino : ℕ) → 1 ≤ ino → ino < g.inodes → AllLinked c links ino → (IsLinkedBy (slice_index c (inode_word ino 0)) (slice_index links ino) → ⊥)
+  pub first_unlinked : (ino : ℕ) → 1 ≤ ino → ino < g.inodes → AllLinked c links ino
+      → (IsLinkedBy (slice_index c (inode_word ino 0)) (slice_index links ino) → ⊥)
       → IsLeast d.geometry.inodes (λ i. (1 ≤ i) × (IsLinked d i (d.inode i).use_of → ⊥)) ino
   first_unlinked ino low in_table before bad = record {
     below = omega (arith, in_table, inodes_same);
@@ -161,7 +191,8 @@ module _ (g : Geometry) (c : List ℕ) (names : FinMap (slice_cmp nat_cmp) ℕ) 
   pub all_linked : (end : ℕ) → g.inodes ≤ end → AllLinked c links end → (i : ℕ) → 1 ≤ i → i < d.geometry.inodes → IsLinked d i (d.inode i).use_of
   all_linked end all linked i low lt = linked_from i (omega (arith, lt, inodes_same)) (linked i low (omega (arith, lt, inodes_same, all)))
 
-pub linked-next : (c links : List ℕ) (end : ℕ) → AllLinked c links end → IsLinkedBy (slice_index c (inode_word end 0)) (slice_index links end) → AllLinked c links (end + 1)
+pub linked-next : (c links : List ℕ) (end : ℕ) → AllLinked c links end → IsLinkedBy (slice_index c (inode_word end 0)) (slice_index links end)
+    → AllLinked c links (end + 1)
 linked-next c links end before here i low lt = elim (cases_eq i end) [
   | inl e ↦ subst (λ (n : ℕ). IsLinkedBy (slice_index c (inode_word n 0)) (slice_index links n)) (sym e) here
   | inr ne ↦ before i low (omega arith)

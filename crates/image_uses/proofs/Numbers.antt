@@ -1,5 +1,29 @@
 -- Numbers are counted, one after another.
-use Rattle.std.proofs.Common.{◌≡◌, ◌≢◌, inl, inr, ℕ, zero, suc, ◌+◌, ◌<◌, ◌≤◌, Bool, true, false, List, [], ◌∷◌, length, get_or, refl, sym, ◌∙◌, subst, arith}
+use Rattle.std.proofs.Common.{
+  ◌≡◌,
+  ◌≢◌,
+  inl,
+  inr,
+  ℕ,
+  zero,
+  suc,
+  ◌+◌,
+  ◌<◌,
+  ◌≤◌,
+  Bool,
+  true,
+  false,
+  List,
+  [],
+  ◌∷◌,
+  length,
+  get_or,
+  refl,
+  sym,
+  ◌∙◌,
+  subst,
+  arith,
+}
 use Rattle.std.specs.Prelude.{Contains, All}
 use Rattle.std.proofs.lemmas.Bool.{cases_eq}
 use Rattle.std.proofs.lemmas.List.Kept.{AllPairs-cons}
@@ -10,7 +34,12 @@ module _ (P : ℕ → Type 0) where
   pub counts-none : (low : ℕ) → ((x : ℕ) → P x → low ≤ x) → CountsTo P low 0
   counts-none low from = record {
     few = omega arith;
-    are = ([], (λ x. ((λ there. absurd (omega (arith, there.1))), (λ b. absurd (omega (arith, b.below, from x b.has))))), (λ i j d lt within. absurd (omega arith)), refl);
+    are = (
+      [],
+      (λ x. ((λ there. absurd (omega (arith, there.1))), (λ b. absurd (omega (arith, b.below, from x b.has))))),
+      (λ i j d lt within. absurd (omega arith)),
+      refl,
+    );
   }
 
   pub counts-yes : (end n : ℕ) → CountsTo P end n → P end → CountsTo P (end + 1) (n + 1)
@@ -26,7 +55,8 @@ module _ (P : ℕ → Type 0) where
       from : (x : ℕ) → IsBelow P (end + 1) x → Contains (end ∷ so_far.are.0) x
       from x b = elim (cases_eq x end) [
         | inl e ↦ (0, omega arith, sym e)
-        | inr ne ↦ let there = (so_far.are.1 x).1 (record { below = omega (arith, b.below, ne); has = b.has }) in (suc there.0, omega (arith, there.1), there.2)
+        | inr ne ↦ let there = (so_far.are.1 x).1 (record { below = omega (arith, b.below, ne); has = b.has }) in
+            (suc there.0, omega (arith, there.1), there.2)
       ]
 
       apart : All (λ (y : ℕ). end ≢ y) so_far.are.0
@@ -55,11 +85,16 @@ module _ (P : ℕ → Type 0) where
         | inr ne ↦ (so_far.are.1 x).1 (record { below = omega (arith, b.below, ne); has = b.has })
       ]
 
-  pub counts-if : (end n n' : ℕ) (b : Bool) → CountsTo P end n → (b ≡ true → P end) → (b ≡ false → P end → ⊥) → (b ≡ true → n' ≡ n + 1) → (b ≡ false → n' ≡ n) → CountsTo P (end + 1) n'
+  pub counts-if : (end n n' : ℕ) (b : Bool) → CountsTo P end n → (b ≡ true → P end) → (b ≡ false → P end → ⊥) → (b ≡ true → n' ≡ n + 1)
+      → (b ≡ false → n' ≡ n) → CountsTo P (end + 1) n'
   counts-if end n n' true so_far has none more same = subst (CountsTo P (end + 1)) (sym (more refl)) (counts-yes end n so_far (has refl))
   counts-if end n n' false so_far has none more same = subst (CountsTo P (end + 1)) (sym (same refl)) (counts-no end n so_far (none refl))
 
   -- all of them, which are those with Q
   pub counts-all : (Q : ℕ → Type 0) (end n : ℕ) → CountsTo P end n → ((x : ℕ) → x < end → P x → Q x) → ((x : ℕ) → Q x → IsBelow P end x) → HasSo Q n
-  counts-all Q end n so_far to from =
-      (so_far.are.0, (λ x. ((λ there. let b = (so_far.are.1 x).0 there in to x b.below b.has), (λ q. (so_far.are.1 x).1 (from x q)))), so_far.are.2, so_far.are.3)
+  counts-all Q end n so_far to from = (
+    so_far.are.0,
+    (λ x. ((λ there. let b = (so_far.are.1 x).0 there in to x b.below b.has), (λ q. (so_far.are.1 x).1 (from x q)))),
+    so_far.are.2,
+    so_far.are.3,
+  )

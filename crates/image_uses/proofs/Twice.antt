@@ -72,7 +72,13 @@ module _ (d : Disk) (page : ℕ) where
   logs_are = refl
 
   pub log_counts : IsLogPage d page → 1 ≤ logs_with d page
-  log_counts is = omega (arith, logs_are, term-le hits d.geometry.inodes is.ino is.in_table, hit-used page (d.inode is.ino).use_of (d.inode is.ino).log is.used is.listed)
+  log_counts is = omega (
+    arith,
+    logs_are,
+    term-le hits d.geometry.inodes is.ino is.in_table,
+    hit-used page (d.inode is.ino).use_of
+        (d.inode is.ino).log is.used is.listed,
+  )
 
   pub counted_log : 1 ≤ logs_with d page → IsLogPage d page
   counted_log some =
@@ -82,7 +88,13 @@ module _ (d : Disk) (page : ℕ) where
 
   pub doubled : IsDouble d page → IsUsedTwice (logs_with d page) (mappings d page) (is_some (row_of (rows d) page))
   doubled (inl (i, j, ne, il, jl, iu, ju, ip, jp)) =
-      inl (omega (arith, logs_are, terms-le hits d.geometry.inodes i j il jl ne, hit-used page (d.inode i).use_of (d.inode i).log iu ip, hit-used page (d.inode j).use_of (d.inode j).log ju jp))
+      inl (omega (
+        arith,
+        logs_are,
+        terms-le hits d.geometry.inodes i j il jl ne,
+        hit-used page (d.inode i).use_of (d.inode i).log iu ip,
+        hit-used page (d.inode j).use_of (d.inode j).log ju jp,
+      ))
   doubled (inr (inl (in_log, mapped))) = inr (inl (log_counts in_log, (counts_mappings d page).1 mapped))
   doubled (inr (inr (inl (in_log, row)))) = inr (inr (inl (log_counts in_log, row)))
   doubled (inr (inr (inr (none, two)))) = inr (inr (inr (none, two)))
@@ -111,7 +123,8 @@ module _ (d : Disk) (read : HasReadLogs d) (page : ℕ) where
   unfolding maps
   mapped_inside m = omega (arith, by_use (d.inode m.ino).use_of refl m.maps_to.is, m.maps_to.block)
     where
-      by_use : (u : Use) → (d.inode m.ino).use_of ≡ u → maps_by_use u (d.inode m.ino).log m.idx ≡ Some m.maps_to.by → m.maps_to.by.block < d.geometry.pages
+      by_use : (u : Use) → (d.inode m.ino).use_of ≡ u → maps_by_use u (d.inode m.ino).log m.idx ≡ Some m.maps_to.by
+          → m.maps_to.by.block < d.geometry.pages
       by_use Free e is = absurd (none_some m.maps_to.by is)
         where
           none_some : (x : Mapping) → None ≡ Some x → ⊥
@@ -120,7 +133,8 @@ module _ (d : Disk) (read : HasReadLogs d) (page : ℕ) where
       by_use (Dying cut) e is = by_test (nat_lt m.idx cut) is
         where
           by_test : (b : Bool) → (if b then mapping (d.inode m.ino).log m.idx else None) ≡ Some m.maps_to.by → m.maps_to.by.block < d.geometry.pages
-          by_test true is = block_in d.geometry m.ino (d.inode m.ino).log (read m.ino m.maps_to.in_table (subst IsUsed (sym e) tt)) m.idx m.maps_to.by is
+          by_test true is = block_in d.geometry m.ino (d.inode m.ino).log (read m.ino m.maps_to.in_table (subst IsUsed (sym e) tt)) m.idx m.maps_to.by
+              is
           by_test false is = absurd (none_some m.maps_to.by is)
             where
               none_some : (x : Mapping) → None ≡ Some x → ⊥
@@ -133,20 +147,23 @@ module _ (d : Disk) (read : HasReadLogs d) (page : ℕ) where
   double_inside (inr (inr (inr (none, two)))) = mapped_inside ((counts_mappings d page).0 (omega (arith, two)))
 
 module _ (d : Disk) (in_logs mapped : List ℕ) (has_row : List Bool) (counted : IsCounted d in_logs mapped) (rows_are : MarksRows d has_row) where
-  twice_told : (page : ℕ) → page < d.geometry.pages → IsUsedTwice (slice_index in_logs page) (slice_index mapped page) (slice_index_or has_row page false) → IsDouble d page
+  twice_told : (page : ℕ) → page < d.geometry.pages → IsUsedTwice (slice_index in_logs page) (slice_index mapped page)
+      (slice_index_or has_row page false) → IsDouble d page
   twice_told page lt twice = is_double d page
       (subst (λ (b : Bool). IsUsedTwice (logs_with d page) (mappings d page) b) (rows_are page lt)
       (subst (λ (n : ℕ). IsUsedTwice (logs_with d page) n (slice_index_or has_row page false)) (counted.places page lt)
       (subst (λ (n : ℕ). IsUsedTwice n (slice_index mapped page) (slice_index_or has_row page false)) (counted.logs page lt) twice)))
 
-  told_twice : (page : ℕ) → page < d.geometry.pages → IsDouble d page → IsUsedTwice (slice_index in_logs page) (slice_index mapped page) (slice_index_or has_row page false)
+  told_twice : (page : ℕ) → page < d.geometry.pages → IsDouble d page → IsUsedTwice (slice_index in_logs page) (slice_index mapped page)
+      (slice_index_or has_row page false)
   told_twice page lt is =
       subst (λ (n : ℕ). IsUsedTwice n (slice_index mapped page) (slice_index_or has_row page false)) (sym (counted.logs page lt))
       (subst (λ (n : ℕ). IsUsedTwice (logs_with d page) n (slice_index_or has_row page false)) (sym (counted.places page lt))
       (subst (λ (b : Bool). IsUsedTwice (logs_with d page) (mappings d page) b) (sym (rows_are page lt)) (doubled d page is)))
 
   pub first_twice : (page : ℕ) → page < length in_logs → NoneTwice in_logs mapped has_row page
-      → IsUsedTwice (slice_index in_logs page) (slice_index mapped page) (slice_index_or has_row page false) → IsLeast d.geometry.pages (IsDouble d) page
+      → IsUsedTwice (slice_index in_logs page) (slice_index mapped page) (slice_index_or has_row page false) → IsLeast d.geometry.pages (IsDouble d)
+      page
   first_twice page lt before twice = record {
     below = omega (arith, lt, counted.long_logs);
     has = twice_told page (omega (arith, lt, counted.long_logs)) twice;

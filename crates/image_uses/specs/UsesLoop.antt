@@ -4,7 +4,8 @@ use Rattle.image_uses.specs.Uses.{IsUsedTwice, HasSo}
 
 -- none of the first pages is used twice
 abbrev pub NoneTwice : List ℕ → List ℕ → List Bool → ℕ → Type 0
-NoneTwice in_logs mapped has_row n = (page : ℕ) → page < n → IsUsedTwice (slice_index in_logs page) (slice_index mapped page) (slice_index_or has_row page false) → ⊥
+NoneTwice in_logs mapped has_row n = (page : ℕ) → page < n → IsUsedTwice (slice_index in_logs page)
+    (slice_index mapped page) (slice_index_or has_row page false) → ⊥
 
 -- a page from the first one on that nothing uses
 pub record IsUnused (in_logs mapped : List ℕ) (first page : ℕ) : Type 0 where

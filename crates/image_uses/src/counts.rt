@@ -29,7 +29,8 @@ pub fn free_count(g: &Geometry, in_logs: &[u32], mapped: &[u32]) -> u64
     requires accepted { IsAccepted g.now }
     requires logs { length in_logs.now ≡ g.now.pages }
     requires mapped { length mapped.now ≡ g.now.pages }
-    ensures { (d : Disk) → d.geometry ≡ g.now → IsCounted d in_logs.now mapped.now → HasFree d result }
+    ensures { (d : Disk) → d.geometry ≡ g.now → IsCounted d in_logs.now mapped.now
+        → HasFree d result }
 {
     let mut free = 0;
     for page in g.first_data()..g.pages {
@@ -44,7 +45,8 @@ pub fn free_count(g: &Geometry, in_logs: &[u32], mapped: &[u32]) -> u64
 /// How many pages have a place that is mapped to them, from how many places are mapped to each page.
 pub fn mapped_count(mapped: &[u32]) -> u64
     requires { length mapped.now ≤ 65536 }
-    ensures { (d : Disk) (in_logs : List ℕ) → IsCounted d in_logs mapped.now → HasReadLogs d → HasSo (IsMapped d) result }
+    ensures { (d : Disk) (in_logs : List ℕ) → IsCounted d in_logs mapped.now → HasReadLogs d
+        → HasSo (IsMapped d) result }
 {
     let mut count = 0;
     for (page, places) in mapped.iter().enumerate() {

@@ -16,8 +16,10 @@ fn is_used_twice(in_logs: u32, mapped: u32, has_row: bool) -> bool
 pub fn double_fault(in_logs: &[u32], mapped: &[u32], has_row: &[bool]) -> Option<u64>
     requires mapped { length mapped.now ≡ length in_logs.now }
     requires rows { length has_row.now ≡ length in_logs.now }
-    ensures some { IfSome result (λ page. (d : Disk) → IsCounted d in_logs.now mapped.now → MarksRows d has_row.now → IsLeast d.geometry.pages (IsDouble d) page) }
-    ensures none { IfNone result ((d : Disk) → IsCounted d in_logs.now mapped.now → MarksRows d has_row.now → HasReadLogs d → (page : ℕ) → IsDouble d page → ⊥) }
+    ensures some { IfSome result (λ page. (d : Disk) → IsCounted d in_logs.now mapped.now
+        → MarksRows d has_row.now → IsLeast d.geometry.pages (IsDouble d) page) }
+    ensures none { IfNone result ((d : Disk) → IsCounted d in_logs.now mapped.now
+        → MarksRows d has_row.now → HasReadLogs d → (page : ℕ) → IsDouble d page → ⊥) }
 {
     for page in 0..in_logs.len() {
         if is_used_twice(in_logs[page], mapped[page], has_row[page]) {

@@ -19,7 +19,8 @@ const LIVE: u64 = 1;
 fn count_name(links: &mut [u64], ino: u64)
     requires { ino < length links.old → slice_index links.old ino + 1 < 2 ^ 64 }
     ensures long { length links.new ≡ length links.old }
-    ensures each { (i : ℕ) → i < length links.old → slice_index links.new i ≡ slice_index links.old i + name_hit i ino }
+    ensures each { (i : ℕ) → i < length links.old → slice_index links.new i ≡ slice_index links.old
+        i + name_hit i ino }
 {
     if (ino as usize) < links.len() {
         links[ino as usize] += 1;
@@ -80,8 +81,13 @@ pub fn link_fault<D: Pm>(
 ) -> Result<Option<u64>, AllocError>
     requires accepted { IsAccepted g.now }
     requires size { length (D.state device.now).now ≡ 512 * g.now.pages }
-    ensures some { IfOk result (λ found. IfSome found (λ ino. (d : Disk) → IsNamed g.now (D.state device.now).now names.now.map d → IsLeast d.geometry.inodes (λ i. (1 ≤ i) × (IsLinked d i (d.inode i).use_of → ⊥)) ino)) }
-    ensures none { IfOk result (λ found. IfNone found ((d : Disk) → IsNamed g.now (D.state device.now).now names.now.map d → (i : ℕ) → 1 ≤ i → i < d.geometry.inodes → IsLinked d i (d.inode i).use_of)) }
+    ensures some { IfOk result
+        (λ found. IfSome found (λ ino. (d : Disk) → IsNamed g.now (D.state device.now).now
+        names.now.map d → IsLeast d.geometry.inodes
+        (λ i. (1 ≤ i) × (IsLinked d i (d.inode i).use_of → ⊥)) ino)) }
+    ensures none { IfOk result
+        (λ found. IfNone found ((d : Disk) → IsNamed g.now (D.state device.now).now names.now.map d
+        → (i : ℕ) → 1 ≤ i → i < d.geometry.inodes → IsLinked d i (d.inode i).use_of)) }
 {
     let links = link_counts(alloc, g, names)?;
     for ino in 1..g.inodes {

@@ -20,7 +20,8 @@ first_log = record { pages = 6 ∷ []; items = Size 7 ∷ [] }
 pub data_6 : (g : Geometry) → g.pages ≡ 64 → g.inodes ≡ 8 → InData g 6
 unfolding first_data bits_of
 data_6 g pages inodes = record {
-  low = subst (λ (p : ℕ). first_data (record { pages = p; inodes = g.inodes }) ≤ 6) (sym pages) (subst (λ (n : ℕ). first_data (record { pages = 64; inodes = n }) ≤ 6) (sym inodes) (lit≤ tt));
+  low = subst (λ (p : ℕ). first_data (record { pages = p; inodes = g.inodes }) ≤ 6) (sym pages)
+      (subst (λ (n : ℕ). first_data (record { pages = 64; inodes = n }) ≤ 6) (sym inodes) (lit≤ tt));
   high = omega (arith, pages);
 }
 
@@ -44,11 +45,13 @@ module _ (g : Geometry) (s : State) (pages : g.pages ≡ 64) (inodes : g.inodes 
   can_first = record { old = no_log; new = first_log; is = gets_first }
 
   -- its tail is as settled as it was
-  pub tail_settled : (who : ℕ) (t : State) → Prepares g who 1 ((2 ∷ 7 ∷ 0 ∷ 0 ∷ 0 ∷ 0 ∷ 0 ∷ 0 ∷ []) ∷ []) (6 ∷ []) s t → IsSettled s (inode_word 1 2) → IsSettled t (inode_word 1 2)
+  pub tail_settled : (who : ℕ) (t : State) → Prepares g who 1 ((2 ∷ 7 ∷ 0 ∷ 0 ∷ 0 ∷ 0 ∷ 0 ∷ 0 ∷ []) ∷ []) (6 ∷ []) s t → IsSettled s (inode_word 1 2)
+      → IsSettled t (inode_word 1 2)
   tail_settled who t prepares settled =
       let done = prepares no_log first_log gets_first in
       settled-stores (Said (Prepared 1 no_log first_log)) s t (inode_word 1 2) done.only
-      (λ said. prepared_apart g 1 no_log first_log gets_first.grown gets_first.paged gets_first.paged' (omega (arith, inodes)) (inode_word 1 2) said.value (tail_at no_log.pages (count no_log)) said.told (at_tail refl refl)) settled
+      (λ said. prepared_apart g 1 no_log first_log gets_first.grown gets_first.paged gets_first.paged' (omega (arith, inodes)) (inode_word 1 2)
+      said.value (tail_at no_log.pages (count no_log)) said.told (at_tail refl refl)) settled
 
   -- the device is as long as it was
   pub same_words : (who : ℕ) (t : State) → Prepares g who 1 ((2 ∷ 7 ∷ 0 ∷ 0 ∷ 0 ∷ 0 ∷ 0 ∷ 0 ∷ []) ∷ []) (6 ∷ []) s t → length t.now ≡ length s.now

@@ -1,5 +1,35 @@
 -- One word of a Write changes: what is said of the log differs there alone.
-use Rattle.std.proofs.Common.{◌≡◌, ◌≢◌, ◌⊎◌, inl, inr, ⊎_elim, ℕ, zero, suc, ◌+◌, ◌-◌, ◌*◌, ◌/◌, ◌%◌, ◌^◌, ◌<◌, List, [], ◌∷◌, ◌++◌, length, get_or, refl, sym, ◌∙◌, ap, subst, arith, length-append}
+use Rattle.std.proofs.Common.{
+  ◌≡◌,
+  ◌≢◌,
+  ◌⊎◌,
+  inl,
+  inr,
+  ⊎_elim,
+  ℕ,
+  zero,
+  suc,
+  ◌+◌,
+  ◌-◌,
+  ◌*◌,
+  ◌/◌,
+  ◌%◌,
+  ◌^◌,
+  ◌<◌,
+  List,
+  [],
+  ◌∷◌,
+  ◌++◌,
+  length,
+  get_or,
+  refl,
+  sym,
+  ◌∙◌,
+  ap,
+  subst,
+  arith,
+  length-append,
+}
 use Rattle.std.specs.Prelude.{slice_index, All}
 use Rattle.std.proofs.lemmas.Bool.{cases_lt, cases_eq}
 use Rattle.std.proofs.lemmas.List.{get_or_append_left, get_or-append-add, get_or_at}
@@ -21,7 +51,20 @@ use Rattle.dn_model.specs.Log.{Log, LogSays, at_tail, at_head, at_footer, at_slo
 use Rattle.dn_model.specs.Valid.{IsLog, MayStand}
 use Rattle.dn_model.proofs.Append.{log_word_in_data, same_page, same_slot, no_footer, same_index}
 use Rattle.dn_model.proofs.Regions.{inode_not_data}
-use Rattle.inode_log.specs.Reflags.{IsWrite, with_flag, with_mask, Reflags, CanReflag, OldOrNewItem, NewItemStands, IsElsewhere, KeepsLogs, pages_written, FlagKeepsLog, MaskKeepsLog}
+use Rattle.inode_log.specs.Reflags.{
+  IsWrite,
+  with_flag,
+  with_mask,
+  Reflags,
+  CanReflag,
+  OldOrNewItem,
+  NewItemStands,
+  IsElsewhere,
+  KeepsLogs,
+  pages_written,
+  FlagKeepsLog,
+  MaskKeepsLog,
+}
 
 -- a change of a Write that is one of word j of its slot
 pub record IsWordChange (change : LogItem → LogItem) (j value : ℕ) (item : LogItem) : Type 0 where
@@ -89,15 +132,18 @@ other_element xs ys w w' i ne = elim (cases_lt i (length xs)) [
       (get_or-append-add xs (w' ∷ ys) (suc (i - suc (length xs))) [] ∙ sym (get_or-append-add xs (w ∷ ys) (suc (i - suc (length xs))) []))
 ]
 
-module _ (change : LogItem → LogItem) (j value slot : ℕ) (old new : Log) (reflags : Reflags change slot old new) (changes : IsWordChange change j value reflags.item) where
+module _ (change : LogItem → LogItem) (j value slot : ℕ) (old new : Log) (reflags : Reflags change slot old new)
+    (changes : IsWordChange change j value reflags.item) where
   abbrev place : ℕ
   place = length (spelled reflags.front)
 
   spelled_old : spelled old.items ≡ spelled reflags.front ++ changes.words ∷ spelled reflags.rest
-  spelled_old = ap spelled reflags.items ∙ flat_map-append spelling reflags.front (reflags.item ∷ reflags.rest) ∙ ap (λ (ss : List (List ℕ)). spelled reflags.front ++ (ss ++ spelled reflags.rest)) changes.is
+  spelled_old = ap spelled reflags.items ∙ flat_map-append spelling reflags.front (reflags.item ∷ reflags.rest) ∙ ap
+      (λ (ss : List (List ℕ)). spelled reflags.front ++ (ss ++ spelled reflags.rest)) changes.is
 
   spelled_new : spelled new.items ≡ spelled reflags.front ++ changes.words' ∷ spelled reflags.rest
-  spelled_new = ap spelled reflags.items' ∙ flat_map-append spelling reflags.front (change reflags.item ∷ reflags.rest) ∙ ap (λ (ss : List (List ℕ)). spelled reflags.front ++ (ss ++ spelled reflags.rest)) changes.is'
+  spelled_new = ap spelled reflags.items' ∙ flat_map-append spelling reflags.front (change reflags.item ∷ reflags.rest) ∙ ap
+      (λ (ss : List (List ℕ)). spelled reflags.front ++ (ss ++ spelled reflags.rest)) changes.is'
 
   count_old : count old ≡ place + suc (length (spelled reflags.rest))
   unfolding count
@@ -147,25 +193,34 @@ module _ (change : LogItem → LogItem) (j value slot : ℕ) (old new : Log) (re
 
     pub reflagged_differs : DiffersAt (LogSays ino old) (LogSays ino new) Nothing (8 * slot + j) value
     reflagged_differs a v (at_tail where_is value_is) =
-        inr (λ e. inode_not_data g ino 2 (slice_index old.pages (place / 63)) (8 * (place % 63) + j) in_table (omega arith) page_here (omega (arith, where_is, e, here)), inl (at_tail where_is (value_is ∙ tail_same)))
+        inr (
+          λ e. inode_not_data g ino 2 (slice_index old.pages (place / 63)) (8 * (place % 63) + j) in_table (omega arith) page_here
+              (omega (arith, where_is, e, here)),
+          inl (at_tail where_is (value_is ∙ tail_same)),
+        )
     reflagged_differs a v (at_head some where_is value_is) =
         inr (
-          λ e. inode_not_data g ino 1 (slice_index old.pages (place / 63)) (8 * (place % 63) + j) in_table (omega arith) page_here (omega (arith, where_is, e, here)),
+          λ e. inode_not_data g ino 1 (slice_index old.pages (place / 63)) (8 * (place % 63) + j) in_table (omega arith) page_here
+              (omega (arith, where_is, e, here)),
           inl (at_head (omega (arith, some, same_count)) where_is (value_is ∙ ap (λ (ps : List ℕ). slice_index ps 0) reflags.pages)),
         )
     reflagged_differs a v (at_footer k lt where_is value_is) =
         let where_old : a ≡ 512 * slice_index old.pages k + 504 = where_is ∙ ap (λ (ps : List ℕ). 512 * slice_index ps k + 504) reflags.pages in
         inr (
-          λ e. no_footer (slice_index old.pages k) (slice_index old.pages (place / 63)) (place % 63) j (omega arith) small (omega (arith, where_old, e, here)),
-          inl (at_footer k (omega (arith, lt, ap length reflags.pages)) where_old (value_is ∙ ap (λ (ps : List ℕ). slice_index ps (k + 1)) reflags.pages)),
+          λ e. no_footer (slice_index old.pages k) (slice_index old.pages (place / 63)) (place % 63) j (omega arith) small
+              (omega (arith, where_old, e, here)),
+          inl (at_footer k (omega (arith, lt, ap length reflags.pages)) where_old (value_is ∙ ap (λ (ps : List ℕ). slice_index ps (k + 1))
+              reflags.pages)),
         )
     reflagged_differs a v (at_slot i l lt word where_is value_is) =
         let where_old : a ≡ log_word old.pages i l = where_is ∙ ap (λ (ps : List ℕ). log_word ps i l) reflags.pages in
         let lt' : i < count old = omega (arith, lt, same_count) in
         elim (cases_eq a (8 * slot + j)) [
           | inl e ↦
-              let both = same_slot (slice_index old.pages (i / 63)) (slice_index old.pages (place / 63)) (i % 63) (place % 63) l j (omega arith) (omega arith) word small (omega (arith, where_old, e, here)) in
-              let page : i / 63 ≡ place / 63 = paged.apart (i / 63) (place / 63) (omega (arith, paged.fits)) (omega (arith, paged.fits, place_within)) both.0 in
+              let both = same_slot (slice_index old.pages (i / 63)) (slice_index old.pages (place / 63)) (i % 63) (place % 63) l j (omega arith)
+              (omega arith) word small (omega (arith, where_old, e, here)) in
+              let page : i / 63 ≡ place / 63 = paged.apart (i / 63) (place / 63) (omega (arith, paged.fits)) (omega (arith, paged.fits, place_within))
+              both.0 in
               let at_place : i ≡ place = same_index i place page both.1 in
               let at_word : l ≡ j = omega (arith, where_old, e, here, both.0, both.1) in
               inl (e, value_is ∙ ap (λ (n : ℕ). spelled_word new n l) at_place ∙ ap (λ (n : ℕ). spelled_word new place n) at_word ∙ word_here)
@@ -173,14 +228,16 @@ module _ (change : LogItem → LogItem) (j value slot : ℕ) (old new : Log) (re
               inr (
                 ne,
                 inl (at_slot i l lt' word where_old (value_is ∙ word_there i l (elim (cases_eq i place) [
-                  | inl at_place ↦ inr (λ at_word. ne (where_old ∙ ap (λ (n : ℕ). log_word old.pages n l) at_place ∙ ap (λ (n : ℕ). log_word old.pages place n) at_word ∙ sym here))
+                  | inl at_place ↦ inr (λ at_word. ne (where_old ∙ ap (λ (n : ℕ). log_word old.pages n l) at_place ∙ ap
+                      (λ (n : ℕ). log_word old.pages place n) at_word ∙ sym here))
                   | inr far ↦ inl far
                 ]))),
               )
         ]
 
 -- Where nothing else is said anew, an image with the word old or new has what was said before or what is said after.
-module _ (says says' : ℕ → ℕ → Type 0) (at value : ℕ) (s : State) (c : List ℕ) (differs : DiffersAt says says' (λ a v. ⊥) at value) (stands : Stands says s) (leaves : LeavesOneWord at value s c) where
+module _ (says says' : ℕ → ℕ → Type 0) (at value : ℕ) (s : State) (c : List ℕ) (differs : DiffersAt says says' (λ a v. ⊥) at value)
+    (stands : Stands says s) (leaves : LeavesOneWord at value s c) where
   reads_at : (a v n : ℕ) → a ≡ at → slice_index c at ≡ n → v ≡ n → slice_index c a ≡ v
   reads_at a v n here is told = subst (λ (b : ℕ). slice_index c b ≡ n) (sym here) is ∙ sym told
 
@@ -205,7 +262,8 @@ module _ (says says' : ℕ → ℕ → Type 0) (at value : ℕ) (s : State) (c :
 -- so it is once that word is set
 module _ (g : Geometry) (change : LogItem → LogItem) (who slot j value at : ℕ) (s t : State) (place : at ≡ 8 * slot + j) (small : j < 8)
     (changes : (item : LogItem) → IsWrite item → IsWordChange change j value item) where
-  differs_there : (ino : ℕ) (old new : Log) → CanReflag g change ino slot old new s → DiffersAt (LogSays ino old) (LogSays ino new) (λ a v. ⊥) at value
+  differs_there : (ino : ℕ) (old new : Log) → CanReflag g change ino slot old new s → DiffersAt (LogSays ino old) (LogSays ino new) (λ a v. ⊥) at
+      value
   differs_there ino old new can = subst (λ (b : ℕ). DiffersAt (LogSays ino old) (LogSays ino new) (λ a v. ⊥) b value) (sym place)
       (reflagged_differs change j value slot old new can.reflags (changes can.reflags.item can.reflags.is_write) g ino can.paged can.in_table small)
 
@@ -213,21 +271,27 @@ module _ (g : Geometry) (change : LogItem → LogItem) (who slot j value at : �
   nothing_ready = record { within = λ a v told. absurd told; reads = λ a v told. absurd told; flushed = λ a v told. absurd told }
 
   pub old_or_new_item : LeavesOnly s t (LeavesOneWord at value s) → OldOrNewItem g change slot s t
-  old_or_new_item leaves ino old new can = leaves_only-weaken s t (LeavesOneWord at value s) (λ c. Reads (LogSays ino old) c ⊎ Reads (LogSays ino new) c)
+  old_or_new_item leaves ino old new can = leaves_only-weaken s t (LeavesOneWord at value s) (λ c. Reads (LogSays ino old) c ⊎ Reads (LogSays ino new)
+      c)
       (λ c one. reads_either (LogSays ino old) (LogSays ino new) at value s c (differs_there ino old new can) can.stands one) leaves
 
   pub new_item_stands : at < length s.now → IsDone who at value s t → StoresOnly (λ a. a ≡ at) s t → NewItemStands g change slot s t
   new_item_stands inside done only ino old new can =
-      stands_new (LogSays ino old) (LogSays ino new) (λ a v. ⊥) who at value s t (differs_there ino old new can) can.stands nothing_ready inside done only
+      stands_new (LogSays ino old) (LogSays ino new) (λ a v. ⊥) who at value s t (differs_there ino old new can) can.stands nothing_ready inside done
+      only
 
   -- and no word of another log is stored to
   apart_there : (ino : ℕ) (log : Log) → InData g (slot / 64) → IsElsewhere g ino (slot / 64) log s → (a v : ℕ) → LogSays ino log a v → a ≡ at → ⊥
-  apart_there ino log in_data other a v (at_tail where_is value_is) e = inode_not_data g ino 2 (slot / 64) (8 * (slot % 64) + j) other.in_table (omega arith) in_data (omega (arith, where_is, e, place))
-  apart_there ino log in_data other a v (at_head some where_is value_is) e = inode_not_data g ino 1 (slot / 64) (8 * (slot % 64) + j) other.in_table (omega arith) in_data (omega (arith, where_is, e, place))
+  apart_there ino log in_data other a v (at_tail where_is value_is) e = inode_not_data g ino 2 (slot / 64) (8 * (slot % 64) + j) other.in_table
+      (omega arith) in_data (omega (arith, where_is, e, place))
+  apart_there ino log in_data other a v (at_head some where_is value_is) e = inode_not_data g ino 1 (slot / 64) (8 * (slot % 64) + j) other.in_table
+      (omega arith) in_data (omega (arith, where_is, e, place))
   apart_there ino log in_data other a v (at_footer k lt where_is value_is) e =
-      other.other k (omega arith) (same_page (slice_index log.pages k) (slot / 64) 504 (8 * (slot % 64) + j) (omega arith) (omega (arith, small)) (omega (arith, where_is, e, place)))
+      other.other k (omega arith) (same_page (slice_index log.pages k) (slot / 64) 504 (8 * (slot % 64) + j) (omega arith) (omega (arith, small))
+      (omega (arith, where_is, e, place)))
   apart_there ino log in_data other a v (at_slot i l lt word where_is value_is) e =
-      other.other (i / 63) (omega (arith, lt, other.paged.fits)) (same_page (slice_index log.pages (i / 63)) (slot / 64) (8 * (i % 63) + l) (8 * (slot % 64) + j) (omega (arith, word)) (omega (arith, small)) (omega (arith, where_is, e, place)))
+      other.other (i / 63) (omega (arith, lt, other.paged.fits)) (same_page (slice_index log.pages (i / 63)) (slot / 64) (8 * (i % 63) + l)
+      (8 * (slot % 64) + j) (omega (arith, word)) (omega (arith, small)) (omega (arith, where_is, e, place)))
 
   pub keeps_logs : InData g (slot / 64) → StoresOnly (λ a. a ≡ at) s t → KeepsLogs g slot s t
   keeps_logs in_data only ino log other = record {
@@ -243,17 +307,23 @@ all_changed P (z ∷ xs) ys x y all f zero d lt = all zero d (omega arith)
 all_changed P (z ∷ xs) ys x y all f (suc k) d lt = all_changed P xs ys x y (λ j e l. all (suc j) e (omega arith)) f k d (omega arith)
 
 -- a log without a fault has none then
-module _ (g : Geometry) (ino : ℕ) (change : LogItem → LogItem) (j value slot : ℕ) (old new : Log) (reflags : Reflags change slot old new) (changes : IsWordChange change j value reflags.item) (valid : IsLog g ino old) where
-  log_kept : (IsSpelled reflags.item → IsSpelled (change reflags.item)) → (MayStand g ino reflags.item → MayStand g ino (change reflags.item)) → IsLog g ino new
+module _ (g : Geometry) (ino : ℕ) (change : LogItem → LogItem) (j value slot : ℕ) (old new : Log) (reflags : Reflags change slot old new)
+    (changes : IsWordChange change j value reflags.item) (valid : IsLog g ino old) where
+  log_kept : (IsSpelled reflags.item → IsSpelled (change reflags.item)) → (MayStand g ino reflags.item → MayStand g ino (change reflags.item))
+      → IsLog g ino new
   log_kept spells stands = record {
     paged = record {
-      fits = ap length reflags.pages ∙ valid.paged.fits ∙ ap (λ (n : ℕ). (n + 62) / 63) (sym (same_count change j value slot old new reflags changes));
-      in_data = λ k lt. subst (λ (ps : List ℕ). InData g (slice_index ps k)) (sym reflags.pages) (valid.paged.in_data k (omega (arith, lt, ap length reflags.pages)));
+      fits = ap length reflags.pages ∙ valid.paged.fits ∙ ap (λ (n : ℕ). (n + 62) / 63)
+          (sym (same_count change j value slot old new reflags changes));
+      in_data = λ k lt. subst (λ (ps : List ℕ). InData g (slice_index ps k)) (sym reflags.pages)
+          (valid.paged.in_data k (omega (arith, lt, ap length reflags.pages)));
       apart = λ i k il kl e. valid.paged.apart i k (omega (arith, il, ap length reflags.pages)) (omega (arith, kl, ap length reflags.pages))
           (sym (ap (λ (ps : List ℕ). slice_index ps i) reflags.pages) ∙ e ∙ ap (λ (ps : List ℕ). slice_index ps k) reflags.pages);
     };
-    spelled = subst (All IsSpelled) (sym reflags.items') (all_changed IsSpelled reflags.front reflags.rest reflags.item (change reflags.item) (subst (All IsSpelled) reflags.items valid.spelled) spells);
-    standing = subst (All (MayStand g ino)) (sym reflags.items') (all_changed (MayStand g ino) reflags.front reflags.rest reflags.item (change reflags.item) (subst (All (MayStand g ino)) reflags.items valid.standing) stands);
+    spelled = subst (All IsSpelled) (sym reflags.items') (all_changed IsSpelled reflags.front reflags.rest reflags.item (change reflags.item)
+        (subst (All IsSpelled) reflags.items valid.spelled) spells);
+    standing = subst (All (MayStand g ino)) (sym reflags.items') (all_changed (MayStand g ino) reflags.front reflags.rest reflags.item
+        (change reflags.item) (subst (All (MayStand g ino)) reflags.items valid.standing) stands);
   }
 
 flag_spells : (flag : Flag) (item : LogItem) → IsSpelled item → IsSpelled (with_flag flag item)
@@ -284,8 +354,10 @@ mask_stands g ino m (Forget name) stands = stands
 
 pub flag_keeps_log : FlagKeepsLog
 flag_keeps_log g ino flag slot old new reflags valid =
-    log_kept g ino (with_flag flag) 5 (flag_number flag) slot old new reflags (flag_changes flag reflags.item reflags.is_write) valid (flag_spells flag reflags.item) (flag_stands g ino flag reflags.item)
+    log_kept g ino (with_flag flag) 5 (flag_number flag) slot old new reflags (flag_changes flag reflags.item reflags.is_write) valid
+    (flag_spells flag reflags.item) (flag_stands g ino flag reflags.item)
 
 pub mask_keeps_log : MaskKeepsLog
 mask_keeps_log g ino m slot old new reflags small valid =
-    log_kept g ino (with_mask m) 6 m slot old new reflags (mask_changes m reflags.item reflags.is_write) valid (mask_spells m reflags.item small) (mask_stands g ino m reflags.item)
+    log_kept g ino (with_mask m) 6 m slot old new reflags (mask_changes m reflags.item reflags.is_write) valid (mask_spells m reflags.item small)
+    (mask_stands g ino m reflags.item)

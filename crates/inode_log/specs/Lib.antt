@@ -2,3 +2,4 @@ pub mod Commits
 pub mod Prepare
 pub mod PrepareLoop
 pub mod Reflags
+pub mod OtherLogs

@@ -1,5 +1,20 @@
 -- A log of which one Write gets another flag or mask.
-use Rattle.std.specs.Prelude.{◌≡◌, ◌≢◌, ◌⊎◌, ℕ, ◌+◌, ◌*◌, ◌/◌, ◌^◌, ◌<◌, List, ◌∷◌, ◌++◌, length, slice_index}
+use Rattle.std.specs.Prelude.{
+  ◌≡◌,
+  ◌≢◌,
+  ◌⊎◌,
+  ℕ,
+  ◌+◌,
+  ◌*◌,
+  ◌/◌,
+  ◌^◌,
+  ◌<◌,
+  List,
+  ◌∷◌,
+  ◌++◌,
+  length,
+  slice_index,
+}
 use Rattle.pm_device.specs.State.{State}
 use Rattle.pm_device.specs.Settled.{LeavesOnly}
 use Rattle.pm_device.specs.Reading.{Reads, Stands}
@@ -49,7 +64,8 @@ pub record Reflags (change : LogItem → LogItem) (slot : ℕ) (old new : Log) :
   pub items' : new.items ≡ front ++ change item ∷ rest
 
 -- and old stands in this inode's log
-pub record CanReflag (g : Geometry) (change : LogItem → LogItem) (ino slot : ℕ) (old new : Log) (s : State) : Type 0 where
+pub record CanReflag (g : Geometry) (change : LogItem → LogItem) (ino slot : ℕ) (old new : Log)
+    (s : State) : Type 0 where
   pub in_table : ino < g.inodes
   pub paged : IsPaged g old
   pub reflags : Reflags change slot old new
@@ -57,11 +73,13 @@ pub record CanReflag (g : Geometry) (change : LogItem → LogItem) (ino slot : �
 
 -- each image left in the call has the old list or the new one
 abbrev pub OldOrNewItem : Geometry → (LogItem → LogItem) → ℕ → State → State → Type 0
-OldOrNewItem g change slot s t = (ino : ℕ) (old new : Log) → CanReflag g change ino slot old new s → LeavesOnly s t (λ c. Reads (LogSays ino old) c ⊎ Reads (LogSays ino new) c)
+OldOrNewItem g change slot s t = (ino : ℕ) (old new : Log) → CanReflag g change ino slot old new s
+    → LeavesOnly s t (λ c. Reads (LogSays ino old) c ⊎ Reads (LogSays ino new) c)
 
 -- afterwards the new list stands
 abbrev pub NewItemStands : Geometry → (LogItem → LogItem) → ℕ → State → State → Type 0
-NewItemStands g change slot s t = (ino : ℕ) (old new : Log) → CanReflag g change ino slot old new s → Stands (LogSays ino new) t
+NewItemStands g change slot s t = (ino : ℕ) (old new : Log) → CanReflag g change ino slot old new s
+    → Stands (LogSays ino new) t
 
 -- this log stands, and none of its pages is this one
 pub record IsElsewhere (g : Geometry) (ino page : ℕ) (log : Log) (s : State) : Type 0 where
@@ -77,7 +95,8 @@ pub record Stood (ino : ℕ) (log : Log) (s t : State) : Type 0 where
 
 -- so do the logs that haven't the page of this slot
 abbrev pub KeepsLogs : Geometry → ℕ → State → State → Type 0
-KeepsLogs g slot s t = (ino : ℕ) (log : Log) → IsElsewhere g ino (slot / 64) log s → Stood ino log s t
+KeepsLogs g slot s t = (ino : ℕ) (log : Log) → IsElsewhere g ino (slot / 64) log s
+    → Stood ino log s t
 
 -- how many pages a Write has
 abbrev pub pages_written : LogItem → ℕ
@@ -86,9 +105,13 @@ pages_written (Size size) = 0
 pages_written (Add ino name) = 0
 pages_written (Forget name) = 0
 
--- a log without a fault has none with another flag, or with another mask that has bits of the Write's pages alone
+-- a log without a fault has none with another flag, or with another mask that has bits of the
+-- Write's pages alone
 abbrev pub FlagKeepsLog : Type 0
-FlagKeepsLog = (g : Geometry) (ino : ℕ) (flag : Flag) (slot : ℕ) (old new : Log) → Reflags (with_flag flag) slot old new → IsLog g ino old → IsLog g ino new
+FlagKeepsLog = (g : Geometry) (ino : ℕ) (flag : Flag) (slot : ℕ) (old new : Log)
+    → Reflags (with_flag flag) slot old new → IsLog g ino old → IsLog g ino new
 
 abbrev pub MaskKeepsLog : Type 0
-MaskKeepsLog = (g : Geometry) (ino m slot : ℕ) (old new : Log) (reflags : Reflags (with_mask m) slot old new) → m < 2 ^ pages_written reflags.item → IsLog g ino old → IsLog g ino new
+MaskKeepsLog = (g : Geometry) (ino m slot : ℕ) (old new : Log)
+    (reflags : Reflags (with_mask m) slot old new) → m < 2 ^ pages_written reflags.item
+    → IsLog g ino old → IsLog g ino new

@@ -1,6 +1,6 @@
 // The flag and the mask of a Write change.
 ghost use Rattle.std.specs.Prelude.{◌≡◌, ◌+◌, ◌*◌, ◌/◌, ◌<◌, ◌≤◌, length, OnOk, IsErr};
-ghost use Rattle.pm_device.specs.Settled.{IsSettled, StoresOnly, LeavesOnly, KeepsFlushed, Others};
+ghost use Rattle.pm_device.specs.Settled.{IsSettled, StoresOnly, LeavesOnly, KeepsFlushed, Others, SettlesAll};
 ghost use Rattle.pm_device.specs.Commit.{IsDone, LeavesOneWord};
 ghost use Rattle.pm_device.specs.State.{Rose};
 ghost use Rattle.pm_layout.specs.Geometry.{IsAccepted, InData};
@@ -39,13 +39,20 @@ pub fn set_flag<D: Pm>(
     requires size { length (D.state device.old).now ≡ 512 * g.now.pages }
     requires slot { InData g.now (slot / 64) }
     requires room { FLAG_UNITS ≤ (D.state device.old).spare }
-    ensures committed { IsSettled (D.state device.old) (flag_word slot) → LeavesOnly (D.state device.old) (D.state device.new) (LeavesOneWord (flag_word slot) (flag_number flag) (D.state device.old)) }
-    ensures done { OnOk result (IsDone who (flag_word slot) (flag_number flag) (D.state device.old) (D.state device.new)) }
-    ensures any_moment { IsSettled (D.state device.old) (flag_word slot) → OldOrNewItem g.now (with_flag flag) slot (D.state device.old) (D.state device.new) }
-    ensures stands { OnOk result (NewItemStands g.now (with_flag flag) slot (D.state device.old) (D.state device.new)) }
+    ensures committed { IsSettled (D.state device.old) (flag_word slot)
+        → LeavesOnly (D.state device.old) (D.state device.new)
+        (LeavesOneWord (flag_word slot) (flag_number flag) (D.state device.old)) }
+    ensures done { OnOk result (IsDone who (flag_word slot) (flag_number flag) (D.state device.old)
+        (D.state device.new)) }
+    ensures any_moment { IsSettled (D.state device.old) (flag_word slot)
+        → OldOrNewItem g.now (with_flag flag) slot (D.state device.old) (D.state device.new) }
+    ensures stands { OnOk result (NewItemStands g.now (with_flag flag) slot (D.state device.old)
+        (D.state device.new)) }
+    ensures settles { OnOk result (SettlesAll who (D.state device.old) (D.state device.new)) }
     ensures other_logs { KeepsLogs g.now slot (D.state device.old) (D.state device.new) }
     ensures only { StoresOnly (λ a. a ≡ flag_word slot) (D.state device.old) (D.state device.new) }
-    ensures others { KeepsFlushed (Others who) (λ a. a ≡ flag_word slot) (D.state device.old) (D.state device.new) }
+    ensures others { KeepsFlushed (Others who) (λ a. a ≡ flag_word slot) (D.state device.old)
+        (D.state device.new) }
     ensures spare { (D.state device.old).spare ≤ (D.state device.new).spare + FLAG_UNITS }
     ensures faults { (D.state device.old).faults ≤ (D.state device.new).faults }
     ensures failed { IsErr result → Rose (D.state device.old).faults (D.state device.new).faults }
@@ -72,13 +79,20 @@ pub fn set_mask<D: Pm>(
     requires size { length (D.state device.old).now ≡ 512 * g.now.pages }
     requires slot { InData g.now (slot / 64) }
     requires room { FLAG_UNITS ≤ (D.state device.old).spare }
-    ensures committed { IsSettled (D.state device.old) (mask_word slot) → LeavesOnly (D.state device.old) (D.state device.new) (LeavesOneWord (mask_word slot) mask (D.state device.old)) }
-    ensures done { OnOk result (IsDone who (mask_word slot) mask (D.state device.old) (D.state device.new)) }
-    ensures any_moment { IsSettled (D.state device.old) (mask_word slot) → OldOrNewItem g.now (with_mask mask) slot (D.state device.old) (D.state device.new) }
-    ensures stands { OnOk result (NewItemStands g.now (with_mask mask) slot (D.state device.old) (D.state device.new)) }
+    ensures committed { IsSettled (D.state device.old) (mask_word slot)
+        → LeavesOnly (D.state device.old) (D.state device.new)
+        (LeavesOneWord (mask_word slot) mask (D.state device.old)) }
+    ensures done { OnOk result (IsDone who (mask_word slot) mask (D.state device.old)
+        (D.state device.new)) }
+    ensures any_moment { IsSettled (D.state device.old) (mask_word slot)
+        → OldOrNewItem g.now (with_mask mask) slot (D.state device.old) (D.state device.new) }
+    ensures stands { OnOk result (NewItemStands g.now (with_mask mask) slot (D.state device.old)
+        (D.state device.new)) }
+    ensures settles { OnOk result (SettlesAll who (D.state device.old) (D.state device.new)) }
     ensures other_logs { KeepsLogs g.now slot (D.state device.old) (D.state device.new) }
     ensures only { StoresOnly (λ a. a ≡ mask_word slot) (D.state device.old) (D.state device.new) }
-    ensures others { KeepsFlushed (Others who) (λ a. a ≡ mask_word slot) (D.state device.old) (D.state device.new) }
+    ensures others { KeepsFlushed (Others who) (λ a. a ≡ mask_word slot) (D.state device.old)
+        (D.state device.new) }
     ensures spare { (D.state device.old).spare ≤ (D.state device.new).spare + FLAG_UNITS }
     ensures faults { (D.state device.old).faults ≤ (D.state device.new).faults }
     ensures failed { IsErr result → Rose (D.state device.old).faults (D.state device.new).faults }

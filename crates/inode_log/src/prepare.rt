@@ -1,16 +1,18 @@
 // Items are stored past the tail.
 ghost use Rattle.std.specs.Prelude.{◌≡◌, ◌⊎◌, ◌+◌, ◌*◌, ◌/◌, ◌%◌, ◌<◌, ◌≤◌, ◌↔◌, ℕ, List, [], ◌∷◌, length, slice_index, All, IsTrue};
 ghost use Rattle.pm_layout.specs.Geometry.{IsAccepted, inode_word};
+ghost use Rattle.pm_device.specs.Settled.{FlushesAll};
 ghost use Rattle.pm_device.specs.Lines.{StoresRun};
 ghost use Rattle.inode_log.specs.Prepare.{CanPrepare, Prepares, IsNextTail, MakesRoom, IsFull};
+ghost use Rattle.inode_log.specs.OtherLogs.{PreparesAlone};
 
 use inode_table::{HEAD, TAIL, read_field, store_field};
 use pm_device::Pm;
-use pm_device::line::{store_line, store_word};
+use pm_device::line::{LINE_UNITS, store_line, store_word};
 use pm_layout::Geometry;
 
-/// The units of the device that `prepare` uses for each slot and for each fresh page.
-pub const PREPARE_UNITS: u64 = 9;
+/// The units of the device that `prepare` uses at most for each slot, which is a line, and for each fresh page.
+pub const PREPARE_UNITS: u64 = LINE_UNITS;
 
 /// Whether the page of this tail has no room left, or there is no page: the next item then begins a new page.
 pub fn is_full(tail: u64) -> bool
@@ -26,8 +28,10 @@ fn link<D: Pm>(device: &mut D, g: &Geometry, who: u32, ino: u64, tail: u64, page
     requires ino { ino < g.now.inodes }
     requires tail { tail < 64 * g.now.pages }
     requires room { PREPARE_UNITS ≤ (D.state device.old).spare }
-    ensures first { tail ≡ 0 → StoresRun who (inode_word ino 1) (page ∷ []) (D.state device.old) (D.state device.new) }
-    ensures later { 0 < tail → StoresRun who (8 * tail) (page ∷ []) (D.state device.old) (D.state device.new) }
+    ensures first { tail ≡ 0 → StoresRun who (inode_word ino 1) (page ∷ []) (D.state device.old)
+        (D.state device.new) }
+    ensures later { 0 < tail → StoresRun who (8 * tail) (page ∷ []) (D.state device.old)
+        (D.state device.new) }
     ensures spare { (D.state device.old).spare ≤ (D.state device.new).spare + PREPARE_UNITS }
     ensures faults { (D.state device.old).faults ≤ (D.state device.new).faults }
 {
@@ -55,10 +59,12 @@ fn make_room<D: Pm>(
     requires pages { All (λ page. page < g.now.pages) fresh.now }
     requires enough { IsFull tail → used < length fresh.now }
     requires room { PREPARE_UNITS ≤ (D.state device.old).spare }
-    ensures links { (slots : List (List ℕ)) → MakesRoom g.now who ino slots fresh.now tail used result.0 result.1 (D.state device.old) (D.state device.new) }
+    ensures links { (slots : List (List ℕ)) → MakesRoom g.now who ino slots fresh.now tail used
+        result.0 result.1 (D.state device.old) (D.state device.new) }
     ensures line { result.0 < 64 * g.now.pages }
     ensures size { length (D.state device.new).now ≡ length (D.state device.old).now }
-    ensures spare { (D.state device.old).spare + PREPARE_UNITS * used ≤ (D.state device.new).spare + PREPARE_UNITS * result.1 }
+    ensures spare { (D.state device.old).spare + PREPARE_UNITS * used ≤ (D.state device.new).spare +
+        PREPARE_UNITS * result.1 }
     ensures faults { (D.state device.old).faults ≤ (D.state device.new).faults }
 {
     if is_full(tail) {
@@ -71,7 +77,7 @@ fn make_room<D: Pm>(
 }
 
 /// Stores slots of items past the tail of an inode's log, links the fresh pages, flushes, and answers the tail
-/// that will commit them. Nothing that is read of the log changes.
+/// that will commit them. Nothing that is read of the log changes, and no log of another inode.
 ///
 /// The slots are the spellings of items, one after the other. The room of the last page and the fresh pages,
 /// which are different pages of the data area that no log has, just hold them.
@@ -87,10 +93,16 @@ pub fn prepare<D: Pm>(
     requires size { length (D.state device.old).now ≡ 512 * g.now.pages }
     requires ino { ino < g.now.inodes }
     requires can { CanPrepare g.now ino slots.now fresh.now (D.state device.old) }
-    requires room { PREPARE_UNITS * (length slots.now + length fresh.now) ≤ (D.state device.old).spare }
+    requires room { PREPARE_UNITS * (length slots.now + length fresh.now) ≤
+        (D.state device.old).spare }
     ensures tail { IsNextTail g.now ino slots.now fresh.now (D.state device.old) result }
-    ensures prepared { Prepares g.now who ino slots.now fresh.now (D.state device.old) (D.state device.new) }
-    ensures spare { (D.state device.old).spare ≤ (D.state device.new).spare + PREPARE_UNITS * (length slots.now + length fresh.now) }
+    ensures flushes { FlushesAll who (D.state device.old) (D.state device.new) }
+    ensures other_logs { PreparesAlone g.now ino slots.now fresh.now (D.state device.old)
+        (D.state device.new) }
+    ensures prepared { Prepares g.now who ino slots.now fresh.now (D.state device.old)
+        (D.state device.new) }
+    ensures spare { (D.state device.old).spare ≤ (D.state device.new).spare + PREPARE_UNITS
+        * (length slots.now + length fresh.now) }
     ensures faults { (D.state device.old).faults ≤ (D.state device.new).faults }
 {
     let mut tail = read_field(device, g, ino, TAIL);

@@ -6,10 +6,12 @@
 #![tactic(auto)]
 
 ghost use Rattle.std.specs.Prelude.{◌≡◌, ◌+◌, ◌*◌, ◌<◌, ◌≤◌, ℕ, List, [], ◌∷◌, length, slice_index};
-ghost use Rattle.pm_device.specs.Settled.{KeepsFlushed, Anyone};
+ghost use Rattle.pm_device.specs.Settled.{IsSettled, SettledOn, LeavesOnly, KeepsFlushed, Anyone, FlushesAll};
+ghost use Rattle.pm_device.specs.Commit.{LeavesOneWord};
 ghost use Rattle.pm_device.specs.Words.{IsIn};
 ghost use Rattle.pm_device.specs.Lines.{StoresRun};
 ghost use Rattle.pm_layout.specs.Geometry.{IsAccepted, inode_word};
+ghost use Rattle.inode_table.specs.Cleared.{IsLogField, LeavesCleared};
 
 use pm_device::Pm;
 use pm_device::run::store_words;
@@ -76,15 +78,21 @@ pub fn read_field<D: Pm>(device: &D, g: &Geometry, ino: u64, field: u64) -> u64
 }
 
 /// Stores one field of an inode and flushes its line, so that this actor's next fence that succeeds settles it.
-/// It uses at most `FIELD_UNITS`.
+/// It uses at most `FIELD_UNITS`. Where the field is settled before, on the way a crash leaves it old or new.
 pub fn store_field<D: Pm>(device: &mut D, g: &Geometry, who: u32, ino: u64, field: u64, value: u64)
     requires accepted { IsAccepted g.now }
     requires size { length (D.state device.old).now ≡ 512 * g.now.pages }
     requires ino { ino < g.now.inodes }
     requires field { field < 4 }
     requires room { FIELD_UNITS ≤ (D.state device.old).spare }
-    ensures stores { StoresRun who (inode_word ino field) (value ∷ []) (D.state device.old) (D.state device.new) }
-    ensures keeps { KeepsFlushed Anyone (IsIn (inode_word ino field) 1) (D.state device.old) (D.state device.new) }
+    ensures stores { StoresRun who (inode_word ino field) (value ∷ []) (D.state device.old)
+        (D.state device.new) }
+    ensures keeps { KeepsFlushed Anyone (IsIn (inode_word ino field) 1) (D.state device.old)
+        (D.state device.new) }
+    ensures any_moment { IsSettled (D.state device.old) (inode_word ino field)
+        → LeavesOnly (D.state device.old) (D.state device.new)
+        (LeavesOneWord (inode_word ino field) value (D.state device.old)) }
+    ensures flushes { FlushesAll who (D.state device.old) (D.state device.new) }
     ensures spare { (D.state device.old).spare ≤ (D.state device.new).spare + FIELD_UNITS }
     ensures faults { (D.state device.old).faults ≤ (D.state device.new).faults }
 {
@@ -92,14 +100,21 @@ pub fn store_field<D: Pm>(device: &mut D, g: &Geometry, who: u32, ino: u64, fiel
 }
 
 /// Stores 0 into the head, the tail and the cut of an inode in one run and flushes them, so that this actor's next
-/// fence that succeeds settles them. The state stays. It uses at most `CLEAR_UNITS`.
+/// fence that succeeds settles them. The state stays. It uses at most `CLEAR_UNITS`. Where the three are settled before,
+/// on the way a crash leaves each of them old or 0.
 pub fn clear_inode<D: Pm>(device: &mut D, g: &Geometry, who: u32, ino: u64)
     requires accepted { IsAccepted g.now }
     requires size { length (D.state device.old).now ≡ 512 * g.now.pages }
     requires ino { ino < g.now.inodes }
     requires room { CLEAR_UNITS ≤ (D.state device.old).spare }
-    ensures stores { StoresRun who (inode_word ino 1) (0 ∷ 0 ∷ 0 ∷ []) (D.state device.old) (D.state device.new) }
-    ensures keeps { KeepsFlushed Anyone (IsIn (inode_word ino 1) 3) (D.state device.old) (D.state device.new) }
+    ensures stores { StoresRun who (inode_word ino 1) (0 ∷ 0 ∷ 0 ∷ []) (D.state device.old)
+        (D.state device.new) }
+    ensures keeps { KeepsFlushed Anyone (IsIn (inode_word ino 1) 3) (D.state device.old)
+        (D.state device.new) }
+    ensures any_moment { SettledOn (IsLogField ino) (D.state device.old)
+        → LeavesOnly (D.state device.old) (D.state device.new)
+        (LeavesCleared ino (D.state device.old)) }
+    ensures flushes { FlushesAll who (D.state device.old) (D.state device.new) }
     ensures spare { (D.state device.old).spare ≤ (D.state device.new).spare + CLEAR_UNITS }
     ensures faults { (D.state device.old).faults ≤ (D.state device.new).faults }
 {

@@ -1,5 +1,27 @@
 -- The images of a run, as the run goes on.
-use Rattle.std.proofs.Common.{◌≡◌, inl, inr, ⊎_elim, ℕ, ◌+◌, ◌<◌, ◌≤◌, List, [], ◌∷◌, ◌++◌, length, take, refl, sym, ◌∙◌, ap, subst, arith, length-append}
+use Rattle.std.proofs.Common.{
+  ◌≡◌,
+  inl,
+  inr,
+  ⊎_elim,
+  ℕ,
+  ◌+◌,
+  ◌<◌,
+  ◌≤◌,
+  List,
+  [],
+  ◌∷◌,
+  ◌++◌,
+  length,
+  take,
+  refl,
+  sym,
+  ◌∙◌,
+  ap,
+  subst,
+  arith,
+  length-append,
+}
 use Rattle.std.specs.Prelude.{slice_index, Option, Some, None}
 use Rattle.std.proofs.lemmas.List.{take-append-le, take_all, append_assoc, append-nil, get_or_append_left, get_or_at}
 use Rattle.std.proofs.lemmas.Bool.{cases_lt}
@@ -19,13 +41,13 @@ use Rattle.dn_model.specs.declared.op.Entry.{Entry}
 use Rattle.dn_model.specs.OnCourse.{IsImageOf, LeavesOneOf, IsOnCourse}
 
 -- a longer past has no fewer moments
-moment-extends : (p q : Option Past) → Extends p q → moment p ≤ moment q
+pub moment-extends : (p q : Option Past) → Extends p q → moment p ≤ moment q
 moment-extends None None on = omega arith
 moment-extends None (Some q) on = absurd on
 moment-extends (Some p) None on = absurd on
 moment-extends (Some p) (Some q) on = omega (arith, ap length on.calls, length-append p.calls on.more)
 
-left-moment : (p : Option Past) (m : ℕ) (c : List ℕ) → Left p m c → m ≤ moment p
+pub left-moment : (p : Option Past) (m : ℕ) (c : List ℕ) → Left p m c → m ≤ moment p
 left-moment None m c left = absurd left
 left-moment (Some p) m c left = left.past
 
@@ -49,12 +71,14 @@ after-all old history f legal = record {
   legal = subst (λ (h : List Entry). Legal old h f) (sym (take_all (length history) history (omega arith))) legal;
 }
 
-at-append : (old : Files) (history more : List Entry) (flying : Option Op) (k : ℕ) (f : Files) → IsFilesAt old history None k f → IsFilesAt old (history ++ more) flying k f
+at-append : (old : Files) (history more : List Entry) (flying : Option Op) (k : ℕ) (f : Files) → IsFilesAt old history None k f
+    → IsFilesAt old (history ++ more) flying k f
 at-append old history more flying k f (after_k after) = after_k (after-append old history more k f after)
 at-append old history more flying k f (one_more after) = one_more (after-append old history more (k + 1) f after)
 at-append old history more flying k f (in_flight g op last is legal granted same) = absurd (cc is)
 
-at-flying : (old : Files) (history : List Entry) (flying : Option Op) (k : ℕ) (f : Files) → IsFilesAt old history None k f → IsFilesAt old history flying k f
+at-flying : (old : Files) (history : List Entry) (flying : Option Op) (k : ℕ) (f : Files) → IsFilesAt old history None k f
+    → IsFilesAt old history flying k f
 at-flying old history flying k f (after_k after) = after_k after
 at-flying old history flying k f (one_more after) = one_more after
 at-flying old history flying k f (in_flight g op last is legal granted same) = absurd (cc is)
@@ -64,10 +88,12 @@ abbrev Holds : Print → Files → List Entry → Option Op → ℕ → List ℕ
 Holds print old history flying k c = (d : Disk) × StandsFor c d × IsOwn print d × IsFilesAt old history flying k (files d)
 
 module _ (print : Print) (old : Files) (start : ℕ) (history : List Entry) where
-  of-image : (flying : Option Op) (k : ℕ) (f : Files) (c : List ℕ) → IsImageOf print f c → ((g : Files) → IsSameFiles g f → IsFilesAt old history flying k g) → Holds print old history flying k c
+  of-image : (flying : Option Op) (k : ℕ) (f : Files) (c : List ℕ) → IsImageOf print f c
+      → ((g : Files) → IsSameFiles g f → IsFilesAt old history flying k g) → Holds print old history flying k c
   of-image flying k f c image at = (image.disk, image.stands_for, image.own, at (files image.disk) image.same)
 
-pub legal-told : (print : Print) (old : Files) (start : ℕ) (history : List Entry) (f : Files) (s : State) → IsOnCourse print old start history f s → Legal old history f
+pub legal-told : (print : Print) (old : Files) (start : ℕ) (history : List Entry) (f : Files) (s : State) → IsOnCourse print old start history f s
+    → Legal old history f
 legal-told print old start history f s on = subst (λ (h : List Entry). Legal old h f) (append-nil history) (on.leads [] f (λ name. refl))
 
 pub begins : (print : Print) (f : Files) (s : State) → LeavesNow s (IsImageOf print f) → IsOnCourse print f (moment s.past) [] f s
@@ -89,7 +115,8 @@ begins print f s now = record {
 }
 
 -- the count of moments that are past, where one more is put behind them
-count-append : (moments : List ℕ) (last m k : ℕ) → m < last → ((i : ℕ) → i < length moments → slice_index moments i ≤ last) → IsCountAt (moments ++ last ∷ []) m k → IsCountAt moments m k
+pub count-append : (moments : List ℕ) (last m k : ℕ) → m < last → ((i : ℕ) → i < length moments → slice_index moments i ≤ last)
+    → IsCountAt (moments ++ last ∷ []) m k → IsCountAt moments m k
 count-append moments last m k early bound count = record {
   few = elim (cases_lt (length moments) k) [
     | inl more ↦
@@ -105,11 +132,13 @@ count-append moments last m k early bound count = record {
         let here : slice_index (moments ++ last ∷ []) i ≡ last = get_or_at moments last [] 0 i i_is in
         omega (arith, here, count.before i lt, early)
   ];
-  after = λ i le lt. subst (λ (n : ℕ). m < n) (get_or_append_left moments (last ∷ []) 0 i lt) (count.after i le (omega (arith, lt, length-append moments (last ∷ []))));
+  after = λ i le lt. subst (λ (n : ℕ). m < n) (get_or_append_left moments (last ∷ []) 0 i lt)
+      (count.after i le (omega (arith, lt, length-append moments (last ∷ []))));
 }
 
 module _ (print : Print) (old : Files) (start : ℕ) (history : List Entry) (f g : Files) (entry : Entry) (s t : State)
-    (on : IsOnCourse print old start history f s) (step : Step f entry.op entry.reply g) (leaves : LeavesOneOf print f g s t) (ends : LeavesNow t (IsImageOf print g)) where
+    (on : IsOnCourse print old start history f s) (step : Step f entry.op entry.reply g) (leaves : LeavesOneOf print f g s t)
+    (ends : LeavesNow t (IsImageOf print g)) where
   later : moment s.past ≤ moment t.past
   later = moment-extends s.past t.past leaves.extends
 
@@ -126,7 +155,8 @@ module _ (print : Print) (old : Files) (start : ℕ) (history : List Entry) (f g
   long-next = length-append history (entry ∷ [])
 
   leads-next : (more : List Entry) (h : Files) → Legal g more h → Legal old (next ++ more) h
-  leads-next more h legal = subst (λ (e : List Entry). Legal old e h) (sym (append_assoc history (entry ∷ []) more)) (on.leads (entry ∷ more) h (g, step, legal))
+  leads-next more h legal = subst (λ (e : List Entry). Legal old e h) (sym (append_assoc history (entry ∷ []) more))
+      (on.leads (entry ∷ more) h (g, step, legal))
 
   legal-next : Legal old next g
   legal-next = subst (λ (h : List Entry). Legal old h g) (append-nil next) (leads-next [] g (λ name. refl))
@@ -147,23 +177,32 @@ module _ (print : Print) (old : Files) (start : ℕ) (history : List Entry) (f g
 
   rises : (i j : ℕ) → i ≤ j → j < length all → slice_index all i ≤ slice_index all j
   rises i j le lt = elim (cases_lt j (length history)) [
-    | inl inside ↦ omega (arith, at-old i (omega (arith, le, inside)), at-old j inside, on.course.rising i j le (omega (arith, inside, on.course.one_each)))
+    | inl inside ↦ omega (
+      arith,
+      at-old i (omega (arith, le, inside)),
+      at-old j inside,
+      on.course.rising i j le
+          (omega (arith, inside, on.course.one_each)),
+    )
     | inr past ↦ omega (arith, at-new j (omega (arith, past, lt, long)), (bounded i (omega (arith, le, lt))).1)
   ]
 
   -- the files of before, or of after
   old_at : (k : ℕ) (h : Files) → k ≡ length history → IsSameFiles h f → IsFilesAt old next None k h
   old_at k h is same = after_k (subst (λ (n : ℕ). IsAfter old next n h) (sym is)
-      (after-append old history (entry ∷ []) (length history) h (same-after old history (length history) f h same (after-all old history f (legal-told print old start history f s on)))))
+      (after-append old history (entry ∷ []) (length history) h (same-after old history (length history) f h same
+      (after-all old history f (legal-told print old start history f s on)))))
 
   new_after : (n : ℕ) (h : Files) → n ≡ length history + 1 → IsSameFiles h g → IsAfter old next n h
-  new_after n h is same = subst (λ (n : ℕ). IsAfter old next n h) (long-next ∙ sym is) (same-after old next (length next) g h same (after-all old next g legal-next))
+  new_after n h is same = subst (λ (n : ℕ). IsAfter old next n h) (long-next ∙ sym is)
+      (same-after old next (length next) g h same (after-all old next g legal-next))
 
   images : (m k : ℕ) (c : List ℕ) → start ≤ m → Left t.past m c → IsCountAt all m k → Holds print old next None k c
   images m k c late left count = elim (cases_lt m (moment s.past)) [
     | inl early ↦
         let d = on.course.images m k c late (left-extends s.past t.past m c leaves.extends (omega (arith, early)) left)
-        (count-append on.course.moments (moment t.past) m k (omega (arith, early, later)) (λ i lt. omega (arith, later, (on.course.bounds i lt).1)) count) in
+        (count-append on.course.moments (moment t.past) m k (omega (arith, early, later)) (λ i lt. omega (arith, later, (on.course.bounds i lt).1))
+        count) in
         (d.0, d.1, d.2, at-append old history (entry ∷ []) None k (files d.0) d.3)
     | inr here ↦ elim (cases_lt m (moment t.past)) [
       | inl before ↦
@@ -171,7 +210,8 @@ module _ (print : Print) (old : Files) (start : ℕ) (history : List Entry) (f g
           let k_is : k ≡ length history = counted inner here in
           ⊎_elim
           (λ (image : IsImageOf print f c). of-image print old start next None k f c image (λ h same. old_at k h k_is same))
-          (λ (image : IsImageOf print g c). of-image print old start next None k g c image (λ h same. one_more (new_after (k + 1) h (ap (λ n. n + 1) k_is) same)))
+          (λ (image : IsImageOf print g c). of-image print old start next None k g c image
+          (λ h same. one_more (new_after (k + 1) h (ap (λ n. n + 1) k_is) same)))
           (leaves.each m c here left)
       | inr end ↦
           let m_is : m ≡ moment t.past = omega (arith, end, left-moment t.past m c left) in
@@ -179,7 +219,8 @@ module _ (print : Print) (old : Files) (start : ℕ) (history : List Entry) (f g
             | inl few ↦ omega (arith, few, m_is, (bounded k (omega (arith, few, long))).1, count.after k (omega arith) (omega (arith, few, long)))
             | inr enough ↦ omega (arith, enough, count.few, long)
           ] in
-          of-image print old start next None k g c (ends c (subst (λ (n : ℕ). Left t.past n c) m_is left)) (λ h same. after_k (new_after k h k_is same))
+          of-image print old start next None k g c (ends c (subst (λ (n : ℕ). Left t.past n c) m_is left))
+          (λ h same. after_k (new_after k h k_is same))
     ]
   ]
     where
@@ -200,7 +241,8 @@ module _ (print : Print) (old : Files) (start : ℕ) (history : List Entry) (f g
   }
 
 -- a call that may have made the one operation that follows, or not
-module _ (print : Print) (old : Files) (start : ℕ) (history : List Entry) (f : Files) (flying : Option Op) (s t : State) (on : IsOnCourse print old start history f s)
+module _ (print : Print) (old : Files) (start : ℕ) (history : List Entry) (f : Files) (flying : Option Op) (s t : State)
+    (on : IsOnCourse print old start history f s)
     (P : List ℕ → Type 0) (leaves : LeavesOnly s t P) (may : (c : List ℕ) → P c → Holds print old history flying (length history) c) where
   last : moment s.past ≤ moment t.past
   last = moment-extends s.past t.past leaves.extends
@@ -227,10 +269,13 @@ module _ (print : Print) (old : Files) (start : ℕ) (history : List Entry) (f :
         | inr enough ↦ omega (arith, enough, count.few, on.course.one_each)
       ]
 
-at-end : (print : Print) (old : Files) (start : ℕ) (history : List Entry) (f : Files) (s : State) (flying : Option Op) (h : Files) → IsOnCourse print old start history f s → IsSameFiles h f → IsFilesAt old history flying (length history) h
-at-end print old start history f s flying h on same = after_k (same-after old history (length history) f h same (after-all old history f (legal-told print old start history f s on)))
+at-end : (print : Print) (old : Files) (start : ℕ) (history : List Entry) (f : Files) (s : State) (flying : Option Op) (h : Files)
+    → IsOnCourse print old start history f s → IsSameFiles h f → IsFilesAt old history flying (length history) h
+at-end print old start history f s flying h on same = after_k (same-after old history (length history) f h same
+    (after-all old history f (legal-told print old start history f s on)))
 
-pub stays : (print : Print) (old : Files) (start : ℕ) (history : List Entry) (f : Files) (s t : State) → IsOnCourse print old start history f s → LeavesOnly s t (IsImageOf print f) → IsOnCourse print old start history f t
+pub stays : (print : Print) (old : Files) (start : ℕ) (history : List Entry) (f : Files) (s t : State) → IsOnCourse print old start history f s
+    → LeavesOnly s t (IsImageOf print f) → IsOnCourse print old start history f t
 stays print old start history f s t on leaves = record {
   course = stays_course print old start history f None s t on (IsImageOf print f) leaves
       (λ c image. of-image print old start history None (length history) f c image (λ h same. at-end print old start history f s None h on same));
@@ -239,10 +284,12 @@ stays print old start history f s t on leaves = record {
   begun = omega (arith, on.begun, moment-extends s.past t.past leaves.extends);
 }
 
-pub stops : (print : Print) (old : Files) (start : ℕ) (history : List Entry) (f : Files) (op : Op) (s t : State) → IsOnCourse print old start history f s → IsGranted f op
+pub stops : (print : Print) (old : Files) (start : ℕ) (history : List Entry) (f : Files) (op : Op) (s t : State) → IsOnCourse print old start history
+    f s → IsGranted f op
     → LeavesOneOf print f (after_op f op) s t → Course print old start history (Some op) t
 stops print old start history f op s t on granted leaves = stays_course print old start history f (Some op) s t on _ leaves
     (λ c. ⊎_elim
-    (λ (image : IsImageOf print f c). of-image print old start history (Some op) (length history) f c image (λ h same. at-end print old start history f s (Some op) h on same))
+    (λ (image : IsImageOf print f c). of-image print old start history (Some op) (length history) f c image
+    (λ h same. at-end print old start history f s (Some op) h on same))
     (λ (image : IsImageOf print (after_op f op) c). of-image print old start history (Some op) (length history) (after_op f op) c image
     (λ h same. in_flight f op refl refl (legal-told print old start history f s on) granted same)))

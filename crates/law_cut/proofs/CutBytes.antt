@@ -1,5 +1,34 @@
 -- The bytes of a file that was cut, and what stays.
-use Rattle.std.proofs.Common.{◌≡◌, ◌≢◌, ◌⊎◌, inl, inr, ⊎_elim, ℕ, ◌+◌, ◌*◌, ◌/◌, ◌%◌, ◌^◌, ◌<◌, ◌≤◌, Bool, true, false, List, [], ◌∷◌, map, refl, sym, ◌∙◌, ap, subst, arith, zero-add}
+use Rattle.std.proofs.Common.{
+  ◌≡◌,
+  ◌≢◌,
+  ◌⊎◌,
+  inl,
+  inr,
+  ⊎_elim,
+  ℕ,
+  ◌+◌,
+  ◌*◌,
+  ◌/◌,
+  ◌%◌,
+  ◌^◌,
+  ◌<◌,
+  ◌≤◌,
+  Bool,
+  true,
+  false,
+  List,
+  [],
+  ◌∷◌,
+  map,
+  refl,
+  sym,
+  ◌∙◌,
+  ap,
+  subst,
+  arith,
+  zero-add,
+}
 use Rattle.std.specs.Prelude.{if◌then◌else◌, nat_lt, slice_index, Contains, Option, Some, None, IsSome, IsNone, All}
 use Rattle.std.specs.List.{range_with_len}
 use Rattle.std.specs.Option.{option_map}
@@ -36,7 +65,20 @@ use Rattle.law_write.proofs.WriteFree.{free-kept, fresh-not_free, block-not_free
 use Rattle.law_write.proofs.WriteValid.{use_kept, rows_kept, below_old, not_mapped, log_page_cases, named_same}
 use Rattle.law_write.proofs.Unread.{read_in_data}
 use Rattle.law_table.proofs.Rows.{row_found, all_listed}
-use Rattle.law_cut.specs.Cutting.{last_page, refill_runs, cut_disk, MayRefill, MayCut, RefillsPage, Refills, EndsInZeros, GoesAway, past_end, refilled, IsDropped}
+use Rattle.law_cut.specs.Cutting.{
+  last_page,
+  refill_runs,
+  cut_disk,
+  MayRefill,
+  MayCut,
+  RefillsPage,
+  Refills,
+  EndsInZeros,
+  GoesAway,
+  past_end,
+  refilled,
+  IsDropped,
+}
 use Rattle.law_cut.specs.CutLaws.{CutsPlaces, Resizes, TakesAndDrops}
 use Rattle.law_cut.proofs.Cutting.{refill_only, refill_inside, cut-writes, not_block}
 
@@ -74,7 +116,8 @@ count_some None size page e = cc
 count_some (Some other) size page e = let same : other ≡ page = cc in (refl, omega (arith, same))
 
 -- a place in the last page that isn't refilled holds nothing to clear
-stays_clear : (r : Option ℕ) (d : Disk) (ino : ℕ) (fresh : List ℕ) (size : ℕ) → MayRefill d ino fresh size r → (size % 4096 ≡ 0) ⊎ ((size_of (d.inode ino).log ≤ size) ⊎ ((maps d ino (last_page size) ≡ None) ⊎ (places_in (refill_runs size r) ≡ 1)))
+stays_clear : (r : Option ℕ) (d : Disk) (ino : ℕ) (fresh : List ℕ) (size : ℕ) → MayRefill d ino fresh size r
+    → (size % 4096 ≡ 0) ⊎ ((size_of (d.inode ino).log ≤ size) ⊎ ((maps d ino (last_page size) ≡ None) ⊎ (places_in (refill_runs size r) ≡ 1)))
 stays_clear None d ino fresh size (inl even) = inl even
 stays_clear None d ino fresh size (inr (inl longer)) = inr (inl longer)
 stays_clear None d ino fresh size (inr (inr none)) = inr (inr (inl none))
@@ -110,7 +153,8 @@ module _ (d : Disk) (ino : ℕ) (fresh : List ℕ) (size : ℕ) (refill : Option
   stays idx lt out = w.other idx out ∙ uncut size idx (maps d ino idx) lt
 
   out_of : (idx : ℕ) → (refill ≡ None) ⊎ (idx ≢ q) → (idx < q) ⊎ (q + n ≤ idx)
-  out_of idx (inl none) = let zero_places : n ≡ 0 = ap (λ (r : Option ℕ). places_in (refill_runs size r)) none in elim (cases_lt idx q) [ inl lt ↦ inl lt | inr le ↦ inr (omega (arith, zero_places, le)) ]
+  out_of idx (inl none) = let zero_places : n ≡ 0 = ap (λ (r : Option ℕ). places_in (refill_runs size r)) none in elim (cases_lt idx q)
+      [ inl lt ↦ inl lt | inr le ↦ inr (omega (arith, zero_places, le)) ]
   out_of idx (inr ne) = elim (cases_lt idx q) [ inl lt ↦ inl lt | inr le ↦ inr (omega (arith, few, le, ne)) ]
 
   pub cuts_places : CutsPlaces d new ino size refill
@@ -119,7 +163,8 @@ module _ (d : Disk) (ino : ℕ) (fresh : List ℕ) (size : ℕ) (refill : Option
     gone = gone;
     anew = λ page e.
         let is = count_some refill size page e in
-        subst (λ (idx : ℕ). IsNewMapping (maps new ino idx) page) (plus_zero q) (subst (IsNewMapping (maps new ino (q + 0))) is.1 (w.own 0 (omega (arith, is.0))));
+        subst (λ (idx : ℕ). IsNewMapping (maps new ino idx) page) (plus_zero q) (subst (IsNewMapping (maps new ino (q + 0))) is.1
+        (w.own 0 (omega (arith, is.0))));
     kept = λ idx lt where_it_is. stays idx lt (out_of idx where_it_is);
     others = maps_others ino d new w;
   }
@@ -133,7 +178,18 @@ module _ (d : Disk) (ino : ℕ) (fresh : List ℕ) (size : ℕ) (refill : Option
     byte_same page k read = ap (λ (v : ℕ). v / 256 ^ (k % 8) % 256) (w.relogs.word page (k / 8) read)
 
     was_read : (i idx : ℕ) (m : Mapping) → i < d.geometry.inodes → maps d i idx ≡ Some m → IsReadPage d m.block
-    was_read i idx m lt is = inl (record { ino = i; idx = idx; maps_to = record { in_table = lt; in_file = maps-in_file d may.valid i idx m lt is; by = m; is = is; block = refl } })
+    was_read i idx m lt is = inl
+        (record {
+          ino = i;
+          idx = idx;
+          maps_to = record {
+            in_table = lt;
+            in_file = maps-in_file d may.valid i idx m lt is;
+            by = m;
+            is = is;
+            block = refl;
+          };
+        })
 
     -- a byte of the old mapping, also past the old end
     old_byte : EndsInZeros d ino → (j : ℕ) → mapped_byte new (j % 4096) (maps d ino (j / 4096)) ≡ slice_index (bytes d ino) j
@@ -148,19 +204,24 @@ module _ (d : Disk) (ino : ℕ) (fresh : List ℕ) (size : ℕ) (refill : Option
           | inr high ↦ sym (get_or_past (bytes d ino) j 0 (omega (arith, length-bytes d ino, high)))
         ]
         by_map (Some m) e = elim (cases_lt j (size_of (d.inode ino).log)) [
-          | inl low ↦ byte_same m.block (j % 4096) (was_read ino (j / 4096) m may.in_table e) ∙ sym (byte_at d ino j low ∙ ap (mapped_byte d (j % 4096)) e)
-          | inr high ↦ byte_same m.block (j % 4096) (was_read ino (j / 4096) m may.in_table e) ∙ zeros (j / 4096) (j % 4096) m e (omega arith) (omega (arith, place, high))
+          | inl low ↦ byte_same m.block (j % 4096) (was_read ino (j / 4096) m may.in_table e) ∙ sym
+              (byte_at d ino j low ∙ ap (mapped_byte d (j % 4096)) e)
+          | inr high ↦ byte_same m.block (j % 4096) (was_read ino (j / 4096) m may.in_table e) ∙ zeros (j / 4096) (j % 4096) m e (omega arith)
+              (omega (arith, place, high))
               ∙ sym (get_or_past (bytes d ino) j 0 (omega (arith, length-bytes d ino, high)))
         ]
 
     -- a byte of the refilled page
-    own_byte : Refills d new ino size refill → (j i : ℕ) → j < size → i < n → j / 4096 ≡ q + i → byte_of new (w.blocks i) (j % 4096) ≡ slice_index (bytes d ino) j
+    own_byte : Refills d new ino size refill → (j i : ℕ) → j < size → i < n → j / 4096 ≡ q + i → byte_of new (w.blocks i) (j % 4096) ≡ slice_index
+        (bytes d ino) j
     own_byte fills j i lt below at_place =
         let only = refill_only size refill i below in
         let page : RefillsPage d new ino size only.1.0 = refill_some refill d new ino size only.1.0 only.1.1 fills in
-        ap (λ (p : ℕ). byte_of new p (j % 4096)) only.1.2 ∙ page.kept (j % 4096) (omega (arith, lt, at_place, only.0)) ∙ ap (slice_index (bytes d ino)) (omega (arith, at_place, only.0))
+        ap (λ (p : ℕ). byte_of new p (j % 4096)) only.1.2 ∙ page.kept (j % 4096) (omega (arith, lt, at_place, only.0)) ∙ ap
+        (slice_index (bytes d ino)) (omega (arith, at_place, only.0))
 
-    new_byte : Refills d new ino size refill → EndsInZeros d ino → (j : ℕ) → j < size → mapped_byte new (j % 4096) (maps new ino (j / 4096)) ≡ slice_index (bytes d ino) j
+    new_byte : Refills d new ino size refill → EndsInZeros d ino → (j : ℕ) → j < size → mapped_byte new (j % 4096) (maps new ino (j / 4096)) ≡
+        slice_index (bytes d ino) j
     new_byte fills zeros j lt = elim (own_or_other q n (j / 4096)) [
       | inl own ↦
           let here = w.own own.0 own.1 in
@@ -172,10 +233,13 @@ module _ (d : Disk) (ino : ℕ) (fresh : List ℕ) (size : ℕ) (refill : Option
     pub cut_bytes : Refills d new ino size refill → EndsInZeros d ino → bytes new ino ≡ resized (bytes d ino) size
     unfolding resized
     cut_bytes fills zeros = same_number_lists (bytes new ino) _ (length-bytes new ino ∙ w.last_size ∙ sym (length-map-range_with_len _ 0 size))
-        (λ j lt. byte_at new ino j (omega (arith, lt, length-bytes new ino)) ∙ new_byte fills zeros j (omega (arith, lt, length-bytes new ino, w.last_size))
-        ∙ sym (get_or-map-range_with_len (slice_index (bytes d ino)) 0 size j j 0 (omega (arith, lt, length-bytes new ino, w.last_size)) (zero-add j)))
+        (λ j lt. byte_at new ino j (omega (arith, lt, length-bytes new ino)) ∙ new_byte fills zeros j
+        (omega (arith, lt, length-bytes new ino, w.last_size))
+        ∙ sym (get_or-map-range_with_len (slice_index (bytes d ino)) 0 size j j 0 (omega (arith, lt, length-bytes new ino, w.last_size))
+        (zero-add j)))
 
-    pub cut_files : Refills d new ino size refill → EndsInZeros d ino → (name : List ℕ) → named d name ≡ Some ino → IsSameFiles (files new) (after_op (files d) (CutOp name size))
+    pub cut_files : Refills d new ino size refill → EndsInZeros d ino → (name : List ℕ) → named d name ≡ Some ino
+        → IsSameFiles (files new) (after_op (files d) (CutOp name size))
     cut_files fills zeros name leads other = ap (option_map (bytes new)) (named_same ino d new w ok other) ∙ by_test (same_name name other) refl
       where
         old_bytes : bytes_or_none (files d name) ≡ bytes d ino
@@ -189,9 +253,11 @@ module _ (d : Disk) (ino : ℕ) (fresh : List ℕ) (size : ℕ) (refill : Option
         ]
           where
             both : other ≡ name → ⊥
-            both same = let self : same_name name name ≡ true = same_name-same name in let differs : same_name name name ≡ false = ap (same_name name) (sym same) ∙ t in cc
+            both same = let self : same_name name name ≡ true = same_name-same name in let differs : same_name name name ≡ false = ap (same_name name)
+                (sym same) ∙ t in cc
 
-        by_test : (t : Bool) → same_name name other ≡ t → option_map (bytes new) (named d other) ≡ (if t then Some (resized (bytes_or_none (files d name)) size) else files d other)
+        by_test : (t : Bool) → same_name name other ≡ t → option_map (bytes new) (named d other) ≡
+            (if t then Some (resized (bytes_or_none (files d name)) size) else files d other)
         by_test true e =
             ap (λ (x : List ℕ). option_map (bytes new) (named d x)) (sym (same_name-true name other e)) ∙ ap (option_map (bytes new)) leads
             ∙ ap Some (cut_bytes fills zeros ∙ ap (λ (before : List ℕ). resized before size) (sym old_bytes))
@@ -207,7 +273,11 @@ module _ (d : Disk) (ino : ℕ) (fresh : List ℕ) (size : ℕ) (refill : Option
       is_other : i ≢ ino → LivePlace d i idx m → Lived i idx m
 
     abbrev old_place : (i idx : ℕ) (m : Mapping) → LivePlace new i idx m → maps d i idx ≡ Some m → LivePlace d i idx m
-    old_place i idx m place is = record { in_table = below_old ino d new w i place.in_table; live = sym (use_kept ino d new w i) ∙ place.live; maps = is }
+    old_place i idx m place is = record {
+      in_table = below_old ino d new w i place.in_table;
+      live = sym (use_kept ino d new w i) ∙ place.live;
+      maps = is;
+    }
 
     lived : (i idx : ℕ) (m : Mapping) → LivePlace new i idx m → Lived i idx m
     lived i idx m place = elim (cases_eq i ino) [
@@ -219,7 +289,8 @@ module _ (d : Disk) (ino : ℕ) (fresh : List ℕ) (size : ℕ) (refill : Option
             is_own e own.0 own.1 own.2 (ap (λ (x : Mapping). x.block) (sym same) ∙ here.page) (ap (λ (x : Mapping). x.flag) (sym same) ∙ here.flag)
         | inr out ↦
             let cut : cut_to size idx (maps d ino idx) ≡ Some m = sym (w.other idx out) ∙ ap (λ (j : ℕ). maps new j idx) (sym e) ∙ place.maps in
-            is_kept e (cut_below size idx (maps d ino idx) m cut) out (old_place i idx m place (ap (λ (j : ℕ). maps d j idx) e ∙ cut_some size idx (maps d ino idx) m cut))
+            is_kept e (cut_below size idx (maps d ino idx) m cut) out
+            (old_place i idx m place (ap (λ (j : ℕ). maps d j idx) e ∙ cut_some size idx (maps d ino idx) m cut))
       ]
       | inr ne ↦ is_other ne (old_place i idx m place (sym (maps_others ino d new w i idx ne) ∙ place.maps))
     ]
@@ -230,13 +301,15 @@ module _ (d : Disk) (ino : ℕ) (fresh : List ℕ) (size : ℕ) (refill : Option
 
     module _ (print : Print) (fills : Refills d new ino size refill) (own : IsOwn print d) where
       -- a place that stays in the last page is past the old end there, or isn't mapped
-      kept_zero : (i idx k : ℕ) (m : Mapping) → i ≡ ino → idx < pages_of size → (idx < q) ⊎ (q + n ≤ idx) → LivePlace d i idx m → size ≤ 4096 * idx + k → k < 4096 → byte_of d m.block k ≡ 0
+      kept_zero : (i idx k : ℕ) (m : Mapping) → i ≡ ino → idx < pages_of size → (idx < q) ⊎ (q + n ≤ idx) → LivePlace d i idx m
+          → size ≤ 4096 * idx + k → k < 4096 → byte_of d m.block k ≡ 0
       kept_zero i idx k m e lt out place past small =
           let last : idx ≡ q = omega (arith, lt, past, small) in
           elim (stays_clear refill d ino fresh size may.refills) [
             | inl even ↦ absurd (omega (arith, even, lt, past, small))
             | inr rest ↦ elim rest [
-              | inl longer ↦ own.zeros i idx k m place (subst (λ (j : ℕ). size_of (d.inode j).log ≤ 4096 * idx + k) (sym e) (omega (arith, longer, past))) small
+              | inl longer ↦ own.zeros i idx k m place (subst (λ (j : ℕ). size_of (d.inode j).log ≤ 4096 * idx + k) (sym e)
+                  (omega (arith, longer, past))) small
               | inr more ↦ elim more [
                 | inl none ↦ absurd (not_both (maps d ino q) m none (ap (maps d ino) (sym last) ∙ ap (λ (j : ℕ). maps d j idx) (sym e) ∙ place.maps))
                 | inr one ↦ absurd (inside last one out)
@@ -261,13 +334,15 @@ module _ (d : Disk) (ino : ℕ) (fresh : List ℕ) (size : ℕ) (refill : Option
           let long : size_of (new.inode i).log ≡ size = ap (λ (k : ℕ). size_of (new.inode k).log) e ∙ w.last_size in
           byte_same m.block k (was_read i idx m place.in_table place.maps) ∙ kept_zero i idx k m e lt out place (omega (arith, long, past)) small
       zeros_by i idx k m (is_other ne place) past small =
-          byte_same m.block k (was_read i idx m place.in_table place.maps) ∙ own.zeros i idx k m place (subst (λ (x : Inode). size_of x.log ≤ 4096 * idx + k) (w.relogs.others i ne) past) small
+          byte_same m.block k (was_read i idx m place.in_table place.maps) ∙ own.zeros i idx k m place
+          (subst (λ (x : Inode). size_of x.log ≤ 4096 * idx + k) (w.relogs.others i ne) past) small
 
       row_kept : (page : ℕ) → HasRow d page → HasRow new page
       row_kept page row = subst (λ (rs : List Row). IsSome (row_of rs page)) (sym (rows_kept ino d new w)) row
 
       done_before : (i idx : ℕ) (m : Mapping) → LivePlace d i idx m → m.flag ≡ Complete → IsAlone m ⊎ HasRow new m.block
-      done_before i idx m place done = ⊎_elim (λ alone. inl alone) (λ (row : HasRow d m.block). inr (row_kept m.block row)) (own.complete i idx m place done)
+      done_before i idx m place done = ⊎_elim (λ alone. inl alone) (λ (row : HasRow d m.block). inr (row_kept m.block row))
+          (own.complete i idx m place done)
 
       complete_by : (i idx : ℕ) (m : Mapping) → Lived i idx m → m.flag ≡ Complete → IsAlone m ⊎ HasRow new m.block
       complete_by i idx m (is_own e j below at_place block flag) done = absurd (not_complete m.flag flag done)
@@ -279,7 +354,8 @@ module _ (d : Disk) (ino : ℕ) (fresh : List ℕ) (size : ℕ) (refill : Option
         zeros = λ i idx k m place. zeros_by i idx k m (lived i idx m place);
         prints = subst (All (λ row. row.print ≡ print (page_bytes new row.page))) (sym (rows_kept ino d new w))
             (all_listed (λ row. row.print ≡ print (page_bytes new row.page)) (rows d) (λ row has.
-            All-contains (λ row. row.print ≡ print (page_bytes d row.page)) (rows d) row own.prints has ∙ ap print (sym (page_same row.page (inr (row_found (rows d) row has))))));
+            All-contains (λ row. row.print ≡ print (page_bytes d row.page)) (rows d) row own.prints has ∙ ap print
+            (sym (page_same row.page (inr (row_found (rows d) row has))))));
         complete = λ i idx m place. complete_by i idx m (lived i idx m place);
       }
 
@@ -296,7 +372,13 @@ module _ (d : Disk) (ino : ℕ) (fresh : List ℕ) (size : ℕ) (refill : Option
     }
       where
         at_place : MapsTo d ino drop.idx page
-        at_place = record { in_table = w.in_table; in_file = maps-in_file d may.valid ino drop.idx drop.by w.in_table drop.was; by = drop.by; is = drop.was; block = drop.block }
+        at_place = record {
+          in_table = w.in_table;
+          in_file = maps-in_file d may.valid ino drop.idx drop.by w.in_table drop.was;
+          by = drop.by;
+          is = drop.was;
+          block = drop.block;
+        }
 
         mapped : IsMapped d page
         mapped = record { ino = ino; idx = drop.idx; maps_to = at_place }
@@ -309,7 +391,8 @@ module _ (d : Disk) (ino : ℕ) (fresh : List ℕ) (size : ℕ) (refill : Option
         no_more (refilled new_page e at_last) =
             let one = count_some refill size new_page e in
             let here = w.own 0 (omega (arith, one.0)) in
-            ap (λ (idx : ℕ). hit page (maps new ino idx)) (plus_zero drop.idx q at_last) ∙ ap (hit page) here.is ∙ hit_other page here.by (λ f. no_block 0 (omega (arith, one.0)) (sym here.page ∙ f))
+            ap (λ (idx : ℕ). hit page (maps new ino idx)) (plus_zero drop.idx q at_last) ∙ ap (hit page) here.is ∙ hit_other page here.by
+            (λ f. no_block 0 (omega (arith, one.0)) (sym here.page ∙ f))
           where
             plus_zero : (a b : ℕ) → a ≡ b → a ≡ b + 0
             plus_zero a b e = omega arith
@@ -320,7 +403,8 @@ module _ (d : Disk) (ino : ℕ) (fresh : List ℕ) (size : ℕ) (refill : Option
             total-lt (λ idx. hit page (maps d ino idx)) (λ idx. hit page (maps new ino idx)) 4096 drop.idx at_place.in_file
             (λ idx lt. hit-written ino d new w page idx (λ i below e. no_block i below)) (omega (arith, before, no_more drop.goes))
 
-        none_left : (mapped_new places_old mapped_old places_new : ℕ) → mapped_new + places_old ≡ mapped_old + places_new → places_new < places_old → mapped_old ≤ 1 → mapped_new ≡ 0
+        none_left : (mapped_new places_old mapped_old places_new : ℕ) → mapped_new + places_old ≡ mapped_old + places_new → places_new < places_old
+            → mapped_old ≤ 1 → mapped_new ≡ 0
         none_left mapped_new places_old mapped_old places_new e lt few = omega arith
 
     -- a page of a log stays one
@@ -352,12 +436,14 @@ module _ (d : Disk) (ino : ℕ) (fresh : List ℕ) (size : ℕ) (refill : Option
         unmapped = none;
       })
       | inr some ↦
-          let found = total-some (λ idx. hit page (maps d ino idx)) 4096 (here _ _ _ _ (mappings-written ino d new w page) free.unmapped (places-le new page ino in_new_table) some) in
+          let found = total-some (λ idx. hit page (maps d ino idx)) 4096 (here _ _ _ _ (mappings-written ino d new w page) free.unmapped
+          (places-le new page ino in_new_table) some) in
           let x = hit_some page (maps d ino found.0) found.2 in
           inr (record { idx = found.0; by = x.0; was = x.1; block = x.2; goes = goes found.0 found.1 x.0 x.1 x.2 })
     ]
       where
-        here : (mapped_new places_old mapped_old places_new : ℕ) → mapped_new + places_old ≡ mapped_old + places_new → mapped_new ≡ 0 → places_new ≤ mapped_new → mapped_old ≢ 0 → 1 ≤ places_old
+        here : (mapped_new places_old mapped_old places_new : ℕ) → mapped_new + places_old ≡ mapped_old + places_new → mapped_new ≡ 0
+            → places_new ≤ mapped_new → mapped_old ≢ 0 → 1 ≤ places_old
         here mapped_new places_old mapped_old places_new e none le some = omega arith
 
         still : (idx : ℕ) → idx < 4096 → (x : Mapping) → x.block ≡ page → maps new ino idx ≡ Some x → ⊥
@@ -368,7 +454,8 @@ module _ (d : Disk) (ino : ℕ) (fresh : List ℕ) (size : ℕ) (refill : Option
         goes : (idx : ℕ) → idx < 4096 → (x : Mapping) → maps d ino idx ≡ Some x → x.block ≡ page → GoesAway size refill idx
         goes idx lt x is block = elim (cases_lt idx (pages_of size)) [
           | inl low ↦ elim (own_or_other q n idx) [
-            | inl own ↦ let is_refill = refill_only size refill own.0 own.1 in refilled is_refill.1.0 is_refill.1.1 (omega (arith, own.2, is_refill.0))
+            | inl own ↦ let is_refill = refill_only size refill own.0 own.1 in refilled is_refill.1.0 is_refill.1.1
+                (omega (arith, own.2, is_refill.0))
             | inr out ↦ absurd (still idx lt x block (stays idx low out ∙ is))
           ]
           | inr past ↦ past_end past

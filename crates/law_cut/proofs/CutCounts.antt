@@ -53,7 +53,8 @@ module _ (d : Disk) (ino : ℕ) (fresh : List ℕ) (size : ℕ) (refill : Option
   kept_by (Some page) fills e idx lt = cut.kept idx (omega (arith, lt)) (inr (omega (arith, lt)))
 
   -- one from there on isn't on the page
-  gone_by : (r : Option ℕ) (page : ℕ) → MayRefill d ino fresh size r → IsNotRefill r page → r ≡ refill → (idx : ℕ) → first_gone size r ≤ idx → hit page (maps new ino idx) ≡ 0
+  gone_by : (r : Option ℕ) (page : ℕ) → MayRefill d ino fresh size r → IsNotRefill r page → r ≡ refill → (idx : ℕ) → first_gone size r ≤ idx
+      → hit page (maps new ino idx) ≡ 0
   gone_by None page fills not e idx past = ap (hit page) (cut.gone idx past)
   gone_by (Some block) page fills not e idx past = elim (cases_eq idx (last_page size)) [
     | inl last ↦
@@ -75,17 +76,21 @@ module _ (d : Disk) (ino : ℕ) (fresh : List ℕ) (size : ℕ) (refill : Option
       rest old now more none e = omega arith
 
   pub mappings_drop : (page : ℕ) → IsNotRefill refill page → mappings new page + dropped_places d ino size refill page ≡ mappings d page
-  mappings_drop page not = joined _ _ _ _ _ (mappings-written ino d new w page) (total-split (λ idx. hit page (maps d ino idx)) (λ idx. hit page (maps new ino idx)) (gone_at page) 4096 (λ idx lt. at_place page not idx))
+  mappings_drop page not = joined _ _ _ _ _ (mappings-written ino d new w page) (total-split (λ idx. hit page (maps d ino idx))
+      (λ idx. hit page (maps new ino idx)) (gone_at page) 4096 (λ idx lt. at_place page not idx))
     where
-      joined : (now before places_old places_new gone : ℕ) → now + places_old ≡ before + places_new → places_old ≡ places_new + gone → now + gone ≡ before
+      joined : (now before places_old places_new gone : ℕ) → now + places_old ≡ before + places_new → places_old ≡ places_new + gone
+          → now + gone ≡ before
       joined now before places_old places_new gone one two = omega arith
 
   -- a row's page isn't filled anew
   not_refill : (r : Option ℕ) → MayRefill d ino fresh size r → (row : Row) → Contains (rows d) row → IsNotRefill r row.page
   not_refill None fills row has = tt
-  not_refill (Some block) fills row has = λ e. none_or_some (row_of (rows d) block) fills.1.no_row (subst (λ (p : ℕ). IsSome (row_of (rows d) p)) (sym e) (row_found (rows d) row has))
+  not_refill (Some block) fills row has = λ e. none_or_some (row_of (rows d) block) fills.1.no_row (subst (λ (p : ℕ). IsSome (row_of (rows d) p))
+      (sym e) (row_found (rows d) row has))
 
-  pub stays_near : ((row : Row) → Contains (rows d) row → row.rfc + dropped_places d ino size refill row.page ≤ mappings d row.page + row.uc) → Near new
+  pub stays_near : ((row : Row) → Contains (rows d) row → row.rfc + dropped_places d ino size refill row.page ≤ mappings d row.page + row.uc)
+      → Near new
   stays_near raised = near_stays d new (rows_kept ino d new w) may.valid.near (λ row has. inr (near_row row has))
     where
       near_row : (row : Row) → Contains (rows d) row → IsNear new row
@@ -94,5 +99,6 @@ module _ (d : Disk) (ino : ℕ) (fresh : List ℕ) (size : ℕ) (refill : Option
           let was = All-contains (IsNear d) (rows d) row may.valid.near has in
           both _ _ _ _ _ falls was.0 (raised row has)
         where
-          both : (now gone before rfc uc : ℕ) → now + gone ≡ before → before ≤ rfc + uc → rfc + gone ≤ before + uc → (now ≤ rfc + uc) × (rfc ≤ now + uc)
+          both : (now gone before rfc uc : ℕ) → now + gone ≡ before → before ≤ rfc + uc → rfc + gone ≤ before + uc
+              → (now ≤ rfc + uc) × (rfc ≤ now + uc)
           both now gone before rfc uc e most least = (omega arith, omega arith)

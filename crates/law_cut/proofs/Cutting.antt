@@ -1,5 +1,29 @@
 -- A cut is an event of a write of no place, or of the last page.
-use Rattle.std.proofs.Common.{◌≡◌, ◌≢◌, ◌⊎◌, ℕ, zero, suc, ◌+◌, ◌-◌, ◌/◌, ◌<◌, ◌≤◌, true, false, List, [], ◌∷◌, length, refl, sym, ◌∙◌, ap, subst, arith}
+use Rattle.std.proofs.Common.{
+  ◌≡◌,
+  ◌≢◌,
+  ◌⊎◌,
+  ℕ,
+  zero,
+  suc,
+  ◌+◌,
+  ◌-◌,
+  ◌/◌,
+  ◌<◌,
+  ◌≤◌,
+  true,
+  false,
+  List,
+  [],
+  ◌∷◌,
+  length,
+  refl,
+  sym,
+  ◌∙◌,
+  ap,
+  subst,
+  arith,
+}
 use Rattle.std.specs.Prelude.{if◌then◌else◌, nat_lt, slice_index, Contains, All, Option, Some, None}
 use Rattle.std.proofs.lemmas.List.Elements.{All-nil, All-cons, All-append, Contains-get_or}
 use Rattle.log_entry.specs.Spelling.{IsSpelled, spelling, spelled, pages_of}
@@ -28,12 +52,14 @@ refill_chained size None = tt
 refill_chained size (Some page) = (refl, omega arith, omega arith, tt)
 
 -- the page's place lies in the size
-pub refill_inside : (d : Disk) (ino : ℕ) (fresh : List ℕ) (size : ℕ) (refill : Option ℕ) → MayRefill d ino fresh size refill → last_page size + places_in (refill_runs size refill) ≤ pages_of size
+pub refill_inside : (d : Disk) (ino : ℕ) (fresh : List ℕ) (size : ℕ) (refill : Option ℕ) → MayRefill d ino fresh size refill
+    → last_page size + places_in (refill_runs size refill) ≤ pages_of size
 refill_inside d ino fresh size None may = omega arith
 refill_inside d ino fresh size (Some page) may = omega (arith, may.0)
 
 -- each of the event's places is the refilled one
-pub refill_only : (size : ℕ) (refill : Option ℕ) (i : ℕ) → i < places_in (refill_runs size refill) → (i ≡ 0) × ((page : ℕ) × (refill ≡ Some page) × (block_at (refill_runs size refill) i ≡ page))
+pub refill_only : (size : ℕ) (refill : Option ℕ) (i : ℕ) → i < places_in (refill_runs size refill)
+    → (i ≡ 0) × ((page : ℕ) × (refill ≡ Some page) × (block_at (refill_runs size refill) i ≡ page))
 refill_only size None i lt = absurd (omega (arith, lt))
 refill_only size (Some page) zero lt = (refl, (page, refl, omega arith))
 refill_only size (Some page) (suc i) lt = absurd (omega (arith, lt))
@@ -52,7 +78,8 @@ cut_new : (size idx block : ℕ) (m : Option Mapping) → idx < pages_of size �
 cut_new size idx block m lt is = subst (λ (x : Option Mapping). IsNewMapping x block) (sym (uncut size idx m lt)) is
 
 cut_twice : (size idx : ℕ) (m : Option Mapping) → cut_to size idx (cut_to size idx m) ≡ cut_to size idx m
-cut_twice size idx m = elim (nat_lt idx (pages_of size)) as (λ b. (if b then (if b then m else None) else None) ≡ (if b then m else None)) [ true ↦ refl | false ↦ refl ]
+cut_twice size idx m = elim (nat_lt idx (pages_of size)) as (λ b. (if b then (if b then m else None) else None) ≡ (if b then m else None))
+    [ true ↦ refl | false ↦ refl ]
 
 module _ (d : Disk) (ino : ℕ) (fresh : List ℕ) (size : ℕ) (refill : Option ℕ) (word : ℕ → ℕ → ℕ) (may : MayCut d ino fresh size refill word) where
   abbrev new : Disk
@@ -89,8 +116,10 @@ module _ (d : Disk) (ino : ℕ) (fresh : List ℕ) (size : ℕ) (refill : Option
       ap (λ (u : Use). maps_by_use u (new.inode ino).log idx) (cut-relogs.same_use ∙ may.live)
       ∙ mapping-grown d.geometry (d.inode ino).log (new.inode ino).log grown log_before.paged idx
       ∙ ap (mapped_after idx (mapping (d.inode ino).log idx)) (placed_from-append pages from (run_items runs size) (Size size ∷ []))
-      ∙ mapped_after-append idx (mapping (d.inode ino).log idx) (placed_from pages from (run_items runs size)) (placed_from pages (from + length (spelled (run_items runs size))) (Size size ∷ []))
-      ∙ ap (λ (u : Use). cut_to size idx (mapped_after idx (maps_by_use u (d.inode ino).log idx) (placed_from pages from (run_items runs size)))) (sym may.live)
+      ∙ mapped_after-append idx (mapping (d.inode ino).log idx) (placed_from pages from (run_items runs size))
+      (placed_from pages (from + length (spelled (run_items runs size))) (Size size ∷ []))
+      ∙ ap (λ (u : Use). cut_to size idx (mapped_after idx (maps_by_use u (d.inode ino).log idx) (placed_from pages from (run_items runs size))))
+      (sym may.live)
 
   pub maps-own : (i : ℕ) → i < places_in runs → IsNewMapping (maps new ino (last_page size + i)) (block_at runs i)
   maps-own i lt = subst (λ (m : Option Mapping). IsNewMapping m (block_at runs i)) (sym (maps-items (last_page size + i)))
@@ -101,10 +130,12 @@ module _ (d : Disk) (ino : ℕ) (fresh : List ℕ) (size : ℕ) (refill : Option
       inside = refill_inside d ino fresh size refill may.refills
 
   other_by : (r : Option ℕ) (idx : ℕ) → (idx < last_page size) ⊎ (last_page size + places_in (refill_runs size r) ≤ idx)
-      → cut_to size idx (mapped_after idx (maps d ino idx) (placed_from pages from (run_items (refill_runs size r) size))) ≡ cut_to size idx (maps d ino idx)
+      → cut_to size idx (mapped_after idx (maps d ino idx) (placed_from pages from (run_items (refill_runs size r) size))) ≡ cut_to size idx
+      (maps d ino idx)
   other_by None idx out = refl
   other_by (Some page) idx out =
-      ap (cut_to size idx) (runs-other size pages from idx (maps d ino idx) (record { first = last_page size; count = 1; block = page }) [] (last_page size) (refill_chained size (Some page)) out) ∙ cut_twice size idx (maps d ino idx)
+      ap (cut_to size idx) (runs-other size pages from idx (maps d ino idx) (record { first = last_page size; count = 1; block = page }) []
+      (last_page size) (refill_chained size (Some page)) out) ∙ cut_twice size idx (maps d ino idx)
 
   pub maps-other : (idx : ℕ) → (idx < last_page size) ⊎ (last_page size + places_in runs ≤ idx) → maps new ino idx ≡ cut_to size idx (maps d ino idx)
   maps-other idx out = maps-items idx ∙ other_by refill idx out
@@ -135,24 +166,33 @@ module _ (d : Disk) (ino : ℕ) (fresh : List ℕ) (size : ℕ) (refill : Option
   -- a page of the log isn't fresh
   log_or_fresh : (j k : ℕ) → j < length (d.inode ino).log.pages → k < length fresh → slice_index (d.inode ino).log.pages j ≢ slice_index fresh k
   log_or_fresh j k jl kl same =
-      (fresh_page k kl).free.in_no_log (record { ino = ino; in_table = may.in_table; used = used; listed = subst (Contains (d.inode ino).log.pages) same (Contains-get_or (d.inode ino).log.pages j 0 jl) })
+      (fresh_page k kl).free.in_no_log (record {
+        ino = ino;
+        in_table = may.in_table;
+        used = used;
+        listed = subst (Contains (d.inode ino).log.pages)
+            same (Contains-get_or (d.inode ino).log.pages j 0 jl);
+      })
 
   grown_paged : IsPaged d.geometry (grown_log (d.inode ino).log fresh (cut_items size refill))
   grown_paged = record {
     fits = may.room ∙ ap (λ (n : ℕ). (n + 62) / 63) (sym slots_now);
-    in_data = append-in_data (d.inode ino).log.pages fresh log_before.paged.apart may.fresh_apart log_or_fresh d.geometry log_before.paged.in_data (λ k lt. (fresh_page k lt).free.data_page);
+    in_data = append-in_data (d.inode ino).log.pages fresh log_before.paged.apart may.fresh_apart log_or_fresh d.geometry log_before.paged.in_data
+        (λ k lt. (fresh_page k lt).free.data_page);
     apart = append-apart (d.inode ino).log.pages fresh log_before.paged.apart may.fresh_apart log_or_fresh;
   }
     where
       slots_now : count (grown_log (d.inode ino).log fresh (cut_items size refill)) ≡ count (d.inode ino).log + length (cut_items size refill)
       slots_now =
-          count-grown (d.inode ino).log (grown_log (d.inode ino).log fresh (cut_items size refill)) (record { fresh = fresh; more = cut_items size refill; pages = refl; items = refl })
+          count-grown (d.inode ino).log (grown_log (d.inode ino).log fresh (cut_items size refill))
+          (record { fresh = fresh; more = cut_items size refill; pages = refl; items = refl })
           ∙ ap (λ (n : ℕ). count (d.inode ino).log + n) (slots size refill)
 
   -- the refilled page is unused, and isn't fresh
   refill_unused : (r : Option ℕ) → MayRefill d ino fresh size r → (page : ℕ) → r ≡ Some page → IsUnused d page × (Contains fresh page → ⊥)
   refill_unused None is page e = cc
-  refill_unused (Some new_page) is page e = let same : new_page ≡ page = cc in (subst (IsUnused d) same is.1, (λ has. is.2 (subst (Contains fresh) (sym same) has)))
+  refill_unused (Some new_page) is page e = let same : new_page ≡ page = cc in
+      (subst (IsUnused d) same is.1, (λ has. is.2 (subst (Contains fresh) (sym same) has)))
 
   block_unused : (i : ℕ) → i < places_in runs → IsUnused d (block_at runs i) × (Contains fresh (block_at runs i) → ⊥)
   block_unused i lt =

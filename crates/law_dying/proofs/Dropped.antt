@@ -63,7 +63,18 @@ module _ (d : Disk) (ino : ℕ) (step : Step) (may : MayStep d ino step) where
   pub mapped_only : (page : ℕ) → IsMapped new page → IsMapped d page
   mapped_only page m =
       let to = m.maps_to in
-      record { ino = m.ino; idx = m.idx; maps_to = record { in_table = below m.ino to.in_table; in_file = to.in_file; by = to.by; is = maps_only m.ino m.idx to.by to.is; block = to.block } }
+      record {
+        ino = m.ino;
+        idx = m.idx;
+        maps_to = record {
+          in_table = below m.ino to.in_table;
+          in_file = to.in_file;
+          by = to.by;
+          is = maps_only m.ino
+              m.idx to.by to.is;
+          block = to.block;
+        };
+      }
 
   hit-le : (page : ℕ) (a b : Option Mapping) → ((m : Mapping) → a ≡ Some m → b ≡ Some m) → hit page a ≤ hit page b
   hit-le page None b only = omega arith
@@ -71,9 +82,11 @@ module _ (d : Disk) (ino : ℕ) (step : Step) (may : MayStep d ino step) where
 
   pub mappings-le : (page : ℕ) → mappings new page ≤ mappings d page
   unfolding mappings
-  mappings-le page = same_inodes _ _ _ (ap (λ (g : Geometry). total g.inodes (λ i. total 4096 (λ idx. hit page (maps new i idx)))) (same_geometry d ino step))
+  mappings-le page = same_inodes _ _ _ (ap (λ (g : Geometry). total g.inodes (λ i. total 4096 (λ idx. hit page (maps new i idx))))
+      (same_geometry d ino step))
       (total-le (λ i. total 4096 (λ idx. hit page (maps d i idx))) (λ i. total 4096 (λ idx. hit page (maps new i idx))) d.geometry.inodes
-      (λ i lt. total-le (λ idx. hit page (maps d i idx)) (λ idx. hit page (maps new i idx)) 4096 (λ idx small. hit-le page (maps new i idx) (maps d i idx) (maps_only i idx))))
+      (λ i lt. total-le (λ idx. hit page (maps d i idx)) (λ idx. hit page (maps new i idx)) 4096
+      (λ idx small. hit-le page (maps new i idx) (maps d i idx) (maps_only i idx))))
     where
       same_inodes : (a b c : ℕ) → a ≡ b → b ≤ c → a ≤ c
       same_inodes a b c e le = omega arith

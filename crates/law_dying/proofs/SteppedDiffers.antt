@@ -7,7 +7,35 @@ use Rattle.pm_device.specs.Pages.{SaysRun}
 use Rattle.pm_layout.specs.Geometry.{inode_word}
 use Rattle.dn_model.specs.Log.{LogSays}
 use Rattle.dn_model.specs.Table.{Row, row_of}
-use Rattle.dn_model.specs.Disk.{Disk, Inode, Free, Dying, IsUsed, IsMapped, rows, state_number, DiskSays, of_head, of_inodes, of_logs, of_chains, of_pointers, of_pages, HeadSays, at_magic, at_version, at_pages, at_inodes, at_gate, InodesSay, at_state, at_cut, LogsSay, ChainsSay, PointersSay}
+use Rattle.dn_model.specs.Disk.{
+  Disk,
+  Inode,
+  Free,
+  Dying,
+  IsUsed,
+  IsMapped,
+  rows,
+  state_number,
+  DiskSays,
+  of_head,
+  of_inodes,
+  of_logs,
+  of_chains,
+  of_pointers,
+  of_pages,
+  HeadSays,
+  at_magic,
+  at_version,
+  at_pages,
+  at_inodes,
+  at_gate,
+  InodesSay,
+  at_state,
+  at_cut,
+  LogsSay,
+  ChainsSay,
+  PointersSay,
+}
 use Rattle.dn_model.proofs.Regions.{inode_word_low}
 use Rattle.law_write.specs.Events.{IsReadPage}
 use Rattle.law_write.proofs.Unread.{read_in_data}
@@ -39,7 +67,8 @@ module _ (d : Disk) (ino : ℕ) (step : Step) (may : MayStep d ino step) where
   other a v no_state no_cut says = inr (not_step_word ino a step no_state no_cut, inl says)
 
   high_other : (a v : ℕ) → IsHigh d.geometry a → DiskSays d a v → Differs a v
-  high_other a v high says = other a v (high_not_inode d.geometry a ino 0 high may.in_table (omega arith)) (high_not_inode d.geometry a ino 3 high may.in_table (omega arith)) says
+  high_other a v high says = other a v (high_not_inode d.geometry a ino 0 high may.in_table (omega arith))
+      (high_not_inode d.geometry a ino 3 high may.in_table (omega arith)) says
 
   head_same : (a v : ℕ) → HeadSays new a v → HeadSays d a v
   unfolding stepped
@@ -56,25 +85,29 @@ module _ (d : Disk) (ino : ℕ) (step : Step) (may : MayStep d ino step) where
   head_differs a v (at_inodes place value) = other a v (λ e. omega arith) (λ e. omega arith) (of_head (at_inodes place value))
   head_differs a v (at_gate place value) = other a v (λ e. omega arith) (λ e. omega arith) (of_head (at_gate place value))
 
-  state_here : (s : Step) (a v : ℕ) → a ≡ inode_word ino 0 → v ≡ state_number (use_after s) → ((a ≡ step_word ino s) × (v ≡ step_value s)) ⊎ ((a ≢ step_word ino s) × (DiskSays d a v ⊎ SaysRun 0 [] a v))
+  state_here : (s : Step) (a v : ℕ) → a ≡ inode_word ino 0 → v ≡ state_number (use_after s) → ((a ≡ step_word ino s) × (v ≡ step_value s))
+      ⊎ ((a ≢ step_word ino s) × (DiskSays d a v ⊎ SaysRun 0 [] a v))
   state_here (Falls cut) a v place value = inr (
     λ e. omega (arith, place, e),
     inl (of_inodes (at_state ino may.in_table place (value ∙ ap state_number (sym may.dying)))),
   )
   state_here Ends a v place value = inl (place, value)
 
-  cut_here : (s : Step) (a v c : ℕ) → use_after s ≡ Dying c → a ≡ inode_word ino 3 → v ≡ c → ((a ≡ step_word ino s) × (v ≡ step_value s)) ⊎ ((a ≢ step_word ino s) × (DiskSays d a v ⊎ SaysRun 0 [] a v))
+  cut_here : (s : Step) (a v c : ℕ) → use_after s ≡ Dying c → a ≡ inode_word ino 3 → v ≡ c → ((a ≡ step_word ino s) × (v ≡ step_value s))
+      ⊎ ((a ≢ step_word ino s) × (DiskSays d a v ⊎ SaysRun 0 [] a v))
   cut_here (Falls cut) a v c dying place value = inl (place, value ∙ sym (dying_one cut c dying))
   cut_here Ends a v c dying place value = absurd (free_dying c dying)
 
   inodes_differ : (a v : ℕ) → InodesSay new a v → Differs a v
   inodes_differ a v (at_state i lt place value) = elim (cases_eq i ino) [
-    | inl e ↦ state_here step a v (place ∙ ap (λ (j : ℕ). inode_word j 0) e) (value ∙ ap (λ (n : Inode). state_number n.use_of) (ap new.inode e ∙ at_ino d ino step))
+    | inl e ↦ state_here step a v (place ∙ ap (λ (j : ℕ). inode_word j 0) e) (value ∙ ap (λ (n : Inode). state_number n.use_of)
+        (ap new.inode e ∙ at_ino d ino step))
     | inr ne ↦ other a v (λ f. ne (omega (arith, place, f))) (λ f. omega (arith, place, f))
         (of_inodes (at_state i (below d ino step may i lt) place (value ∙ ap (λ (n : Inode). state_number n.use_of) (at_other d ino step i ne))))
   ]
   inodes_differ a v (at_cut i c lt dying place value) = elim (cases_eq i ino) [
-    | inl e ↦ cut_here step a v c (ap (λ (n : Inode). n.use_of) (sym (ap new.inode e ∙ at_ino d ino step)) ∙ dying) (place ∙ ap (λ (j : ℕ). inode_word j 3) e) value
+    | inl e ↦ cut_here step a v c (ap (λ (n : Inode). n.use_of) (sym (ap new.inode e ∙ at_ino d ino step)) ∙ dying)
+        (place ∙ ap (λ (j : ℕ). inode_word j 3) e) value
     | inr ne ↦ other a v (λ f. omega (arith, place, f)) (λ f. ne (omega (arith, place, f)))
         (of_inodes (at_cut i c (below d ino step may i lt) (ap (λ (n : Inode). n.use_of) (sym (at_other d ino step i ne)) ∙ dying) place value))
   ]
@@ -101,7 +134,8 @@ module _ (d : Disk) (ino : ℕ) (step : Step) (may : MayStep d ino step) where
   ]
 
   logs_differ : (a v : ℕ) → LogsSay d a v → Differs a v
-  logs_differ a v told = place_other told.ino a v (log_place d.geometry told.ino (d.inode told.ino).log a v (may.valid.logs told.ino told.in_table told.used).paged told.says) (of_logs told)
+  logs_differ a v told = place_other told.ino a v (log_place d.geometry told.ino (d.inode told.ino).log a v
+      (may.valid.logs told.ino told.in_table told.used).paged told.says) (of_logs told)
 
   chains_same : (a v : ℕ) → ChainsSay new a v → ChainsSay d a v
   unfolding stepped
@@ -123,12 +157,22 @@ module _ (d : Disk) (ino : ℕ) (step : Step) (may : MayStep d ino step) where
   stepped_differs a v (of_head told) = head_differs a v (head_same a v told)
   stepped_differs a v (of_inodes told) = inodes_differ a v told
   stepped_differs a v (of_logs told) = logs_differ a v (logs_same a v told)
-  stepped_differs a v (of_chains told) = let was = chains_same a v told in high_other a v (chain_high d.geometry was.prefix (d.chain was.prefix) a v was.says) (of_chains was)
-  stepped_differs a v (of_pointers told) = let was = pointers_same a v told in high_other a v (pointer_high d.geometry was.page a was.place) (of_pointers was)
+  stepped_differs a v (of_chains told) = let was = chains_same a v told in high_other a v (chain_high d.geometry was.prefix (d.chain was.prefix) a v
+      was.says) (of_chains was)
+  stepped_differs a v (of_pointers told) = let was = pointers_same a v told in high_other a v (pointer_high d.geometry was.page a was.place)
+      (of_pointers was)
   stepped_differs a v (of_pages told) =
       let read : IsReadPage d told.page = read_before told.page told.read in
       high_other a v (data_high d.geometry told.page told.k a (read_in_data d may.valid told.page read) told.place)
-      (of_pages (record { page = told.page; k = told.k; in_page = told.in_page; read = read; place = told.place; value = words_same told.page told.k v told.value }))
+      (of_pages (record {
+        page = told.page;
+        k = told.k;
+        in_page = told.in_page;
+        read = read;
+        place = told.place;
+        value = words_same told.page told.k v
+            told.value;
+      }))
 
   inside : (s : Step) → step_word ino s < 512 * d.geometry.pages
   inside (Falls cut) = let low = inode_word_low d.geometry ino 3 may.in_table (omega arith) in omega (arith, low, may.valid.accepted.room)

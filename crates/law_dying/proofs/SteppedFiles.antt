@@ -37,11 +37,13 @@ module _ (d : Disk) (ino : ℕ) (step : Step) (may : MayStep d ino step) where
   mapped_byte_same k (Some m) = ap (λ (v : ℕ). v / 256 ^ (k % 8) % 256) (same_word d ino step m.block (k / 8))
 
   pub bytes_same : (i : ℕ) → i ≢ ino → bytes new i ≡ bytes d i
-  bytes_same i ne = same_number_lists (bytes new i) (bytes d i) (length-bytes new i ∙ size_same i ne ∙ sym (length-bytes d i)) (λ j lt. byte j (omega (arith, lt, length-bytes new i)))
+  bytes_same i ne = same_number_lists (bytes new i) (bytes d i) (length-bytes new i ∙ size_same i ne ∙ sym (length-bytes d i))
+      (λ j lt. byte j (omega (arith, lt, length-bytes new i)))
     where
       byte : (j : ℕ) → j < size_of (new.inode i).log → slice_index (bytes new i) j ≡ slice_index (bytes d i) j
       byte j lt =
-          byte_at new i j lt ∙ ap (mapped_byte new (j % 4096)) (maps_others d ino step may i (j / 4096) ne) ∙ mapped_byte_same (j % 4096) (maps d i (j / 4096))
+          byte_at new i j lt ∙ ap (mapped_byte new (j % 4096)) (maps_others d ino step may i (j / 4096) ne) ∙ mapped_byte_same (j % 4096)
+          (maps d i (j / 4096))
           ∙ sym (byte_at d i j (omega (arith, lt, size_same i ne)))
 
   pub files_same : IsSameFiles (files new) (files d)
@@ -61,12 +63,20 @@ module _ (d : Disk) (ino : ℕ) (step : Step) (may : MayStep d ino step) where
   pub live_kept : (i idx : ℕ) (m : Mapping) → LivePlace d i idx m → LivePlace new i idx m
   live_kept i idx m place =
       let ne = was_other i place.live in
-      record { in_table = above d ino step may i place.in_table; live = ap (λ (n : Inode). n.use_of) (at_other d ino step i ne) ∙ place.live; maps = maps_others d ino step may i idx ne ∙ place.maps }
+      record {
+        in_table = above d ino step may i place.in_table;
+        live = ap (λ (n : Inode). n.use_of) (at_other d ino step i ne) ∙ place.live;
+        maps = maps_others d ino step may i idx ne ∙ place.maps;
+      }
 
   pub live_only : (i idx : ℕ) (m : Mapping) → LivePlace new i idx m → LivePlace d i idx m
   live_only i idx m place =
       let ne = live_other i place.live in
-      record { in_table = below d ino step may i place.in_table; live = ap (λ (n : Inode). n.use_of) (sym (at_other d ino step i ne)) ∙ place.live; maps = sym (maps_others d ino step may i idx ne) ∙ place.maps }
+      record {
+        in_table = below d ino step may i place.in_table;
+        live = ap (λ (n : Inode). n.use_of) (sym (at_other d ino step i ne)) ∙ place.live;
+        maps = sym (maps_others d ino step may i idx ne) ∙ place.maps;
+      }
 
   page_bytes_same : (page : ℕ) → page_bytes new page ≡ page_bytes d page
   unfolding page_bytes stepped
@@ -77,12 +87,14 @@ module _ (d : Disk) (ino : ℕ) (step : Step) (may : MayStep d ino step) where
   byte_same page k = refl
 
   alone_or_row : (m : Mapping) → IsAlone m ⊎ HasRow d m.block → IsAlone m ⊎ HasRow new m.block
-  alone_or_row m is = ⊎_elim (λ alone. inl alone) (λ (row : HasRow d m.block). inr (subst (λ (rs : List Row). IsSome (row_of rs m.block)) (sym (same_rows d ino step)) row)) is
+  alone_or_row m is = ⊎_elim (λ alone. inl alone)
+      (λ (row : HasRow d m.block). inr (subst (λ (rs : List Row). IsSome (row_of rs m.block)) (sym (same_rows d ino step)) row)) is
 
   pub own_kept : (print : Print) → IsOwn print d → IsOwn print new
   own_kept print own = record {
     zeros = λ i idx k m place past small.
-        byte_same m.block k ∙ own.zeros i idx k m (live_only i idx m place) (subst (λ (n : ℕ). n ≤ 4096 * idx + k) (size_same i (live_other i place.live)) past) small;
+        byte_same m.block k ∙ own.zeros i idx k m (live_only i idx m place)
+        (subst (λ (n : ℕ). n ≤ 4096 * idx + k) (size_same i (live_other i place.live)) past) small;
     prints = subst (All (λ row. row.print ≡ print (page_bytes new row.page))) (sym (same_rows d ino step))
         (All-weaker (λ (row : Row). row.print ≡ print (page_bytes d row.page)) (λ (row : Row). row.print ≡ print (page_bytes new row.page))
         (λ row is. is ∙ ap print (sym (page_bytes_same row.page))) (rows d) own.prints);
@@ -94,7 +106,8 @@ module _ (d : Disk) (ino : ℕ) (step : Step) (may : MayStep d ino step) where
     complete = λ i idx m place. settled.complete i idx m (live_only i idx m place);
     done = λ i idx m place. alone_or_row m (settled.done i idx m (live_only i idx m place));
     shared = λ i j idx jdx m n at_i at_j same.
-        settled.shared i j idx jdx m n (live_only i idx m at_i) (live_only j jdx n at_j) (sym (page_bytes_same m.block) ∙ same ∙ page_bytes_same n.block);
+        settled.shared i j idx jdx m n (live_only i idx m at_i) (live_only j jdx n at_j) (sym (page_bytes_same m.block) ∙ same ∙ page_bytes_same
+        n.block);
   }
 
   pub living_kept : KeepsLiving d new ino

@@ -45,10 +45,12 @@ listed_or_not : (xs : List ℕ) (x : ℕ) → Contains xs x ⊎ (Contains xs x �
 listed_or_not [] x = inr (λ has. omega (arith, has.1))
 listed_or_not (y ∷ xs) x = elim (cases_eq y x) [
   | inl e ↦ inl (subst (Contains (y ∷ xs)) e (listed_here y xs))
-  | inr ne ↦ ⊎_elim (λ (has : Contains xs x). inl (listed_later y xs x has)) (λ not. inr (λ has. ⊎_elim (λ (e : y ≡ x). ne e) not (listed_cases y xs x has))) (listed_or_not xs x)
+  | inr ne ↦ ⊎_elim (λ (has : Contains xs x). inl (listed_later y xs x has))
+      (λ not. inr (λ has. ⊎_elim (λ (e : y ≡ x). ne e) not (listed_cases y xs x has))) (listed_or_not xs x)
 ]
 
-maps_dying : (d : Disk) (ino before : ℕ) → (d.inode ino).use_of ≡ Dying before → (idx : ℕ) → maps d ino idx ≡ maps_by_use (Dying before) (d.inode ino).log idx
+maps_dying : (d : Disk) (ino before : ℕ) → (d.inode ino).use_of ≡ Dying before → (idx : ℕ) → maps d ino idx ≡ maps_by_use (Dying before)
+    (d.inode ino).log idx
 unfolding maps
 maps_dying d ino before dying idx = ap (λ (u : Use). maps_by_use u (d.inode ino).log idx) dying
 
@@ -65,7 +67,8 @@ module _ (d : Disk) (ino cut : ℕ) (may : MayFall d ino cut) where
   greatest : (j : ℕ) → cut < j → maps d ino j ≡ None
   greatest j above_cut = elim (cases_lt j may.before) [
     | inl lt ↦ may.greatest j above_cut lt
-    | inr past ↦ maps_dying d ino may.before may.dying j ∙ ap (λ (b : Bool). if b then mapping (d.inode ino).log j else None) (test_past j may.before past)
+    | inr past ↦ maps_dying d ino may.before may.dying j ∙ ap (λ (b : Bool). if b then mapping (d.inode ino).log j else None)
+        (test_past j may.before past)
   ]
 
   pub fall_lowers : LowersCut ino cut may.before d new
@@ -87,7 +90,8 @@ module _ (d : Disk) (ino cut : ℕ) (may : MayFall d ino cut) where
   adds : AddsMapping may.by.block new d
   adds = place_unmapped ino cut d new unmaps.remaps may.by may.mapped unmaps.gone
 
-  near_row : (row : Row) → Contains (rows d) row → (row.page ≡ may.by.block) ⊎ (row.page ≢ may.by.block) → (mappings new row.page ≡ mappings d row.page) ⊎ IsNear new row
+  near_row : (row : Row) → Contains (rows d) row → (row.page ≡ may.by.block) ⊎ (row.page ≢ may.by.block)
+      → (mappings new row.page ≡ mappings d row.page) ⊎ IsNear new row
   near_row row has (inr ne) = inl (sym (adds.others row.page ne))
   near_row row has (inl e) =
       let was = All-contains (IsNear d) (rows d) row may.valid.near has in
@@ -98,7 +102,8 @@ module _ (d : Disk) (ino cut : ℕ) (may : MayFall d ino cut) where
   less : (idx : ℕ) (m : Mapping) → maps_by_use (Dying cut) (d.inode ino).log idx ≡ Some m → maps d ino idx ≡ Some m
   less idx m is =
       let both = dying_maps cut idx (d.inode ino).log m is in
-      maps_dying d ino may.before may.dying idx ∙ ap (λ (b : Bool). if b then mapping (d.inode ino).log idx else None) (test_below idx may.before (omega (arith, both.0, here_before.0))) ∙ both.1
+      maps_dying d ino may.before may.dying idx ∙ ap (λ (b : Bool). if b then mapping (d.inode ino).log idx else None)
+      (test_below idx may.before (omega (arith, both.0, here_before.0))) ∙ both.1
 
   pub fall_steps : MayStep d ino (Falls cut)
   fall_steps = record {
@@ -112,7 +117,17 @@ module _ (d : Disk) (ino cut : ℕ) (may : MayFall d ino cut) where
   }
 
   block_mapped : IsMapped d may.by.block
-  block_mapped = record { ino = ino; idx = cut; maps_to = record { in_table = may.in_table; in_file = omega (arith, here_before.0, cut_small); by = may.by; is = may.mapped; block = refl } }
+  block_mapped = record {
+    ino = ino;
+    idx = cut;
+    maps_to = record {
+      in_table = may.in_table;
+      in_file = omega (arith, here_before.0, cut_small);
+      by = may.by;
+      is = may.mapped;
+      block = refl;
+    };
+  }
 
   freed : IsNone (row_of (rows d) may.by.block) → IsFree new may.by.block
   freed none = record {
@@ -127,7 +142,8 @@ module _ (d : Disk) (ino cut : ℕ) (may : MayFall d ino cut) where
     ino = ino;
     in_table = above d ino (Falls cut) fall_steps ino may.in_table;
     used = subst (λ (n : Inode). IsUsed n.use_of) (sym (at_ino d ino (Falls cut))) tt;
-    listed = subst (λ (n : Inode). Contains n.log.pages page) (sym (at_ino d ino (Falls cut))) (subst (λ (i : ℕ). Contains (d.inode i).log.pages page) e p.listed);
+    listed = subst (λ (n : Inode). Contains n.log.pages page) (sym (at_ino d ino (Falls cut))) (subst (λ (i : ℕ). Contains (d.inode i).log.pages page)
+        e p.listed);
   }
   log_page_kept page p (inr ne) = log_page_other d ino (Falls cut) fall_steps page p ne
 
@@ -150,8 +166,14 @@ module _ (d : Disk) (ino cut : ℕ) (may : MayFall d ino cut) where
         let was = All-contains (IsExactRow d) (rows d) row exact.counts has in
         (was.0, was.1 ∙ adds.others row.page (none_listed (rows d) may.by.block none row has), was.2)));
     unshared = λ page no_row. elim (cases_eq page may.by.block) [
-      | inl e ↦ let here : mappings new page ≡ mappings new may.by.block = ap (mappings new) e in omega (arith, here, adds.more, exact.unshared may.by.block none)
-      | inr ne ↦ omega (arith, adds.others page ne, exact.unshared page (subst (λ (rs : List Row). IsNone (row_of rs page)) (same_rows d ino (Falls cut)) no_row))
+      | inl e ↦ let here : mappings new page ≡ mappings new may.by.block = ap (mappings new) e in
+          omega (arith, here, adds.more, exact.unshared may.by.block none)
+      | inr ne ↦ omega (
+        arith,
+        adds.others page ne,
+        exact.unshared page (subst (λ (rs : List Row). IsNone (row_of rs page))
+            (same_rows d ino (Falls cut)) no_row),
+      )
     ];
   }
 
@@ -174,12 +196,14 @@ module _ (d : Disk) (ino : ℕ) (may : MayEnd d ino) where
   maps_ended : (i idx : ℕ) → maps ended i idx ≡ maps d i idx
   unfolding maps
   maps_ended i idx = elim (cases_eq i ino) [
-    | inl e ↦ ap (λ (n : Inode). maps_by_use n.use_of n.log idx) (ap ended.inode e ∙ at_ino d ino Ends) ∙ sym (may.unmapped idx) ∙ ap (λ (j : ℕ). maps d j idx) (sym e)
+    | inl e ↦ ap (λ (n : Inode). maps_by_use n.use_of n.log idx) (ap ended.inode e ∙ at_ino d ino Ends) ∙ sym (may.unmapped idx) ∙ ap
+        (λ (j : ℕ). maps d j idx) (sym e)
     | inr ne ↦ ap (λ (n : Inode). maps_by_use n.use_of n.log idx) (at_other d ino Ends i ne)
   ]
 
   mappings_ended : (page : ℕ) → mappings ended page ≡ mappings d page
-  mappings_ended = blocks_tell d ended (ap (λ (g : Geometry). g.inodes) (same_geometry d ino Ends)) (λ i idx lt. ap (option_map (λ (m : Mapping). m.block)) (maps_ended i idx))
+  mappings_ended = blocks_tell d ended (ap (λ (g : Geometry). g.inodes) (same_geometry d ino Ends))
+      (λ i idx lt. ap (option_map (λ (m : Mapping). m.block)) (maps_ended i idx))
 
   near_ended : Near d → Near ended
   near_ended near = near_stays d ended (same_rows d ino Ends) near (λ row has. inl (mappings_ended row.page))
@@ -223,7 +247,8 @@ module _ (d : Disk) (ino : ℕ) (may : MayEnd d ino) where
       in_data : Contains (d.inode ino).log.pages page → InData d.geometry page
       in_data has =
           let paged = (may.valid.logs ino may.in_table (subst IsUsed (sym may.dying) tt)).paged in
-          subst (InData d.geometry) has.2 (subst (InData d.geometry) (get_or_default (d.inode ino).log.pages has.0 0 page has.1) (paged.in_data has.0 has.1))
+          subst (InData d.geometry) has.2 (subst (InData d.geometry) (get_or_default (d.inode ino).log.pages has.0 0 page has.1)
+          (paged.in_data has.0 has.1))
 
   free_ended : (page : ℕ) → IsFree ended page → IsFree d page ⊎ Contains (d.inode ino).log.pages page
   free_ended page free = elim (listed_or_not (d.inode ino).log.pages page) [
@@ -245,7 +270,12 @@ module _ (d : Disk) (ino : ℕ) (may : MayEnd d ino) where
   exact_ended exact = record {
     counts = subst (All (IsExactIn ended)) (sym (same_rows d ino Ends)) (all_listed (IsExactIn ended) (rows d) (λ row has.
         let was = All-contains (IsExactIn d) (rows d) row exact.counts has in (was.0, was.1 ∙ sym (mappings_ended row.page), was.2)));
-    unshared = λ page no_row. omega (arith, mappings_ended page, exact.unshared page (subst (λ (rs : List Row). IsNone (row_of rs page)) (same_rows d ino Ends) no_row));
+    unshared = λ page no_row. omega (
+      arith,
+      mappings_ended page,
+      exact.unshared page (subst (λ (rs : List Row). IsNone (row_of rs page))
+          (same_rows d ino Ends) no_row),
+    );
   }
 
   pub end_drops : DropsLog d ended ino

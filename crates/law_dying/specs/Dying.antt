@@ -1,5 +1,20 @@
 -- What becomes of a dying inode: its cut falls place by place, and in the end it is free.
-use Rattle.std.specs.Prelude.{◌≡◌, ◌≢◌, ◌⊎◌, ℕ, ◌+◌, ◌<◌, ◌≤◌, if◌then◌else◌, ◌==◌, List, Contains, Some, None, IsNone}
+use Rattle.std.specs.Prelude.{
+  ◌≡◌,
+  ◌≢◌,
+  ◌⊎◌,
+  ℕ,
+  ◌+◌,
+  ◌<◌,
+  ◌≤◌,
+  if◌then◌else◌,
+  ◌==◌,
+  List,
+  Contains,
+  Some,
+  None,
+  IsNone,
+}
 use Rattle.pm_layout.specs.Geometry.{inode_word}
 use Rattle.dn_model.specs.Maps.{Mapping}
 use Rattle.dn_model.specs.Table.{Row, row_of}
@@ -31,13 +46,15 @@ step_value Ends = 0
 unfoldable pub stepped : Disk → ℕ → Step → Disk
 stepped d ino step = record {
   geometry = d.geometry;
-  inode = λ i. if i == ino then record { use_of = use_after step; log = (d.inode ino).log } else d.inode i;
+  inode = λ i. if i == ino then record { use_of = use_after step; log = (d.inode ino).log } else
+      d.inode i;
   chain = d.chain;
   pointer = d.pointer;
   word = d.word;
 }
 
--- The cut of a dying inode may fall to its greatest mapped place. Where that page has a row, an update of it is under
+-- The cut of a dying inode may fall to its greatest mapped place. Where that page has a row, an
+-- update of it is under
 -- way, so that the row's count may be one more than the mappings.
 pub record MayFall (d : Disk) (ino cut : ℕ) : Type 0 where
   pub valid : IsValid d
@@ -47,7 +64,8 @@ pub record MayFall (d : Disk) (ino cut : ℕ) : Type 0 where
   pub by : Mapping
   pub mapped : maps d ino cut ≡ Some by
   pub greatest : (j : ℕ) → cut < j → j < before → maps d ino j ≡ None
-  pub counted : (row : Row) → Contains (rows d) row → row.page ≡ by.block → row.rfc + 1 ≤ mappings d by.block + row.uc
+  pub counted : (row : Row) → Contains (rows d) row → row.page ≡ by.block
+      → row.rfc + 1 ≤ mappings d by.block + row.uc
 
 -- a dying inode without mapped places may end
 pub record MayEnd (d : Disk) (ino : ℕ) : Type 0 where
@@ -66,7 +84,8 @@ pub record IsStepped (old : Disk) (ino : ℕ) (step : Step) (new : Disk) : Type 
   pub pointer : (page : ℕ) → new.pointer page ≡ old.pointer page
   pub word : (page k : ℕ) → new.word page k ≡ old.word page k
 
--- names, files, live places, rows and the words of pages are what they were; no page comes to be used
+-- names, files, live places, rows and the words of pages are what they were; no page comes to be
+-- used
 pub record KeepsLiving (old new : Disk) (ino : ℕ) : Type 0 where
   pub names : (name : List ℕ) → named new name ≡ named old name
   pub bytes_same : (i : ℕ) → i ≢ ino → bytes new i ≡ bytes old i
@@ -94,6 +113,7 @@ pub record DropsLog (old new : Disk) (ino : ℕ) : Type 0 where
   pub maps_same : (i idx : ℕ) → maps new i idx ≡ maps old i idx
   pub mappings_same : (page : ℕ) → mappings new page ≡ mappings old page
   pub freed : (page : ℕ) → Contains (old.inode ino).log.pages page → IsFree new page
-  pub free_only : (page : ℕ) → IsFree new page → IsFree old page ⊎ Contains (old.inode ino).log.pages page
+  pub free_only : (page : ℕ) → IsFree new page
+      → IsFree old page ⊎ Contains (old.inode ino).log.pages page
   pub near : Near old → Near new
   pub exact : Exact old → Exact new

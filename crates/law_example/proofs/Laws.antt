@@ -1,7 +1,17 @@
 -- The laws that the example stands on, as the functions that state them promise them.
 use Rattle.law_write.specs.WriteLaws.{WritesStayValid, WritesPutText, WritesAreWrites, WritesStayOwn, WritesTakeAndFree, RunsMakeWritesWithoutRows}
 use Rattle.law_table_on_disk.specs.MappingLaws.{MappedPagesCount}
-use Rattle.law_names.specs.NameLaws.{CreationsMayChange, RemovalsMayChange, NameChangesChangeParts, NameChangesStayValid, NameChangesKeepData, NameChangesStayOwn, CreationsName, CreationsCreate, RemovalsRemove}
+use Rattle.law_names.specs.NameLaws.{
+  CreationsMayChange,
+  RemovalsMayChange,
+  NameChangesChangeParts,
+  NameChangesStayValid,
+  NameChangesKeepData,
+  NameChangesStayOwn,
+  CreationsName,
+  CreationsCreate,
+  RemovalsRemove,
+}
 use Rattle.recovery.specs.Empty.{EmptyDisksAreValid, EmptyDisksHaveNoFiles, EmptyDisksAreOwn}
 
 pub record Laws : Type 0 where

@@ -1,5 +1,33 @@
 -- A file is created, written, written over and removed: each step by the laws of its change.
-use Rattle.std.proofs.Common.{◌≡◌, ◌≢◌, inl, inr, ⊎_elim, ℕ, zero, suc, ◌+◌, ◌/◌, ◌<◌, ◌≤◌, max, Bool, true, false, List, [], ◌∷◌, ◌++◌, length, refl, sym, ◌∙◌, ap, subst, arith}
+use Rattle.std.proofs.Common.{
+  ◌≡◌,
+  ◌≢◌,
+  inl,
+  inr,
+  ⊎_elim,
+  ℕ,
+  zero,
+  suc,
+  ◌+◌,
+  ◌/◌,
+  ◌<◌,
+  ◌≤◌,
+  max,
+  Bool,
+  true,
+  false,
+  List,
+  [],
+  ◌∷◌,
+  ◌++◌,
+  length,
+  refl,
+  sym,
+  ◌∙◌,
+  ap,
+  subst,
+  arith,
+}
 use Rattle.std.specs.Prelude.{if◌then◌else◌, slice_index, Contains, Some, None, IsSome, IsNone}
 use Rattle.std.specs.Option.{option_map}
 use Rattle.std.proofs.lemmas.Bool.{cases_eq}
@@ -33,9 +61,36 @@ use Rattle.law_names.specs.Operations.{creation, removal, MayCreate, MayRemove}
 use Rattle.law_names.proofs.Links.{with_name-here}
 use Rattle.dn_model.specs.Empty.{empty_inode, empty_disk}
 use Rattle.recovery.proofs.EmptyDisk.{count-none, unread}
-use Rattle.law_example.specs.Life.{Life, IsLife, Lives, HoldsBytes, first_text, second_text, first_file, on_page, empty, created, appended, overwritten, removed, pages_of_life}
+use Rattle.law_example.specs.Life.{
+  Life,
+  IsLife,
+  Lives,
+  HoldsBytes,
+  first_text,
+  second_text,
+  first_file,
+  on_page,
+  empty,
+  created,
+  appended,
+  overwritten,
+  removed,
+  pages_of_life,
+}
 use Rattle.law_example.proofs.Laws.{Laws}
-use Rattle.law_example.proofs.PageWrite.{MayPutPage, is_write, put_valid, put_own, put_bytes, put_files, put_free, put_frees, put_length, put_maps, put_named}
+use Rattle.law_example.proofs.PageWrite.{
+  MayPutPage,
+  is_write,
+  put_valid,
+  put_own,
+  put_bytes,
+  put_files,
+  put_free,
+  put_frees,
+  put_length,
+  put_maps,
+  put_named,
+}
 
 single : (x p : ℕ) → Contains (x ∷ []) p → x ≡ p
 single x p has = ⊎_elim (λ (e : x ≡ p). e) (λ (none : Contains [] p). absurd (omega (arith, none.1))) (listed_cases x [] p has)
@@ -95,7 +150,8 @@ module _ (laws : Laws) (print : Print) (life : Life) (is : IsLife life) where
       ]
 
   e_no_row : (page : ℕ) → IsNone (row_of (rows e) page)
-  e_no_row page = ⊎_elim (λ (row : IsSome (row_of (rows e) page)). absurd (unread g page (inr row))) (λ (none : IsNone (row_of (rows e) page)). none) (some_or_none (row_of (rows e) page))
+  e_no_row page = ⊎_elim (λ (row : IsSome (row_of (rows e) page)). absurd (unread g page (inr row))) (λ (none : IsNone (row_of (rows e) page)). none)
+      (some_or_none (row_of (rows e) page))
 
   apart : (j k : ℕ) → j < 6 → k < 6 → j ≢ k → slice_index pages j ≢ slice_index pages k
   apart j k jl kl ne same = ne (is.apart j k jl kl same)
@@ -117,15 +173,24 @@ module _ (laws : Laws) (print : Print) (life : Life) (is : IsLife life) where
   creates = record {
     root = record {
       valid = e_valid;
-      fresh_unused = λ page has. subst (IsUnused e) (single life.root_page page has) (record { free = e_free life.root_page (is.in_data 0 (omega arith)); no_row = e_no_row life.root_page });
+      fresh_unused = λ page has. subst (IsUnused e) (single life.root_page page has)
+          (record { free = e_free life.root_page (is.in_data 0 (omega arith)); no_row = e_no_row life.root_page });
       fresh_apart = λ j k jl kl same. omega (arith, jl, kl);
       room = let slots = add_slots ino name is.legal.few in omega (arith, count-none, slots.0, slots.1);
       left = (
         is.spare,
         is.other,
         apart 4 5 (omega arith) (omega arith) (omega arith),
-        record { free = e_free is.spare (is.in_data 4 (omega arith)); not_fresh = not_in life.root_page is.spare (apart 4 0 (omega arith) (omega arith) (omega arith)) },
-        record { free = e_free is.other (is.in_data 5 (omega arith)); not_fresh = not_in life.root_page is.other (apart 5 0 (omega arith) (omega arith) (omega arith)) },
+        record {
+          free = e_free is.spare (is.in_data 4 (omega arith));
+          not_fresh = not_in life.root_page is.spare
+              (apart 4 0 (omega arith) (omega arith) (omega arith));
+        },
+        record {
+          free = e_free is.other (is.in_data 5 (omega arith));
+          not_fresh = not_in life.root_page is.other
+              (apart 5 0 (omega arith) (omega arith) (omega arith));
+        },
       );
     };
     legal = is.legal;
@@ -169,7 +234,8 @@ module _ (laws : Laws) (print : Print) (life : Life) (is : IsLife life) where
   c_files = laws.creations_create e name ino (life.root_page ∷ []) creates
 
   c_bytes : bytes c ino ≡ []
-  c_bytes = one (bytes c ino) [] (ap (option_map (bytes c)) (sym c_named) ∙ c_files name ∙ ap (λ (b : Bool). if b then Some [] else files e name) (same_name-same name))
+  c_bytes = one (bytes c ino) [] (ap (option_map (bytes c)) (sym c_named) ∙ c_files name ∙ ap (λ (b : Bool). if b then Some [] else files e name)
+      (same_name-same name))
     where
       one : (xs ys : List ℕ) → Some xs ≡ Some ys → xs ≡ ys
       one xs ys same = cc
@@ -202,7 +268,8 @@ module _ (laws : Laws) (print : Print) (life : Life) (is : IsLife life) where
     short = is.first_short;
     short_before = omega (arith, ap length c_bytes);
     unused = record { free = c_free_at 2 (omega arith) (omega arith); no_row = c_no_row life.first_page };
-    fresh_unused = λ p has. subst (IsUnused c) (single life.log_page p has) (record { free = c_free_at 1 (omega arith) (omega arith); no_row = c_no_row life.log_page });
+    fresh_unused = λ p has. subst (IsUnused c) (single life.log_page p has)
+        (record { free = c_free_at 1 (omega arith) (omega arith); no_row = c_no_row life.log_page });
     fresh_apart = λ j k jl kl same. omega (arith, jl, kl);
     not_fresh = not_in life.log_page life.first_page (apart 2 1 (omega arith) (omega arith) (omega arith));
     room = subst (λ (n : Inode). length (n.log.pages ++ life.log_page ∷ []) ≡ (count n.log + 1 + 62) / 63) (sym c_inode) (omega (arith, count-none));
@@ -214,8 +281,16 @@ module _ (laws : Laws) (print : Print) (life : Life) (is : IsLife life) where
     two = apart 4 5 (omega arith) (omega arith) (omega arith);
     spare_free = c_free_at 4 (omega arith) (omega arith);
     other_free = c_free_at 5 (omega arith) (omega arith);
-    spare_left = (apart 4 2 (omega arith) (omega arith) (omega arith), not_in life.log_page is.spare (apart 4 1 (omega arith) (omega arith) (omega arith)));
-    other_left = (apart 5 2 (omega arith) (omega arith) (omega arith), not_in life.log_page is.other (apart 5 1 (omega arith) (omega arith) (omega arith)));
+    spare_left = (
+      apart 4 2 (omega arith) (omega arith) (omega arith),
+      not_in life.log_page is.spare
+          (apart 4 1 (omega arith) (omega arith) (omega arith)),
+    );
+    other_left = (
+      apart 5 2 (omega arith) (omega arith) (omega arith),
+      not_in life.log_page is.other
+          (apart 5 1 (omega arith) (omega arith) (omega arith)),
+    );
   }
     where
       long : (a n : ℕ) → a ≡ 0 → n ≡ max a n
@@ -241,13 +316,15 @@ module _ (laws : Laws) (print : Print) (life : Life) (is : IsLife life) where
   a_own = put_own laws c ino (life.log_page ∷ []) first_size life.first_byte life.first_rest life.first_page life.first_word appends print c_own
 
   a_bytes : bytes a ino ≡ first_file life
-  a_bytes = put_bytes laws c ino (life.log_page ∷ []) first_size life.first_byte life.first_rest life.first_page life.first_word appends ∙ ap (λ (old : List ℕ). written old 0 (first_text life)) c_bytes
+  a_bytes = put_bytes laws c ino (life.log_page ∷ []) first_size life.first_byte life.first_rest life.first_page life.first_word appends ∙ ap
+      (λ (old : List ℕ). written old 0 (first_text life)) c_bytes
 
   a_length : length (bytes a ino) ≡ first_size
   a_length = put_length laws c ino (life.log_page ∷ []) first_size life.first_byte life.first_rest life.first_page life.first_word appends
 
   a_named : named a name ≡ Some ino
-  a_named = put_named laws c ino (life.log_page ∷ []) first_size life.first_byte life.first_rest life.first_page life.first_word appends name ∙ c_named
+  a_named = put_named laws c ino (life.log_page ∷ []) first_size life.first_byte life.first_rest life.first_page life.first_word appends
+      name ∙ c_named
 
   a_table : ino < a.geometry.inodes
   a_table = omega (arith, c_table, ap (λ (x : Geometry). x.inodes) first_event.relogs.geometry)
@@ -259,8 +336,10 @@ module _ (laws : Laws) (print : Print) (life : Life) (is : IsLife life) where
   a_no_row page = subst (λ (rs : List Row). IsNone (row_of rs page)) (sym (rows_kept ino c a first_event)) (c_no_row page)
 
   a_free_at : (k : ℕ) → k < 6 → 3 ≤ k → IsFree a (slice_index pages k)
-  a_free_at k lt high = put_free laws c ino (life.log_page ∷ []) first_size life.first_byte life.first_rest life.first_page life.first_word appends (slice_index pages k)
-      (c_free_at k lt (omega (arith, high))) (apart k 2 lt (omega arith) (omega (arith, high))) (not_in life.log_page (slice_index pages k) (apart k 1 lt (omega arith) (omega (arith, high))))
+  a_free_at k lt high = put_free laws c ino (life.log_page ∷ []) first_size life.first_byte life.first_rest life.first_page life.first_word appends
+      (slice_index pages k)
+      (c_free_at k lt (omega (arith, high))) (apart k 2 lt (omega arith) (omega (arith, high)))
+      (not_in life.log_page (slice_index pages k) (apart k 1 lt (omega arith) (omega (arith, high))))
 
   -- the second write
   abbrev second_size : ℕ
@@ -284,7 +363,8 @@ module _ (laws : Laws) (print : Print) (life : Life) (is : IsLife life) where
     fresh_unused = λ p has. absurd (none_in p has);
     fresh_apart = λ j k jl kl same. omega (arith, jl);
     not_fresh = none_in life.second_page;
-    room = subst (λ (l : Log). length (l.pages ++ []) ≡ (count l + 1 + 62) / 63) (sym a_log) (omega (arith, file_count life.log_page first_size life.first_page));
+    room = subst (λ (l : Log). length (l.pages ++ []) ≡ (count l + 1 + 62) / 63) (sym a_log)
+        (omega (arith, file_count life.log_page first_size life.first_page));
     elsewhere = λ p k ne. is.second_elsewhere p k ne ∙ sym (with_log-word c ino _ life.first_word p k);
     holds = subst (λ (old : List ℕ). HoldsBytes life.second_word life.second_page (written old 0 (second_text life))) (sym a_bytes) is.second_holds;
     zeros = λ idx k m at small past. a_own.zeros ino idx k m (record { in_table = a_table; live = a_live; maps = at }) past small;
@@ -310,14 +390,16 @@ module _ (laws : Laws) (print : Print) (life : Life) (is : IsLife life) where
   o_named = put_named laws a ino [] second_size life.second_byte life.second_rest life.second_page life.second_word overwrites name ∙ a_named
 
   o_free_at : (k : ℕ) → k < 6 → 4 ≤ k → IsFree o (slice_index pages k)
-  o_free_at k lt high = put_free laws a ino [] second_size life.second_byte life.second_rest life.second_page life.second_word overwrites (slice_index pages k)
+  o_free_at k lt high = put_free laws a ino [] second_size life.second_byte life.second_rest life.second_page life.second_word overwrites
+      (slice_index pages k)
       (a_free_at k lt (omega (arith, high))) (apart k 3 lt (omega arith) (omega (arith, high))) (none_in (slice_index pages k))
 
   -- the page of the first write is free
   first_freed : IsFree o life.first_page
   first_freed =
       let at = put_maps laws c ino (life.log_page ∷ []) first_size life.first_byte life.first_rest life.first_page life.first_word appends in
-      subst (IsFree o) at.2 (put_frees laws a ino [] second_size life.second_byte life.second_rest life.second_page life.second_word overwrites at.0 at.1 (a_no_row at.0.block))
+      subst (IsFree o) at.2 (put_frees laws a ino [] second_size life.second_byte life.second_rest life.second_page life.second_word overwrites at.0
+      at.1 (a_no_row at.0.block))
 
   not_root : 0 ≢ ino
   not_root same = omega (arith, same, is.file)
@@ -333,7 +415,8 @@ module _ (laws : Laws) (print : Print) (life : Life) (is : IsLife life) where
       fresh_unused = λ p has. absurd (none_in p has);
       fresh_apart = λ j k jl kl same. omega (arith, jl);
       room = subst (λ (l : Log). length (l.pages ++ []) ≡ (count l + length (spelled (Forget name ∷ [])) + 62) / 63) (sym o_root)
-          (let added = add_slots ino name is.legal.few in let gone = forget_slots name is.legal.few in omega (arith, root_count life.root_page ino name, added.0, added.1, gone.0, gone.1));
+          (let added = add_slots ino name is.legal.few in let gone = forget_slots name is.legal.few in
+          omega (arith, root_count life.root_page ino name, added.0, added.1, gone.0, gone.1));
       left = (
         is.spare,
         is.other,
@@ -379,7 +462,11 @@ module _ (laws : Laws) (print : Print) (life : Life) (is : IsLife life) where
     creates = record { valid = c_valid; own = c_own; files_are = c_files };
     appends = record { valid = a_valid; own = a_own; files_are = a_files };
     overwrites = record { valid = o_valid; own = o_own; files_are = o_files };
-    removes = record { valid = laws.names_valid o removing may_remove_it; own = laws.names_own print o removing may_remove_it o_own; files_are = r_files };
+    removes = record {
+      valid = laws.names_valid o removing may_remove_it;
+      own = laws.names_own print o removing may_remove_it o_own;
+      files_are = r_files;
+    };
     first_freed = first_freed;
     none_before = laws.no_files g;
     none_after = none_after;

@@ -1,5 +1,37 @@
 -- A write of one page at the start of a file, by the laws of writes.
-use Rattle.std.proofs.Common.{◌≡◌, ◌≢◌, inl, inr, ℕ, zero, suc, ◌+◌, ◌-◌, ◌*◌, ◌/◌, ◌%◌, ◌^◌, ◌<◌, ◌≤◌, max, Bool, true, false, List, [], ◌∷◌, ◌++◌, length, refl, sym, ◌∙◌, ap, subst, arith, zero-add}
+use Rattle.std.proofs.Common.{
+  ◌≡◌,
+  ◌≢◌,
+  inl,
+  inr,
+  ℕ,
+  zero,
+  suc,
+  ◌+◌,
+  ◌-◌,
+  ◌*◌,
+  ◌/◌,
+  ◌%◌,
+  ◌^◌,
+  ◌<◌,
+  ◌≤◌,
+  max,
+  Bool,
+  true,
+  false,
+  List,
+  [],
+  ◌∷◌,
+  ◌++◌,
+  length,
+  refl,
+  sym,
+  ◌∙◌,
+  ap,
+  subst,
+  arith,
+  zero-add,
+}
 use Rattle.std.specs.Prelude.{if◌then◌else◌, nat_le, nat_lt, ◌&&◌, slice_index, Contains, Some, None, IsNone}
 use Rattle.std.proofs.lemmas.Bool.{cases_lt}
 use Rattle.std.proofs.lemmas.Bool.Decides.{nat_tests}
@@ -31,7 +63,8 @@ use Rattle.law_example.proofs.Laws.{Laws}
 written_in : (old text : List ℕ) (k : ℕ) → k < length text → slice_index (written old 0 text) k ≡ slice_index text k
 unfolding written
 written_in old text k lt =
-    get_or-map-range_with_len (λ j. if nat_le 0 j && nat_lt j (0 + length text) then slice_index text (j - 0) else slice_index old j) 0 (max (length old) (0 + length text)) k k 0 (long (length old) (length text) lt) (zero-add k)
+    get_or-map-range_with_len (λ j. if nat_le 0 j && nat_lt j (0 + length text) then slice_index text (j - 0) else slice_index old j) 0
+    (max (length old) (0 + length text)) k k 0 (long (length old) (length text) lt) (zero-add k)
     ∙ ap (λ (b : Bool). if b then slice_index text (k - 0) else slice_index old k) (inside k (length text) lt) ∙ ap (slice_index text) (same k)
   where
     same : (j : ℕ) → j - 0 ≡ j
@@ -47,9 +80,16 @@ written_past : (old text : List ℕ) (k : ℕ) → length text ≤ k → slice_i
 unfolding written
 written_past old text k past = elim (cases_lt k (max (length old) (0 + length text))) [
   | inl low ↦
-      get_or-map-range_with_len (λ j. if nat_le 0 j && nat_lt j (0 + length text) then slice_index text (j - 0) else slice_index old j) 0 (max (length old) (0 + length text)) k k 0 low (zero-add k)
+      get_or-map-range_with_len (λ j. if nat_le 0 j && nat_lt j (0 + length text) then slice_index text (j - 0) else slice_index old j) 0
+      (max (length old) (0 + length text)) k k 0 low (zero-add k)
       ∙ ap (λ (b : Bool). if b then slice_index text (k - 0) else slice_index old k) (outside k (length text) past)
-  | inr high ↦ get_or_past (written old 0 text) k 0 (omega (arith, high, length-map-range_with_len (λ j. if nat_le 0 j && nat_lt j (0 + length text) then slice_index text (j - 0) else slice_index old j) 0 (max (length old) (0 + length text))))
+  | inr high ↦ get_or_past (written old 0 text) k 0
+      (omega (
+        arith,
+        high,
+        length-map-range_with_len (λ j. if nat_le 0 j && nat_lt j (0 + length text) then slice_index text (j - 0) else slice_index
+            old j) 0 (max (length old) (0 + length text)),
+      ))
       ∙ sym (get_or_past old k 0 (small (length old) (length text) high))
 ]
   where
@@ -86,7 +126,8 @@ pub record MayPutPage (d : Disk) (ino : ℕ) (fresh : List ℕ) (size : ℕ) (te
   pub spare_left : (spare ≢ page) × (Contains fresh spare → ⊥)
   pub other_left : (other ≢ page) × (Contains fresh other → ⊥)
 
-module _ (laws : Laws) (d : Disk) (ino : ℕ) (fresh : List ℕ) (size byte : ℕ) (rest : List ℕ) (page : ℕ) (word : ℕ → ℕ → ℕ) (may : MayPutPage d ino fresh size (byte ∷ rest) page word) where
+module _ (laws : Laws) (d : Disk) (ino : ℕ) (fresh : List ℕ) (size byte : ℕ) (rest : List ℕ) (page : ℕ) (word : ℕ → ℕ → ℕ)
+    (may : MayPutPage d ino fresh size (byte ∷ rest) page word) where
   abbrev text : List ℕ
   text = byte ∷ rest
 
@@ -148,11 +189,13 @@ module _ (laws : Laws) (d : Disk) (ino : ℕ) (fresh : List ℕ) (size byte : �
     inside = λ k i lt small low high.
         let one = one_place k lt in
         let place : 4096 * (event.first + k) + i ≡ i = omega (arith, is_write.starts, one.0) in
-        ap (λ (p : ℕ). byte_of new p i) one.1 ∙ new_byte i ∙ may.holds i small ∙ written_in (bytes d ino) text i (omega (arith, high, place)) ∙ ap (slice_index text) (omega (arith, place));
+        ap (λ (p : ℕ). byte_of new p i) one.1 ∙ new_byte i ∙ may.holds i small ∙ written_in (bytes d ino) text i (omega (arith, high, place)) ∙ ap
+        (slice_index text) (omega (arith, place));
     outside = λ k i lt small out.
         let one = one_place k lt in
         let place : 4096 * (event.first + k) + i ≡ i = omega (arith, is_write.starts, one.0) in
-        ap (λ (p : ℕ). byte_of new p i) one.1 ∙ new_byte i ∙ may.holds i small ∙ written_past (bytes d ino) text i (past place out) ∙ ap (slice_index (bytes d ino)) (sym place);
+        ap (λ (p : ℕ). byte_of new p i) one.1 ∙ new_byte i ∙ may.holds i small ∙ written_past (bytes d ino) text i (past place out) ∙ ap
+        (slice_index (bytes d ino)) (sym place);
     zeros = may.zeros;
   }
     where
@@ -178,7 +221,8 @@ module _ (laws : Laws) (d : Disk) (ino : ℕ) (fresh : List ℕ) (size byte : �
   takes = laws.take ino d new event is_write.well
 
   pub put_free : (p : ℕ) → IsFree d p → p ≢ page → (Contains fresh p → ⊥) → IsFree new p
-  put_free p free ne not = takes.kept p free (λ i lt e. ne (sym e ∙ (one_place i lt).1)) (λ has. not (subst (λ (xs : List ℕ). Contains xs p) is_write.takes has))
+  put_free p free ne not = takes.kept p free (λ i lt e. ne (sym e ∙ (one_place i lt).1))
+      (λ has. not (subst (λ (xs : List ℕ). Contains xs p) is_write.takes has))
 
   pub put_frees : (by : Mapping) → maps d ino 0 ≡ Some by → IsNone (row_of (rows d) by.block) → IsFree new by.block
   put_frees by is none = takes.freed by.block (record {

@@ -1,5 +1,21 @@
 -- The life of one file on an empty disk: it is created, written, written over, and removed.
-use Rattle.std.specs.Prelude.{◌≡◌, ◌≢◌, ℕ, ◌/◌, ◌%◌, ◌^◌, ◌<◌, ◌≤◌, max, List, [], ◌∷◌, length, slice_index, None}
+use Rattle.std.specs.Prelude.{
+  ◌≡◌,
+  ◌≢◌,
+  ℕ,
+  ◌/◌,
+  ◌%◌,
+  ◌^◌,
+  ◌<◌,
+  ◌≤◌,
+  max,
+  List,
+  [],
+  ◌∷◌,
+  length,
+  slice_index,
+  None,
+}
 use Rattle.pm_layout.specs.declared.Geometry.{Geometry}
 use Rattle.pm_layout.specs.Geometry.{InData, IsAccepted}
 use Rattle.log_entry.specs.Name.{IsLegal}
@@ -16,7 +32,8 @@ use Rattle.law_write.specs.MayWrite.{written_disk}
 use Rattle.law_names.specs.Operations.{created_disk, unnamed_disk}
 use Rattle.dn_model.specs.Empty.{empty_disk}
 
--- The file's name and inode, the texts that are written at its start, the pages that are taken, and the words that pages
+-- The file's name and inode, the texts that are written at its start, the pages that are taken, and
+-- the words that pages
 -- have after the first write and after the second.
 pub record Life : Type 0 where
   pub geometry : Geometry
@@ -58,21 +75,26 @@ abbrev pub created : Life → Disk
 created life = created_disk (empty life) life.name life.ino (life.root_page ∷ [])
 
 abbrev pub appended : Life → Disk
-appended life = written_disk (created life) life.ino (life.log_page ∷ []) (length (first_text life)) (on_page life.first_page) life.first_word
+appended life = written_disk (created life) life.ino (life.log_page ∷ []) (length (first_text life))
+    (on_page life.first_page) life.first_word
 
 abbrev pub overwritten : Life → Disk
-overwritten life = written_disk (appended life) life.ino [] (max (length (first_text life)) (length (second_text life))) (on_page life.second_page) life.second_word
+overwritten life = written_disk (appended life) life.ino []
+    (max (length (first_text life)) (length (second_text life))) (on_page life.second_page)
+    life.second_word
 
 abbrev pub removed : Life → Disk
 removed life = unnamed_disk (overwritten life) life.name life.ino []
 
 -- the page has these bytes, and zeros behind them
 abbrev pub HoldsBytes : (ℕ → ℕ → ℕ) → ℕ → List ℕ → Type 0
-HoldsBytes word page bytes = (k : ℕ) → k < 4096 → word page (k / 8) / 256 ^ (k % 8) % 256 ≡ slice_index bytes k
+HoldsBytes word page bytes = (k : ℕ) → k < 4096 → word page (k / 8) / 256 ^ (k % 8) %
+    256 ≡ slice_index bytes k
 
 -- the pages that are taken, and two that stay
 abbrev pub pages_of_life : Life → ℕ → ℕ → List ℕ
-pages_of_life life spare other = life.root_page ∷ life.log_page ∷ life.first_page ∷ life.second_page ∷ spare ∷ other ∷ []
+pages_of_life life spare other = life.root_page ∷ life.log_page ∷ life.first_page ∷ life.second_page
+    ∷ spare ∷ other ∷ []
 
 pub record IsLife (life : Life) : Type 0 where
   pub accepted : IsAccepted life.geometry
@@ -83,12 +105,15 @@ pub record IsLife (life : Life) : Type 0 where
   pub second_short : length (second_text life) ≤ 4096
   pub spare : ℕ
   pub other : ℕ
-  pub in_data : (k : ℕ) → k < 6 → InData life.geometry (slice_index (pages_of_life life spare other) k)
-  pub apart : (j k : ℕ) → j < 6 → k < 6 → slice_index (pages_of_life life spare other) j ≡ slice_index (pages_of_life life spare other) k → j ≡ k
+  pub in_data : (k : ℕ) → k < 6
+      → InData life.geometry (slice_index (pages_of_life life spare other) k)
+  pub apart : (j k : ℕ) → j < 6 → k < 6 → slice_index (pages_of_life life spare other)
+      j ≡ slice_index (pages_of_life life spare other) k → j ≡ k
   pub first_holds : HoldsBytes life.first_word life.first_page (first_file life)
   pub first_elsewhere : (page k : ℕ) → page ≢ life.first_page → life.first_word page k ≡ 0
   pub second_holds : HoldsBytes life.second_word life.second_page (second_file life)
-  pub second_elsewhere : (page k : ℕ) → page ≢ life.second_page → life.second_word page k ≡ life.first_word page k
+  pub second_elsewhere : (page k : ℕ) → page ≢ life.second_page
+      → life.second_word page k ≡ life.first_word page k
 
 -- one step: the disk is valid and this program's, and its files are those after the operation
 pub record IsStep (print : Print) (old new : Disk) (op : Op) : Type 0 where
@@ -99,7 +124,8 @@ pub record IsStep (print : Print) (old new : Disk) (op : Op) : Type 0 where
 pub record Lives (print : Print) (life : Life) : Type 0 where
   pub creates : IsStep print (empty life) (created life) (Create life.name)
   pub appends : IsStep print (created life) (appended life) (Write life.name 0 (first_text life))
-  pub overwrites : IsStep print (appended life) (overwritten life) (Write life.name 0 (second_text life))
+  pub overwrites : IsStep print (appended life) (overwritten life)
+      (Write life.name 0 (second_text life))
   pub removes : IsStep print (overwritten life) (removed life) (Remove life.name)
   -- the page of the first write came free with the second
   pub first_freed : IsFree (overwritten life) life.first_page

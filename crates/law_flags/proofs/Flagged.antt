@@ -55,13 +55,19 @@ module _ (d : Disk) (ino : ℕ) (change : LogItem → LogItem) (slot : ℕ) (log
     good = good;
     keeps = keeps_places change slot r is d.geometry (d.inode ino).log log log_before.paged may.reflags ino;
     pages = λ page listed. inl (listed_before page listed);
-    left = let two = may.valid.roomy in
-        (two.0, two.1, two.2, was_free two.3 (λ listed. two.3.in_no_log (was_log_page two.0 listed)), was_free two.4 (λ listed. two.4.in_no_log (was_log_page two.1 listed)));
+    left = let two = may.valid.roomy in (
+      two.0,
+      two.1,
+      two.2,
+      was_free two.3 (λ listed. two.3.in_no_log (was_log_page two.0 listed)),
+      was_free two.4 (λ listed. two.4.in_no_log (was_log_page two.1 listed)),
+    );
   }
 
   -- what the place maps
   pub now_maps : (idx : ℕ) → maps new ino idx ≡ option_map r (maps d ino idx)
-  now_maps idx = maps_here d ino log may.live idx ∙ retagged change slot r is d.geometry (d.inode ino).log log log_before.paged may.reflags idx ∙ ap (option_map r) (sym (maps_before d ino log may.live idx))
+  now_maps idx = maps_here d ino log may.live idx ∙ retagged change slot r is d.geometry (d.inode ino).log log log_before.paged may.reflags idx ∙ ap
+      (option_map r) (sym (maps_before d ino log may.live idx))
 
   log_page_kept : (page : ℕ) → IsLogPage d page → IsLogPage new page
   log_page_kept page p = elim (cases_eq p.ino ino) [
@@ -85,12 +91,15 @@ module _ (d : Disk) (ino : ℕ) (change : LogItem → LogItem) (slot : ℕ) (log
     places = keeps_data d ino log may_relog;
     log_pages = record {
       kept = log_page_kept;
-      only = λ page p. ⊎_elim (λ (was : IsLogPage d page). was) (λ (listed : Contains log.pages page). was_log_page page listed) (moves.log_pages_only page p);
+      only = λ page p. ⊎_elim (λ (was : IsLogPage d page). was) (λ (listed : Contains log.pages page). was_log_page page listed)
+          (moves.log_pages_only page p);
     };
     free = record {
       kept = λ page free. moves.free_kept page free (λ listed. free.in_no_log (was_log_page page listed));
       only = λ page free. ⊎_elim (λ (was : IsFree d page). was)
-          (λ (listed : Contains (d.inode ino).log.pages page). absurd (free.in_no_log (log_page_kept page (record { ino = ino; in_table = may.in_table; used = was_used; listed = listed })))) (moves.free_only page free);
+          (λ (listed : Contains (d.inode ino).log.pages page). absurd
+          (free.in_no_log (log_page_kept page (record { ino = ino; in_table = may.in_table; used = was_used; listed = listed }))))
+          (moves.free_only page free);
     };
   }
     where
@@ -108,7 +117,8 @@ module _ (d : Disk) (ino : ℕ) (change : LogItem → LogItem) (slot : ℕ) (log
       (λ (row : HasRow d was.0.block). inr (subst (HasRow d) (sym (ap (λ (x : Mapping). x.block) was.2 ∙ is.block was.0)) row))
       (each idx was.0 was.1 (ap (λ (x : Mapping). x.flag) (sym was.2) ∙ done))
 
-  pub keeps_done : ((idx : ℕ) (n : Mapping) → maps d ino idx ≡ Some n → (n.flag ≡ Complete → (r n).flag ≡ Complete) × (IsAlone n → IsAlone (r n))) → KeepsDone (d.inode ino).log log
+  pub keeps_done : ((idx : ℕ) (n : Mapping) → maps d ino idx ≡ Some n → (n.flag ≡ Complete → (r n).flag ≡ Complete) × (IsAlone n → IsAlone (r n)))
+      → KeepsDone (d.inode ino).log log
   keeps_done each idx m n was now =
       let by = was_mapping idx n now in
       let same : by.0 ≡ m = one by.0 m (sym by.1 ∙ maps_before d ino log may.live idx ∙ was) in
@@ -159,7 +169,8 @@ module _ (d : Disk) (ino : ℕ) (change : LogItem → LogItem) (slot : ℕ) (log
     differs_there : (a v : ℕ) → a ≢ at → LogSays ino log a v → DiskSays d a v
     differs_there a v ne says = ⊎_elim
         (λ (new_one : (a ≡ at) × (v ≡ value)). absurd (ne new_one.0))
-        (λ (other : (a ≢ at) × (LogSays ino (d.inode ino).log a v ⊎ ⊥)). ⊎_elim (λ (was : LogSays ino (d.inode ino).log a v). of_log a v was) (λ none. absurd none) other.1)
+        (λ (other : (a ≢ at) × (LogSays ino (d.inode ino).log a v ⊎ ⊥)). ⊎_elim (λ (was : LogSays ino (d.inode ino).log a v). of_log a v was)
+        (λ none. absurd none) other.1)
         (differs_log a v says)
 
     new_valid : IsValid new
@@ -168,13 +179,18 @@ module _ (d : Disk) (ino : ℕ) (change : LogItem → LogItem) (slot : ℕ) (log
     now_said : (a v : ℕ) → a ≡ at → DiskSays new a v → LogSays ino log a v
     now_said a v e says = subst (λ (l : Log). LogSays ino l a v) (log_here d ino log)
         (log_page_said new new_valid ino page a v (above d ino log ino may.in_table) (subst IsUsed (sym (use_same d ino log ino)) was_used)
-        (subst (λ (l : Log). Contains l.pages page) (sym (log_here d ino log)) (subst (λ (ps : List ℕ). Contains ps page) (sym may.reflags.pages) listed))
+        (subst (λ (l : Log). Contains l.pages page) (sym (log_here d ino log)) (subst (λ (ps : List ℕ). Contains ps page) (sym may.reflags.pages)
+        listed))
         (subst (IsInPage page) (sym e) in_page) says)
 
     retag_differs : DiffersAt (DiskSays d) (DiskSays new) (SaysRun 0 []) at value
     retag_differs a v says = elim (cases_eq a at) [
       | inl e ↦ inl (e, differs_here a v e (now_said a v e says))
-      | inr ne ↦ inr (ne, inl (⊎_elim (λ (was : DiskSays d a v). was) (λ (told : LogSays ino log a v). differs_there a v ne told) (relogged_says d ino log (is_relog d ino log may_relog) a v says)))
+      | inr ne ↦ inr (
+        ne,
+        inl (⊎_elim (λ (was : DiskSays d a v). was) (λ (told : LogSays ino log a v). differs_there a v ne told)
+            (relogged_says d ino log (is_relog d ino log may_relog) a v says)),
+      )
     ]
 
     pub one_word : IsOneWord d new 0 [] at value
@@ -183,6 +199,10 @@ module _ (d : Disk) (ino : ℕ) (change : LogItem → LogItem) (slot : ℕ) (log
       old_valid = may.valid;
       new_valid = new_valid;
       inside = omega (arith, in_page.1, in_data.high);
-      said = record { value = spelled_word (d.inode ino).log here j; told = of_log at (spelled_word (d.inode ino).log here j) (at_slot here j within small at_is refl) };
+      said = record {
+        value = spelled_word (d.inode ino).log here j;
+        told = of_log at (spelled_word (d.inode ino).log here j)
+            (at_slot here j within small at_is refl);
+      };
       differs = retag_differs;
     }

@@ -58,7 +58,8 @@ flag_retag flag slot = record {
   new_mask = λ mask. mask;
   of_write = λ first n block size was mask. refl;
   other = λ m ne. elsewhere slot m (with_this_flag flag m) ne;
-  here = λ block bit was mask. let m : Mapping = record { block = block; slot = slot; bit = bit; flag = was; mask = mask } in at_slot slot m (with_this_flag flag m) refl;
+  here = λ block bit was mask. let m : Mapping = record { block = block; slot = slot; bit = bit; flag = was; mask = mask } in
+      at_slot slot m (with_this_flag flag m) refl;
   block = λ m. chosen_block slot m (with_this_flag flag m) refl;
 }
 
@@ -68,38 +69,45 @@ mask_retag mask slot = record {
   new_mask = λ was. mask;
   of_write = λ first n block size flag was. refl;
   other = λ m ne. elsewhere slot m (with_this_mask mask m) ne;
-  here = λ block bit flag was. let m : Mapping = record { block = block; slot = slot; bit = bit; flag = flag; mask = was } in at_slot slot m (with_this_mask mask m) refl;
+  here = λ block bit flag was. let m : Mapping = record { block = block; slot = slot; bit = bit; flag = flag; mask = was } in
+      at_slot slot m (with_this_mask mask m) refl;
   block = λ m. chosen_block slot m (with_this_mask mask m) refl;
 }
 
 module _ (d : Disk) (ino : ℕ) (flag : Flag) (slot : ℕ) (log : Log) (may : MayFlag d ino flag slot log) where
   flag_good : IsLog d.geometry ino log
-  flag_good = flag_keeps_log d.geometry ino flag slot (d.inode ino).log log may.reflags (may.valid.logs ino may.in_table (subst IsUsed (sym may.live) tt))
+  flag_good = flag_keeps_log d.geometry ino flag slot (d.inode ino).log log may.reflags
+      (may.valid.logs ino may.in_table (subst IsUsed (sym may.live) tt))
 
   abbrev as_flag : Mapping → Mapping
   as_flag = flagged slot flag
 
   pub flag_one_word : IsOneWord d (relogged d ino log) 0 [] (flag_word slot) (flag_number flag)
-  flag_one_word = one_word d ino (with_flag flag) slot log may flag_good as_flag (flag_retag flag slot) 5 (flag_number flag) (omega arith) (flag_changes flag may.reflags.item may.reflags.is_write)
+  flag_one_word = one_word d ino (with_flag flag) slot log may flag_good as_flag (flag_retag flag slot) 5 (flag_number flag) (omega arith)
+      (flag_changes flag may.reflags.item may.reflags.is_write)
 
   pub flag_own : (print : Print) → (flag ≡ Complete → IsDoneAt d ino slot) → IsOwn print d → IsOwn print (relogged d ino log)
   flag_own print done own = own_kept d ino log (may_relog d ino (with_flag flag) slot log may flag_good as_flag (flag_retag flag slot)) print
-      (tells_done d ino (with_flag flag) slot log may flag_good as_flag (flag_retag flag slot) (λ idx n is complete. by_slot idx n is complete (cases_eq n.slot slot))) own
+      (tells_done d ino (with_flag flag) slot log may flag_good as_flag (flag_retag flag slot) (λ idx n is complete. by_slot idx n is complete
+      (cases_eq n.slot slot))) own
     where
-      by_slot : (idx : ℕ) (n : Mapping) → maps d ino idx ≡ Some n → (as_flag n).flag ≡ Complete → (n.slot ≡ slot) ⊎ (n.slot ≢ slot) → IsAlone (as_flag n) ⊎ HasRow d n.block
+      by_slot : (idx : ℕ) (n : Mapping) → maps d ino idx ≡ Some n → (as_flag n).flag ≡ Complete → (n.slot ≡ slot) ⊎ (n.slot ≢ slot)
+          → IsAlone (as_flag n) ⊎ HasRow d n.block
       by_slot idx n is complete (inl e) =
           let into = at_slot slot n (with_this_flag flag n) e in
           subst (λ (x : Mapping). IsAlone x ⊎ HasRow d n.block) (sym into) (done (ap (λ (x : Mapping). x.flag) (sym into) ∙ complete) idx n is e)
       by_slot idx n is complete (inr ne) =
           let same = elsewhere slot n (with_this_flag flag n) ne in
           subst (λ (x : Mapping). IsAlone x ⊎ HasRow d n.block) (sym same)
-          (own.complete ino idx n (record { in_table = may.in_table; live = may.live; maps = is }) (ap (λ (x : Mapping). x.flag) (sym same) ∙ complete))
+          (own.complete ino idx n (record { in_table = may.in_table; live = may.live; maps = is })
+          (ap (λ (x : Mapping). x.flag) (sym same) ∙ complete))
 
   pub flag_settled : flag ≡ Complete → Settled d → Settled (relogged d ino log)
   flag_settled complete = settled_kept d ino log (may_relog d ino (with_flag flag) slot log may flag_good as_flag (flag_retag flag slot))
       (keeps_done d ino (with_flag flag) slot log may flag_good as_flag (flag_retag flag slot) (λ idx n is. by_slot n (cases_eq n.slot slot)))
     where
-      by_slot : (n : Mapping) → (n.slot ≡ slot) ⊎ (n.slot ≢ slot) → (n.flag ≡ Complete → (as_flag n).flag ≡ Complete) × (IsAlone n → IsAlone (as_flag n))
+      by_slot : (n : Mapping) → (n.slot ≡ slot) ⊎ (n.slot ≢ slot) → (n.flag ≡ Complete → (as_flag n).flag ≡ Complete) × (IsAlone n
+          → IsAlone (as_flag n))
       by_slot n (inl e) =
           let into = at_slot slot n (with_this_flag flag n) e in
           ((λ was. ap (λ (x : Mapping). x.flag) into ∙ complete), (λ alone. subst IsAlone (sym into) alone))
@@ -115,13 +123,15 @@ module _ (d : Disk) (ino : ℕ) (flag : Flag) (slot : ℕ) (log : Log) (may : Ma
 
 module _ (d : Disk) (ino mask slot : ℕ) (log : Log) (is : MayMask d ino mask slot log) where
   mask_good : IsLog d.geometry ino log
-  mask_good = mask_keeps_log d.geometry ino mask slot (d.inode ino).log log is.may.reflags is.small (is.may.valid.logs ino is.may.in_table (subst IsUsed (sym is.may.live) tt))
+  mask_good = mask_keeps_log d.geometry ino mask slot (d.inode ino).log log is.may.reflags is.small
+      (is.may.valid.logs ino is.may.in_table (subst IsUsed (sym is.may.live) tt))
 
   abbrev as_mask : Mapping → Mapping
   as_mask = masked slot mask
 
   pub mask_one_word : IsOneWord d (relogged d ino log) 0 [] (mask_word slot) mask
-  mask_one_word = one_word d ino (with_mask mask) slot log is.may mask_good as_mask (mask_retag mask slot) 6 mask (omega arith) (mask_changes mask is.may.reflags.item is.may.reflags.is_write)
+  mask_one_word = one_word d ino (with_mask mask) slot log is.may mask_good as_mask (mask_retag mask slot) 6 mask (omega arith)
+      (mask_changes mask is.may.reflags.item is.may.reflags.is_write)
 
   pub mask_maps : (idx : ℕ) → maps (relogged d ino log) ino idx ≡ option_map as_mask (maps d ino idx)
   mask_maps = now_maps d ino (with_mask mask) slot log is.may mask_good as_mask (mask_retag mask slot)
@@ -143,7 +153,8 @@ module _ (d : Disk) (ino mask slot : ℕ) (log : Log) (is : MayMask d ino mask s
 
   pub mask_settled : KeepsAlone d ino slot mask → Settled d → Settled (relogged d ino log)
   mask_settled keeps = settled_kept d ino log (may_relog d ino (with_mask mask) slot log is.may mask_good as_mask (mask_retag mask slot))
-      (keeps_done d ino (with_mask mask) slot log is.may mask_good as_mask (mask_retag mask slot) (λ idx n maps_to. ((λ was. same_flag n ∙ was), (λ alone. keeps idx n maps_to alone))))
+      (keeps_done d ino (with_mask mask) slot log is.may mask_good as_mask (mask_retag mask slot)
+      (λ idx n maps_to. ((λ was. same_flag n ∙ was), (λ alone. keeps idx n maps_to alone))))
 
 -- what an item maps has its flag and mask: it stays if the item gets those that it has
 module _ (d : Disk) (ino : ℕ) (change : LogItem → LogItem) (slot : ℕ) (log : Log) (may : MayReflag d ino change slot log)
@@ -151,7 +162,8 @@ module _ (d : Disk) (ino : ℕ) (change : LogItem → LogItem) (slot : ℕ) (log
   was_log : IsLog d.geometry ino (d.inode ino).log
   was_log = may.valid.logs ino may.in_table (subst IsUsed (sym may.live) tt)
 
-  same_reflags : (other : LogItem → LogItem) → other (Write first n block size flag mask) ≡ Write first n block size flag mask → Reflags other slot (d.inode ino).log (d.inode ino).log
+  same_reflags : (other : LogItem → LogItem) → other (Write first n block size flag mask) ≡ Write first n block size flag mask
+      → Reflags other slot (d.inode ino).log (d.inode ino).log
   same_reflags other same = record {
     front = may.reflags.front;
     item = may.reflags.item;
@@ -163,9 +175,11 @@ module _ (d : Disk) (ino : ℕ) (change : LogItem → LogItem) (slot : ℕ) (log
     items' = may.reflags.items ∙ ap (λ (x : LogItem). may.reflags.front ++ x ∷ may.reflags.rest) (item ∙ sym same ∙ ap other (sym item));
   }
 
-  retagged_same : (other : LogItem → LogItem) (r : Mapping → Mapping) → IsRetag other slot r → other (Write first n block size flag mask) ≡ Write first n block size flag mask
+  retagged_same : (other : LogItem → LogItem) (r : Mapping → Mapping) → IsRetag other slot r → other (Write first n block size flag mask) ≡ Write
+      first n block size flag mask
       → (idx : ℕ) (m : Mapping) → maps d ino idx ≡ Some m → m ≡ r m
-  retagged_same other r is same idx m at = one m (r m) (sym before ∙ retagged other slot r is d.geometry (d.inode ino).log (d.inode ino).log was_log.paged (same_reflags other same) idx ∙ ap (option_map r) before)
+  retagged_same other r is same idx m at = one m (r m) (sym before ∙ retagged other slot r is d.geometry (d.inode ino).log (d.inode ino).log
+      was_log.paged (same_reflags other same) idx ∙ ap (option_map r) before)
     where
       before : mapping (d.inode ino).log idx ≡ Some m
       before = sym (maps_before d ino log may.live idx) ∙ at
@@ -175,8 +189,10 @@ module _ (d : Disk) (ino : ℕ) (change : LogItem → LogItem) (slot : ℕ) (log
 
   pub places_tell : (idx : ℕ) (m : Mapping) → maps d ino idx ≡ Some m → m.slot ≡ slot → (m.flag ≡ flag) × (m.mask ≡ mask)
   places_tell idx m at here = (
-    ap (λ (x : Mapping). x.flag) (retagged_same (with_flag flag) (flagged slot flag) (flag_retag flag slot) refl idx m at ∙ at_slot slot m (with_this_flag flag m) here),
-    ap (λ (x : Mapping). x.mask) (retagged_same (with_mask mask) (masked slot mask) (mask_retag mask slot) refl idx m at ∙ at_slot slot m (with_this_mask mask m) here),
+    ap (λ (x : Mapping). x.flag) (retagged_same (with_flag flag) (flagged slot flag) (flag_retag flag slot) refl idx m at ∙ at_slot slot m
+        (with_this_flag flag m) here),
+    ap (λ (x : Mapping). x.mask) (retagged_same (with_mask mask) (masked slot mask) (mask_retag mask slot) refl idx m at ∙ at_slot slot m
+        (with_this_mask mask m) here),
   )
 
 pub more_bits : MoreBitsKeepAlone

@@ -33,7 +33,8 @@ module _ (d : Disk) where
     with_free : IsFree d n → FreeBelow (suc n)
     with_free is = record {
       pages = n ∷ below.pages;
-      small = λ p has. ⊎_elim (λ (e : n ≡ p). omega (arith, e)) (λ (old : Contains below.pages p). omega (arith, below.small p old)) (cons_cases n p below.pages has);
+      small = λ p has. ⊎_elim (λ (e : n ≡ p). omega (arith, e)) (λ (old : Contains below.pages p). omega (arith, below.small p old))
+          (cons_cases n p below.pages has);
       free = λ p has. ⊎_elim (λ (e : n ≡ p). subst (IsFree d) e is) (below.free p) (cons_cases n p below.pages has);
       all = λ p lt is_free. ⊎_elim
           (λ (e : n ≡ p). subst (Contains (n ∷ below.pages)) e (here n below.pages))
@@ -46,7 +47,8 @@ module _ (d : Disk) where
       pages = below.pages;
       small = λ p has. omega (arith, below.small p has);
       free = below.free;
-      all = λ p lt is_free. ⊎_elim (λ (e : n ≡ p). absurd (not (subst (IsFree d) (sym e) is_free))) (λ (ne : n ≡ p → ⊥). below.all p (omega (arith, lt, ne)) is_free) (cases_eq n p);
+      all = λ p lt is_free. ⊎_elim (λ (e : n ≡ p). absurd (not (subst (IsFree d) (sym e) is_free)))
+          (λ (ne : n ≡ p → ⊥). below.all p (omega (arith, lt, ne)) is_free) (cases_eq n p);
       different = below.different;
     }
 

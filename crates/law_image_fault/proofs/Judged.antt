@@ -16,7 +16,18 @@ use Rattle.dn_model.specs.declared.fault.ImageFault.{ImageFault}
 use Rattle.dn_model.specs.declared.fault.ImageFault.TheVariants.{BadTable, BadPointer, DoubleMapped, BadCount, Crowded}
 use Rattle.law_table.proofs.Rows.{chain_listed, at_listed}
 use Rattle.law_table_read.specs.Tables.{HasChains}
-use Rattle.law_table_read.proofs.Decisions.{Decided, decide_lt, decide_le, decide_both, decide_either, decide_as, decide_not, least_or_none, all_or_first, decide_listed}
+use Rattle.law_table_read.proofs.Decisions.{
+  Decided,
+  decide_lt,
+  decide_le,
+  decide_both,
+  decide_either,
+  decide_as,
+  decide_not,
+  least_or_none,
+  all_or_first,
+  decide_listed,
+}
 use Rattle.law_table_read.proofs.Tables.{tables_read_or_faulty}
 use Rattle.law_image_fault.specs.Rules.{FreePages, are_few, are_two, LinkedImagesAreJudged}
 use Rattle.law_image_fault.proofs.Pages.{decide_double, double_in_data, single_from}
@@ -43,9 +54,12 @@ module _ (c : List ℕ) (d : Disk) (x : HasTable c d) (reads : Reads (PointersSa
 
   decide_pointer : (p : ℕ) → Decided (IsBadPointer p)
   decide_pointer p =
-      decide_either (slots d.geometry < d.pointer p) ((row : Row) × Contains (rows d) row × (row.page ≡ p) × (d.pointer p ≢ row.slot + 1)) (decide_lt (slots d.geometry) (d.pointer p))
-      (decide_as (HasMisled p) ((row : Row) × Contains (rows d) row × (row.page ≡ p) × (d.pointer p ≢ row.slot + 1)) (λ m. (m.0, m.1, m.2.0, m.2.1)) (λ m. (m.0, m.1, (m.2, m.3)))
-      (decide_listed (IsMisled p) (λ row. decide_both (row.page ≡ p) (d.pointer p ≢ row.slot + 1) (cases_eq row.page p) (decide_not (d.pointer p ≡ row.slot + 1) (cases_eq (d.pointer p) (row.slot + 1)))) (rows d)))
+      decide_either (slots d.geometry < d.pointer p) ((row : Row) × Contains (rows d) row × (row.page ≡ p) × (d.pointer p ≢ row.slot + 1))
+      (decide_lt (slots d.geometry) (d.pointer p))
+      (decide_as (HasMisled p) ((row : Row) × Contains (rows d) row × (row.page ≡ p) × (d.pointer p ≢ row.slot + 1)) (λ m. (m.0, m.1, m.2.0, m.2.1))
+      (λ m. (m.0, m.1, (m.2, m.3)))
+      (decide_listed (IsMisled p) (λ row. decide_both (row.page ≡ p) (d.pointer p ≢ row.slot + 1) (cases_eq row.page p)
+      (decide_not (d.pointer p ≡ row.slot + 1) (cases_eq (d.pointer p) (row.slot + 1)))) (rows d)))
 
   module _ (none : (p : ℕ) → p < d.geometry.pages → IsBadPointer p → ⊥) where
     row_led : (row : Row) → Contains (rows d) row → d.pointer row.page ≡ row.slot + 1
@@ -61,7 +75,13 @@ module _ (c : List ℕ) (d : Disk) (x : HasTable c d) (reads : Reads (PointersSa
     ]
 
     has_pointers : HasPointers c d
-    has_pointers = record { table = x; reads = reads; pointers = pointer_small; leads = λ k row lt. row_led (get_or (rows d) k row) (Contains-get_or (rows d) k row lt) }
+    has_pointers = record {
+      table = x;
+      reads = reads;
+      pointers = pointer_small;
+      leads = λ k row lt. row_led (get_or (rows d) k row)
+          (Contains-get_or (rows d) k row lt);
+    }
 
   pub pointers_or_fault : ((p : ℕ) × FaultOf c (BadPointer p)) ⊎ HasPointers c d
   pointers_or_fault = elim (least_or_none IsBadPointer d.geometry.pages (λ p lt. decide_pointer p)) [
@@ -82,7 +102,8 @@ module _ (c : List ℕ) (d : Disk) (x : HasPointers c d) where
 
   decide_near : (row : Row) → Decided (IsNear d row)
   decide_near row =
-      decide_both (mappings d row.page ≤ row.rfc + row.uc) (row.rfc ≤ mappings d row.page + row.uc) (decide_le (mappings d row.page) (row.rfc + row.uc)) (decide_le row.rfc (mappings d row.page + row.uc))
+      decide_both (mappings d row.page ≤ row.rfc + row.uc) (row.rfc ≤ mappings d row.page + row.uc)
+      (decide_le (mappings d row.page) (row.rfc + row.uc)) (decide_le row.rfc (mappings d row.page + row.uc))
 
   pub near_or_fault : IsNoneDouble → ((slot : ℕ) × FaultOf c (BadCount slot)) ⊎ Near d
   near_or_fault none = elim (all_or_first (IsNear d) decide_near (rows d)) [
@@ -102,7 +123,8 @@ module _ (c : List ℕ) (d : Disk) (links : HasLinks c d) where
     module _ (x : HasPointers c e) where
       by_free : ((p : ℕ) → IsDouble e p → ⊥) → Near e → FreePages e → Judged
       by_free none near (are_few n has few) = inl (Crowded n, crowded e n x none near has few)
-      by_free none near (are_two p q ne free_p free_q) = inr (record { disk = e; stands_for = stands c d chains.chain x (single_from e none) near p q ne free_p free_q })
+      by_free none near (are_two p q ne free_p free_q) = inr
+          (record { disk = e; stands_for = stands c d chains.chain x (single_from e none) near p q ne free_p free_q })
 
       by_near : ((p : ℕ) → IsDouble e p → ⊥) → ((slot : ℕ) × FaultOf c (BadCount slot)) ⊎ Near e → Judged
       by_near none (inl fault) = inl (BadCount fault.0, fault.1)

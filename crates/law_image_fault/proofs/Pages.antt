@@ -17,7 +17,17 @@ use Rattle.dn_model.specs.Valid.{MayStand, IsLog, IsSingle}
 use Rattle.dn_model.specs.Faults.{IsDouble}
 use Rattle.law_unique.proofs.Counted.{counts_mappings}
 use Rattle.law_write.proofs.Unread.{IsSetBy, mapping_set_by}
-use Rattle.law_table_read.proofs.Decisions.{Decided, decide_lt, decide_le, decide_both, decide_either, decide_as, decide_not, decide_below, decide_contains}
+use Rattle.law_table_read.proofs.Decisions.{
+  Decided,
+  decide_lt,
+  decide_le,
+  decide_both,
+  decide_either,
+  decide_as,
+  decide_not,
+  decide_below,
+  decide_contains,
+}
 use Rattle.law_table_read.proofs.RowRead.{decide_data}
 use Rattle.law_image_fault.specs.Rules.{PagesAreDecided}
 
@@ -44,18 +54,21 @@ module _ (d : Disk) (page : ℕ) where
   IsLogPageOf ino = IsUsed (d.inode ino).use_of × Contains (d.inode ino).log.pages page
 
   decide_log_page_of : (ino : ℕ) → Decided (IsLogPageOf ino)
-  decide_log_page_of ino = decide_both (IsUsed (d.inode ino).use_of) (Contains (d.inode ino).log.pages page) (decide_used (d.inode ino).use_of) (decide_contains (d.inode ino).log.pages page)
+  decide_log_page_of ino = decide_both (IsUsed (d.inode ino).use_of) (Contains (d.inode ino).log.pages page) (decide_used (d.inode ino).use_of)
+      (decide_contains (d.inode ino).log.pages page)
 
   abbrev InSomeLog : Type 0
   InSomeLog = (ino : ℕ) × (ino < d.geometry.inodes) × IsLogPageOf ino
 
   decide_log_page : Decided (IsLogPage d page)
   decide_log_page =
-      decide_as InSomeLog (IsLogPage d page) (λ some. record { ino = some.0; in_table = some.1; used = some.2.0; listed = some.2.1 }) (λ at. (at.ino, at.in_table, (at.used, at.listed)))
+      decide_as InSomeLog (IsLogPage d page) (λ some. record { ino = some.0; in_table = some.1; used = some.2.0; listed = some.2.1 })
+      (λ at. (at.ino, at.in_table, (at.used, at.listed)))
       (decide_below IsLogPageOf d.geometry.inodes (λ ino lt. decide_log_page_of ino))
 
   pub decide_mapped : Decided (IsMapped d page)
-  decide_mapped = decide_as (1 ≤ mappings d page) (IsMapped d page) (counts_mappings d page).0 (counts_mappings d page).1 (decide_le 1 (mappings d page))
+  decide_mapped = decide_as (1 ≤ mappings d page) (IsMapped d page) (counts_mappings d page).0 (counts_mappings d page).1
+      (decide_le 1 (mappings d page))
 
   -- a page of two logs
   abbrev IsOther : ℕ → ℕ → Type 0
@@ -78,10 +91,12 @@ module _ (d : Disk) (page : ℕ) where
   has_two two = (two.0, two.3, ((two.5, two.7), (two.1, two.4, (two.2, (two.6, two.8)))))
 
   decide_other : (i : ℕ) → Decided (HasOther i)
-  decide_other i = decide_below (IsOther i) d.geometry.inodes (λ j lt. decide_both (i ≢ j) (IsLogPageOf j) (decide_not (i ≡ j) (cases_eq i j)) (decide_log_page_of j))
+  decide_other i = decide_below (IsOther i) d.geometry.inodes (λ j lt. decide_both (i ≢ j) (IsLogPageOf j) (decide_not (i ≡ j) (cases_eq i j))
+      (decide_log_page_of j))
 
   decide_two : Decided InTwoLogs
-  decide_two = decide_as HasTwo InTwoLogs two_logs has_two (decide_below (λ i. IsLogPageOf i × HasOther i) d.geometry.inodes (λ i lt. decide_both (IsLogPageOf i) (HasOther i) (decide_log_page_of i) (decide_other i)))
+  decide_two = decide_as HasTwo InTwoLogs two_logs has_two (decide_below (λ i. IsLogPageOf i × HasOther i) d.geometry.inodes
+      (λ i lt. decide_both (IsLogPageOf i) (HasOther i) (decide_log_page_of i) (decide_other i)))
 
   abbrev HasRow : Type 0
   HasRow = IsSome (row_of (rows d) page)
@@ -98,15 +113,18 @@ module _ (d : Disk) (page : ℕ) where
   pub decide_double : Decided (IsDouble d page)
   decide_double =
       decide_either InTwoLogs ((IsLogPage d page × IsMapped d page) ⊎ ((IsLogPage d page × HasRow) ⊎ IsShared)) decide_two
-      (decide_either (IsLogPage d page × IsMapped d page) ((IsLogPage d page × HasRow) ⊎ IsShared) (decide_both (IsLogPage d page) (IsMapped d page) decide_log_page decide_mapped)
-      (decide_either (IsLogPage d page × HasRow) IsShared (decide_both (IsLogPage d page) HasRow decide_log_page (decide_some (row_of (rows d) page))) decide_shared))
+      (decide_either (IsLogPage d page × IsMapped d page) ((IsLogPage d page × HasRow) ⊎ IsShared) (decide_both (IsLogPage d page) (IsMapped d page)
+      decide_log_page decide_mapped)
+      (decide_either (IsLogPage d page × HasRow) IsShared (decide_both (IsLogPage d page) HasRow decide_log_page (decide_some (row_of (rows d) page)))
+      decide_shared))
 
   abbrev IsUnused : Type 0
   IsUnused = InData d.geometry page × ((IsLogPage d page → ⊥) × (mappings d page ≡ 0))
 
   pub decide_free : Decided (IsFree d page)
   decide_free =
-      decide_as IsUnused (IsFree d page) (λ u. record { data_page = u.0; in_no_log = u.1.0; unmapped = u.1.1 }) (λ f. (f.data_page, (f.in_no_log, f.unmapped)))
+      decide_as IsUnused (IsFree d page) (λ u. record { data_page = u.0; in_no_log = u.1.0; unmapped = u.1.1 })
+      (λ f. (f.data_page, (f.in_no_log, f.unmapped)))
       (decide_both (InData d.geometry page) ((IsLogPage d page → ⊥) × (mappings d page ≡ 0)) (decide_data d.geometry page)
       (decide_both (IsLogPage d page → ⊥) (mappings d page ≡ 0) (decide_not (IsLogPage d page) decide_log_page) (cases_eq (mappings d page) 0)))
 
@@ -123,8 +141,10 @@ mapped_in_log Free log idx m e = cc
 mapped_in_log Live log idx m e = (tt, e)
 mapped_in_log (Dying cut) log idx m e = (tt, kept_by_test (nat_lt idx cut) (mapping log idx) m e)
 
-set_in_data : (g : Geometry) (ino : ℕ) (items : List LogItem) (idx : ℕ) (m : Mapping) → All (MayStand g ino) items → IsSetBy items idx m → InData g m.block
-set_in_data g ino items idx m standing s = by_inode ino (All-contains (MayStand g ino) items (Write s.first s.n s.block s.size s.flag s.mask) standing s.listed)
+set_in_data : (g : Geometry) (ino : ℕ) (items : List LogItem) (idx : ℕ) (m : Mapping) → All (MayStand g ino) items → IsSetBy items idx m
+    → InData g m.block
+set_in_data g ino items idx m standing s = by_inode ino (All-contains (MayStand g ino) items (Write s.first s.n s.block s.size s.flag s.mask) standing
+    s.listed)
   where
     by_inode : (i : ℕ) → MayStand g i (Write s.first s.n s.block s.size s.flag s.mask) → InData g m.block
     by_inode zero may = absurd may
@@ -137,12 +157,15 @@ module _ (d : Disk) (logs : (ino : ℕ) → ino < d.geometry.inodes → IsUsed (
       let to = m.maps_to in
       let by = mapped_in_log (d.inode m.ino).use_of (d.inode m.ino).log m.idx to.by to.is in
       subst (InData d.geometry) to.block
-      (set_in_data d.geometry m.ino (d.inode m.ino).log.items m.idx to.by (logs m.ino to.in_table by.0).standing (mapping_set_by (d.inode m.ino).log m.idx to.by by.1))
+      (set_in_data d.geometry m.ino (d.inode m.ino).log.items m.idx to.by (logs m.ino to.in_table by.0).standing
+      (mapping_set_by (d.inode m.ino).log m.idx to.by by.1))
 
-  listed_in_data : (ino page : ℕ) → ino < d.geometry.inodes → IsUsed (d.inode ino).use_of → Contains (d.inode ino).log.pages page → InData d.geometry page
+  listed_in_data : (ino page : ℕ) → ino < d.geometry.inodes → IsUsed (d.inode ino).use_of → Contains (d.inode ino).log.pages page
+      → InData d.geometry page
   listed_in_data ino page lt used listed =
       let paged = (logs ino lt used).paged in
-      subst (InData d.geometry) listed.2 (subst (InData d.geometry) (get_or_default (d.inode ino).log.pages listed.0 0 page listed.1) (paged.in_data listed.0 listed.1))
+      subst (InData d.geometry) listed.2 (subst (InData d.geometry) (get_or_default (d.inode ino).log.pages listed.0 0 page listed.1)
+      (paged.in_data listed.0 listed.1))
 
   log_page_in_data : (page : ℕ) → IsLogPage d page → InData d.geometry page
   log_page_in_data page at = listed_in_data at.ino page at.in_table at.used at.listed

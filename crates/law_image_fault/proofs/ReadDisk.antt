@@ -7,7 +7,28 @@ use Rattle.pm_layout.specs.declared.Geometry.{Geometry}
 use Rattle.pm_layout.specs.Geometry.{IsAccepted, pointer_word}
 use Rattle.dn_model.specs.Rolled.{rolled, IsGate}
 use Rattle.dn_model.specs.Table.{Row}
-use Rattle.dn_model.specs.Disk.{Disk, HeadSays, at_magic, at_version, at_pages, at_inodes, at_gate, InodesSay, at_state, at_cut, PointersSay, PagesSay, DiskSays, of_head, of_inodes, of_logs, of_chains, of_pointers, of_pages, rows}
+use Rattle.dn_model.specs.Disk.{
+  Disk,
+  HeadSays,
+  at_magic,
+  at_version,
+  at_pages,
+  at_inodes,
+  at_gate,
+  InodesSay,
+  at_state,
+  at_cut,
+  PointersSay,
+  PagesSay,
+  DiskSays,
+  of_head,
+  of_inodes,
+  of_logs,
+  of_chains,
+  of_pointers,
+  of_pages,
+  rows,
+}
 use Rattle.dn_model.specs.Counts.{Near, IsFree}
 use Rattle.dn_model.specs.Files.{named}
 use Rattle.dn_model.specs.Valid.{IsSingle, IsValid}
@@ -36,7 +57,13 @@ module _ (c : List ℕ) (d : Disk) (chain : ℕ → List Row) where
   inodes_back a v (at_cut ino cut lt dying at is) = at_cut ino cut lt dying at is
 
   inodes_kept : HasInodes c d → HasInodes c e
-  inodes_kept x = record { gate = x.gate; geometry = x.geometry; reads = λ a v says. x.reads a v (inodes_back a v says); root = x.root; cuts = x.cuts }
+  inodes_kept x = record {
+    gate = x.gate;
+    geometry = x.geometry;
+    reads = λ a v says. x.reads a v (inodes_back a v says);
+    root = x.root;
+    cuts = x.cuts;
+  }
 
   logs_kept : HasLogs c d → HasLogs c e
   logs_kept x = record {
@@ -90,8 +117,10 @@ module _ (c : List ℕ) (d : Disk) (chain : ℕ → List Row) (x : HasPointers c
   head_read : Reads (HeadSays f) (rolled c)
   head_read a v (at_magic at is) = ap (slice_index (rolled c)) at ∙ low_word 0 (omega arith) ∙ has_geometry.image.magic ∙ sym is
   head_read a v (at_version at is) = ap (slice_index (rolled c)) at ∙ low_word 1 (omega arith) ∙ has_geometry.version ∙ sym is
-  head_read a v (at_pages at is) = ap (slice_index (rolled c)) at ∙ low_word 2 (omega arith) ∙ ap (λ (g : Geometry). g.pages) (sym has_inodes.geometry) ∙ sym is
-  head_read a v (at_inodes at is) = ap (slice_index (rolled c)) at ∙ low_word 3 (omega arith) ∙ ap (λ (g : Geometry). g.inodes) (sym has_inodes.geometry) ∙ sym is
+  head_read a v (at_pages at is) = ap (slice_index (rolled c)) at ∙ low_word 2 (omega arith) ∙ ap (λ (g : Geometry). g.pages)
+      (sym has_inodes.geometry) ∙ sym is
+  head_read a v (at_inodes at is) = ap (slice_index (rolled c)) at ∙ low_word 3 (omega arith) ∙ ap (λ (g : Geometry). g.inodes)
+      (sym has_inodes.geometry) ∙ sym is
   head_read a v (at_gate at is) = ap (slice_index (rolled c)) at ∙ rolled_gate c (omega (arith, has_geometry.image.long)) ∙ sym is
 
   disk_read : Reads (DiskSays f) (rolled c)

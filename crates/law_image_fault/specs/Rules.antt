@@ -24,7 +24,8 @@ FreePagesAreCounted = (d : Disk) → FreePages d
 
 -- an image that is read up to its links has a fault or none
 abbrev pub LinkedImagesAreJudged : Type 0
-LinkedImagesAreJudged = (c : List ℕ) (d : Disk) → HasLinks c d → ((fault : ImageFault) × FaultOf c fault) ⊎ HasNoFault c
+LinkedImagesAreJudged = (c : List ℕ) (d : Disk) → HasLinks c d
+    → ((fault : ImageFault) × FaultOf c fault) ⊎ HasNoFault c
 
 -- any words have a first fault, or stand for a valid disk
 abbrev pub ImagesAreJudged : Type 0

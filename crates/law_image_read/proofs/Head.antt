@@ -81,14 +81,17 @@ module _ (c : List ℕ) where
 
   image_decided : Decided (IsImage c)
   image_decided =
-      same_decided ((32768 ≤ length c) × (slice_index c 0 ≡ 0x313041564F4E4544)) (IsImage c) (λ p. record { long = p.0; magic = p.1 }) (λ is. (is.long, is.magic))
-      (both_decided (32768 ≤ length c) (slice_index c 0 ≡ 0x313041564F4E4544) (le_decided 32768 (length c)) (cases_eq (slice_index c 0) 0x313041564F4E4544))
+      same_decided ((32768 ≤ length c) × (slice_index c 0 ≡ 0x313041564F4E4544)) (IsImage c) (λ p. record { long = p.0; magic = p.1 })
+      (λ is. (is.long, is.magic))
+      (both_decided (32768 ≤ length c) (slice_index c 0 ≡ 0x313041564F4E4544) (le_decided 32768 (length c))
+      (cases_eq (slice_index c 0) 0x313041564F4E4544))
 
   abbrev Sized : Type 0
   Sized = IsAccepted (geometry_of c) × (length c ≡ 512 * slice_index c 2)
 
   sized_decided : Decided Sized
-  sized_decided = both_decided (IsAccepted (geometry_of c)) (length c ≡ 512 * slice_index c 2) (accepted_decided (geometry_of c)) (cases_eq (length c) (512 * slice_index c 2))
+  sized_decided = both_decided (IsAccepted (geometry_of c)) (length c ≡ 512 * slice_index c 2) (accepted_decided (geometry_of c))
+      (cases_eq (length c) (512 * slice_index c 2))
 
   pub head_read : HasFault ⊎ HasGate c
   head_read = elim image_decided [

@@ -44,11 +44,15 @@ cut_by (suc (suc n)) cut le small = small (omega (arith, le))
 
 bad_inode_decided : (r : List ℕ) (ino : ℕ) → Decided (IsBadInode r ino)
 bad_inode_decided r ino =
-    either_decided (2 < slice_index r (inode_word ino 0)) (((ino ≡ 0) × (slice_index r (inode_word 0 0) ≢ 1)) ⊎ ((slice_index r (inode_word ino 0) ≡ 2) × (4096 < slice_index r (inode_word ino 3))))
+    either_decided (2 < slice_index r (inode_word ino 0)) (((ino ≡ 0) × (slice_index r (inode_word 0 0) ≢ 1))
+    ⊎ ((slice_index r (inode_word ino 0) ≡ 2) × (4096 < slice_index r (inode_word ino 3))))
     (lt_decided 2 (slice_index r (inode_word ino 0)))
-    (either_decided ((ino ≡ 0) × (slice_index r (inode_word 0 0) ≢ 1)) ((slice_index r (inode_word ino 0) ≡ 2) × (4096 < slice_index r (inode_word ino 3)))
-    (both_decided (ino ≡ 0) (slice_index r (inode_word 0 0) ≢ 1) (cases_eq ino 0) (not_decided (slice_index r (inode_word 0 0) ≡ 1) (cases_eq (slice_index r (inode_word 0 0)) 1)))
-    (both_decided (slice_index r (inode_word ino 0) ≡ 2) (4096 < slice_index r (inode_word ino 3)) (cases_eq (slice_index r (inode_word ino 0)) 2) (lt_decided 4096 (slice_index r (inode_word ino 3)))))
+    (either_decided ((ino ≡ 0) × (slice_index r (inode_word 0 0) ≢ 1))
+    ((slice_index r (inode_word ino 0) ≡ 2) × (4096 < slice_index r (inode_word ino 3)))
+    (both_decided (ino ≡ 0) (slice_index r (inode_word 0 0) ≢ 1) (cases_eq ino 0) (not_decided (slice_index r (inode_word 0 0) ≡ 1)
+    (cases_eq (slice_index r (inode_word 0 0)) 1)))
+    (both_decided (slice_index r (inode_word ino 0) ≡ 2) (4096 < slice_index r (inode_word ino 3)) (cases_eq (slice_index r (inode_word ino 0)) 2)
+    (lt_decided 4096 (slice_index r (inode_word ino 3)))))
 
 -- the log that is read, if one is
 module _ (g : Geometry) (r : List ℕ) (ino : ℕ) where
@@ -100,8 +104,10 @@ module _ (c : List ℕ) where
 
     inodes_say : Reads (InodesSay read_disk) r
     unfolding read_disk
-    inodes_say a v (at_state ino lt place value) = ap (slice_index r) place ∙ sym (state_back (slice_index r (inode_word ino 0)) (slice_index r (inode_word ino 3)) (state_low ino lt)) ∙ sym value
-    inodes_say a v (at_cut ino k lt dying place value) = ap (slice_index r) place ∙ cut_back (slice_index r (inode_word ino 0)) (slice_index r (inode_word ino 3)) k dying ∙ sym value
+    inodes_say a v (at_state ino lt place value) = ap (slice_index r) place ∙ sym (state_back (slice_index r (inode_word ino 0))
+        (slice_index r (inode_word ino 3)) (state_low ino lt)) ∙ sym value
+    inodes_say a v (at_cut ino k lt dying place value) = ap (slice_index r) place ∙ cut_back (slice_index r (inode_word ino 0))
+        (slice_index r (inode_word ino 3)) k dying ∙ sym value
 
     pub has_inodes : HasInodes c read_disk
     unfolding read_disk

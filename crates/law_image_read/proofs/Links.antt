@@ -1,5 +1,31 @@
 -- Just one name leads to each live inode, and none to any other, or the first of which that isn't so is found.
-use Rattle.std.proofs.Common.{◌≡◌, ◌≢◌, ◌⊎◌, inl, inr, ⊎_elim, ℕ, suc, ◌<◌, ◌≤◌, Bool, true, false, List, [], ◌∷◌, get_or, Option, Some, None, refl, sym, ◌∙◌, ap, arith}
+use Rattle.std.proofs.Common.{
+  ◌≡◌,
+  ◌≢◌,
+  ◌⊎◌,
+  inl,
+  inr,
+  ⊎_elim,
+  ℕ,
+  suc,
+  ◌<◌,
+  ◌≤◌,
+  Bool,
+  true,
+  false,
+  List,
+  [],
+  ◌∷◌,
+  get_or,
+  Option,
+  Some,
+  None,
+  refl,
+  sym,
+  ◌∙◌,
+  ap,
+  arith,
+}
 use Rattle.std.specs.Prelude.{Contains, if◌then◌else◌}
 use Rattle.std.proofs.lemmas.Bool.{cases_eq}
 use Rattle.std.proofs.lemmas.List.Elements.{All-contains}
@@ -37,7 +63,8 @@ module _ (name : List ℕ) (ino : ℕ) where
   by_name i new found items false other (inl before) = inl before
   by_name i new found items false other (inr at) = inr (later new (added items) at)
 
-  by_forget : (old : List ℕ) (found : Option ℕ) (items : List LogItem) (test : Bool) → Leads (if test then None else found) items → Leads found (Forget old ∷ items)
+  by_forget : (old : List ℕ) (found : Option ℕ) (items : List LogItem) (test : Bool) → Leads (if test then None else found) items
+      → Leads found (Forget old ∷ items)
   by_forget old found items true (inl none) = let never : ⊥ = cc in absurd never
   by_forget old found items true (inr at) = inr at
   by_forget old found items false leads = leads
@@ -45,8 +72,10 @@ module _ (name : List ℕ) (ino : ℕ) where
   -- a name that leads to an inode was added
   leads_after : (found : Option ℕ) (items : List LogItem) → named_after name found items ≡ Some ino → Leads found items
   leads_after found [] e = inl e
-  leads_after found (Add i new ∷ items) e = by_name i new found items (same_name new name) refl (leads_after (if same_name new name then Some i else found) items e)
-  leads_after found (Forget old ∷ items) e = by_forget old found items (same_name old name) (leads_after (if same_name old name then None else found) items e)
+  leads_after found (Add i new ∷ items) e = by_name i new found items (same_name new name) refl
+      (leads_after (if same_name new name then Some i else found) items e)
+  leads_after found (Forget old ∷ items) e = by_forget old found items (same_name old name) (leads_after (if same_name old name then None else found)
+      items e)
   leads_after found (Write first count block size flag mask ∷ items) e = leads_after found items e
   leads_after found (Size size ∷ items) e = leads_after found items e
 
@@ -69,7 +98,8 @@ module _ (d : Disk) (ino : ℕ) where
 
   was_added : (name : List ℕ) → LeadsTo name → Contains names name
   unfolding named
-  was_added name e = ⊎_elim (λ (none : None ≡ Some ino). let never : ⊥ = cc in absurd never) (λ (at : Contains names name). at) (leads_after name ino None (d.inode 0).log.items e)
+  was_added name e = ⊎_elim (λ (none : None ≡ Some ino). let never : ⊥ = cc in absurd never) (λ (at : Contains names name). at)
+      (leads_after name ino None (d.inode 0).log.items e)
 
   none_decided : Decided ((name : List ℕ) → named d name ≢ Some ino)
   none_decided = elim (some_or_none LeadsTo leads_decided names) [
@@ -87,7 +117,12 @@ module _ (d : Disk) (ino : ℕ) where
   one_decided = elim (some_or_none LeadsTo leads_decided names) [
     | inr none ↦ inr (λ has. All-contains (λ x. LeadsTo x → ⊥) names has.name none (was_added has.name has.leads) has.leads)
     | inl found ↦ elim (all_decided (IsThat found.0) (that_decided found.0) names) [
-      | inl all ↦ inl (record { name = found.0; leads = found.1; alone = λ other e. All-contains (IsThat found.0) names other all (was_added other e) e })
+      | inl all ↦ inl (record {
+        name = found.0;
+        leads = found.1;
+        alone = λ other e. All-contains (IsThat found.0) names other all (was_added other e)
+            e;
+      })
       | inr never ↦ inr (λ has. never (λ k default lt e. has.alone (get_or names k default) e ∙ sym (has.alone found.0 found.1)))
     ]
   ]
@@ -103,7 +138,8 @@ module _ (c : List ℕ) (d : Disk) where
 
   bad_link_decided : (i : ℕ) → Decided (IsBadLink i)
   bad_link_decided i =
-      both_decided (1 ≤ i) (IsLinked d i (d.inode i).use_of → ⊥) (le_decided 1 i) (not_decided (IsLinked d i (d.inode i).use_of) (linked_decided d i (d.inode i).use_of))
+      both_decided (1 ≤ i) (IsLinked d i (d.inode i).use_of → ⊥) (le_decided 1 i) (not_decided (IsLinked d i (d.inode i).use_of)
+      (linked_decided d i (d.inode i).use_of))
 
   linked : ((i : ℕ) → i < d.geometry.inodes → IsBadLink i → ⊥) → (i : ℕ) → 1 ≤ i → i < d.geometry.inodes → IsLinked d i (d.inode i).use_of
   linked none i some lt = elim (linked_decided d i (d.inode i).use_of) [

@@ -49,7 +49,8 @@ module _ (c : List ℕ) where
   IsBadLog i = IsUsed (d.inode i).use_of × ((n : ℕ) × LogFault d.geometry r i n)
 
   bad_log_decided : (i : ℕ) → Decided (IsBadLog i)
-  bad_log_decided i = both_decided (IsUsed (d.inode i).use_of) ((n : ℕ) × LogFault d.geometry r i n) (used_decided (d.inode i).use_of) (fault_decided d.geometry r i)
+  bad_log_decided i = both_decided (IsUsed (d.inode i).use_of) ((n : ℕ) × LogFault d.geometry r i n) (used_decided (d.inode i).use_of)
+      (fault_decided d.geometry r i)
 
   module _ (inodes : HasInodes c d) (none : (ino : ℕ) → ino < d.geometry.inodes → IsBadLog ino → ⊥) where
     log_is : (ino : ℕ) → ino < d.geometry.inodes → IsUsed (d.inode ino).use_of → MayBeRead d.geometry r ino (d.inode ino).log

@@ -6,7 +6,23 @@ use Rattle.pm_layout.specs.declared.Geometry.{Geometry}
 use Rattle.pm_layout.specs.Geometry.{IsAccepted, gate_word}
 use Rattle.dn_model.specs.Rolled.{rolled, put_back, IsGate}
 use Rattle.dn_model.proofs.RollBack.{put_back_other, length-put_back}
-use Rattle.dn_model.specs.Disk.{Disk, HeadSays, at_magic, at_version, at_pages, at_inodes, at_gate, DiskSays, of_head, of_inodes, of_logs, of_chains, of_pointers, of_pages, PagesSay}
+use Rattle.dn_model.specs.Disk.{
+  Disk,
+  HeadSays,
+  at_magic,
+  at_version,
+  at_pages,
+  at_inodes,
+  at_gate,
+  DiskSays,
+  of_head,
+  of_inodes,
+  of_logs,
+  of_chains,
+  of_pointers,
+  of_pages,
+  PagesSay,
+}
 use Rattle.dn_model.specs.Counts.{IsFree, Near}
 use Rattle.dn_model.specs.Valid.{IsSingle, IsValid}
 use Rattle.dn_model.specs.Image.{StandsFor}
@@ -22,7 +38,8 @@ module _ (c : List ℕ) (n : ℕ) (gate : IsGate n c) where
 
   rolled_gate : 32768 ≤ length c → slice_index (rolled c) gate_word ≡ 0
   unfolding rolled
-  rolled_gate long = get_or-set_same (put_back c (slice_index c gate_word) c) gate_word 0 0 (omega (arith, long, length-put_back c c (slice_index c gate_word)))
+  rolled_gate long = get_or-set_same (put_back c (slice_index c gate_word) c) gate_word 0 0
+      (omega (arith, long, length-put_back c c (slice_index c gate_word)))
 
 module _ (c : List ℕ) (d : Disk) (passed : HasPointers c d) (pages : Reads (PagesSay d) (rolled c)) (single : IsSingle d) (near : Near d)
     (p q : ℕ) (other : p ≢ q) (free_p : IsFree d p) (free_q : IsFree d q) where
@@ -47,7 +64,8 @@ module _ (c : List ℕ) (d : Disk) (passed : HasPointers c d) (pages : Reads (Pa
   head_says a v (at_version place value) = head_word a 1 v place (omega arith) (geometry.version ∙ sym value)
   head_says a v (at_pages place value) = head_word a 2 v place (omega arith) (sym pages_are ∙ sym value)
   head_says a v (at_inodes place value) = head_word a 3 v place (omega arith) (sym inodes_are ∙ sym value)
-  head_says a v (at_gate place value) = ap (slice_index (rolled c)) place ∙ rolled_gate c (slice_index c 3) inodes.gate.gate geometry.image.long ∙ sym value
+  head_says a v (at_gate place value) = ap (slice_index (rolled c)) place ∙ rolled_gate c (slice_index c 3) inodes.gate.gate geometry.image.long ∙ sym
+      value
 
   disk_says : Reads (DiskSays d) (rolled c)
   disk_says a v (of_head says) = head_says a v says

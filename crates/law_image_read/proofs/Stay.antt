@@ -14,7 +14,8 @@ module _ (c : List ℕ) (d e : Disk) (same : e.geometry ≡ d.geometry) (alike :
 
   inodes_say : (a v : ℕ) → InodesSay e a v → InodesSay d a v
   inodes_say a v (at_state ino lt place value) = at_state ino (in_table ino lt) place (value ∙ ap (λ (i : Inode). state_number i.use_of) (alike ino))
-  inodes_say a v (at_cut ino k lt dying place value) = at_cut ino k (in_table ino lt) (sym (ap (λ (i : Inode). i.use_of) (alike ino)) ∙ dying) place value
+  inodes_say a v (at_cut ino k lt dying place value) = at_cut ino k (in_table ino lt) (sym (ap (λ (i : Inode). i.use_of) (alike ino)) ∙ dying) place
+      value
 
   logs_say : (a v : ℕ) → LogsSay e a v → LogsSay d a v
   logs_say a v says = record {
@@ -34,7 +35,8 @@ module _ (c : List ℕ) (d e : Disk) (same : e.geometry ≡ d.geometry) (alike :
   }
 
   log_stays : (ino : ℕ) → IsLog d.geometry ino (d.inode ino).log → IsLog e.geometry ino (e.inode ino).log
-  log_stays ino is = subst (λ (g : Geometry). IsLog g ino (e.inode ino).log) (sym same) (subst (λ (i : Inode). IsLog d.geometry ino i.log) (sym (alike ino)) is)
+  log_stays ino is = subst (λ (g : Geometry). IsLog g ino (e.inode ino).log) (sym same) (subst (λ (i : Inode). IsLog d.geometry ino i.log)
+      (sym (alike ino)) is)
 
   logs_stay : HasLogs c d → HasLogs c e
   logs_stay x = record {
@@ -59,7 +61,8 @@ module _ (c : List ℕ) (d e : Disk) (same : e.geometry ≡ d.geometry) (alike :
   links_stay : HasLinks c d → HasLinks c e
   links_stay x = record {
     logs = logs_stay x.logs;
-    links = λ ino some lt. subst (λ (i : Inode). IsLinked e ino i.use_of) (sym (alike ino)) (linked_stays ino (d.inode ino).use_of (x.links ino some (in_table ino lt)));
+    links = λ ino some lt. subst (λ (i : Inode). IsLinked e ino i.use_of) (sym (alike ino))
+        (linked_stays ino (d.inode ino).use_of (x.links ino some (in_table ino lt)));
   }
 
 pub stay : LinksStay

@@ -15,9 +15,11 @@ AreReadToLinks = (c : List ℕ) → ((f : ImageFault) × FaultOf c f) ⊎ ((d : 
 
 -- these rules speak of the geometry and the inodes alone
 abbrev pub LinksStay : Type 0
-LinksStay = (c : List ℕ) (d e : Disk) → e.geometry ≡ d.geometry → ((ino : ℕ) → e.inode ino ≡ d.inode ino) → HasLinks c d → HasLinks c e
+LinksStay = (c : List ℕ) (d e : Disk) → e.geometry ≡ d.geometry
+    → ((ino : ℕ) → e.inode ino ≡ d.inode ino) → HasLinks c d → HasLinks c e
 
 -- words that pass all rules stand for the state
 abbrev pub PassingStands : Type 0
-PassingStands = (c : List ℕ) (d : Disk) → HasPointers c d → Reads (PagesSay d) (rolled c) → IsSingle d → Near d
+PassingStands = (c : List ℕ) (d : Disk) → HasPointers c d → Reads (PagesSay d) (rolled c)
+    → IsSingle d → Near d
     → (p q : ℕ) → p ≢ q → IsFree d p → IsFree d q → StandsFor c d

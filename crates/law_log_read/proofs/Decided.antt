@@ -86,5 +86,6 @@ lists_decided [] [] = inl refl
 lists_decided [] (y ∷ ys) = inr (λ e. omega (arith, ap length e))
 lists_decided (x ∷ xs) [] = inr (λ e. omega (arith, ap length e))
 lists_decided (x ∷ xs) (y ∷ ys) =
-    same_decided ((x ≡ y) × (xs ≡ ys)) (x ∷ xs ≡ y ∷ ys) (λ both. let first = both.0 in let rest = both.1 in cc) (λ e. (let first : x ≡ y = cc in first, let rest : xs ≡ ys = cc in rest))
+    same_decided ((x ≡ y) × (xs ≡ ys)) (x ∷ xs ≡ y ∷ ys) (λ both. let first = both.0 in let rest = both.1 in cc)
+    (λ e. (let first : x ≡ y = cc in first, let rest : xs ≡ ys = cc in rest))
     (both_decided (x ≡ y) (xs ≡ ys) (cases_eq x y) (lists_decided xs ys))

@@ -1,5 +1,29 @@
 -- What slots begin with can be decided.
-use Rattle.std.proofs.Common.{◌≡◌, ◌≢◌, ◌⊎◌, inl, inr, ℕ, ◌+◌, ◌^◌, ◌<◌, ◌≤◌, List, [], ◌∷◌, length, get_or, Option, Some, None, refl, sym, ap, subst, arith}
+use Rattle.std.proofs.Common.{
+  ◌≡◌,
+  ◌≢◌,
+  ◌⊎◌,
+  inl,
+  inr,
+  ℕ,
+  ◌+◌,
+  ◌^◌,
+  ◌<◌,
+  ◌≤◌,
+  List,
+  [],
+  ◌∷◌,
+  length,
+  get_or,
+  Option,
+  Some,
+  None,
+  refl,
+  sym,
+  ap,
+  subst,
+  arith,
+}
 use Rattle.std.specs.Prelude.{slice_index, All}
 use Rattle.std.proofs.lemmas.Bool.{cases_lt, cases_eq}
 use Rattle.log_entry.specs.Name.{IsLegal, IsNameByte}
@@ -10,10 +34,33 @@ use Rattle.log_entry.specs.declared.item.Flag.{Flag}
 use Rattle.log_entry.specs.declared.item.Flag.TheVariants.{Needed, InProcess, Complete}
 use Rattle.log_entry.specs.declared.item.LogItem.{LogItem}
 use Rattle.log_entry.specs.declared.item.LogItem.TheVariants.{Write, Size, Add, Forget}
-use Rattle.log_entry.proofs.Heads.{write_head, write_is, size_head, add_fits, forget_fits, unnamed, named, from_head, no_kind, none_agrees, none_at_all}
+use Rattle.log_entry.proofs.Heads.{
+  write_head,
+  write_is,
+  size_head,
+  add_fits,
+  forget_fits,
+  unnamed,
+  named,
+  from_head,
+  no_kind,
+  none_agrees,
+  none_at_all,
+}
 use Rattle.log_entry.proofs.Fronts.{whole, part, nothing, no_slots}
 use Rattle.law_log_read.specs.Laws.{FrontsAreDecided}
-use Rattle.law_log_read.proofs.Decided.{Decided, le_decided, lt_decided, same_decided, both_decided, implies_decided, not_decided, each_decided, all_decided, lists_decided}
+use Rattle.law_log_read.proofs.Decided.{
+  Decided,
+  le_decided,
+  lt_decided,
+  same_decided,
+  both_decided,
+  implies_decided,
+  not_decided,
+  each_decided,
+  all_decided,
+  lists_decided,
+}
 
 abbrev HasFlag : ℕ → Type 0
 HasFlag n = (flag : Flag) × (flag_number flag ≡ n)
@@ -78,7 +125,8 @@ module _ (first count block size : ℕ) (flag : Flag) (mask : ℕ) where
 agrees_decided : (xs ys : List (List ℕ)) → Decided (Agrees xs ys)
 agrees_decided xs ys =
     each_decided (λ k. k < length ys → get_or xs k [] ≡ get_or ys k [])
-    (λ k. implies_decided (k < length ys) (get_or xs k [] ≡ get_or ys k []) (lt_decided k (length ys)) (lists_decided (get_or xs k []) (get_or ys k [])))
+    (λ k. implies_decided (k < length ys) (get_or xs k [] ≡ get_or ys k []) (lt_decided k (length ys))
+    (lists_decided (get_or xs k []) (get_or ys k [])))
     (length xs)
 
 -- the only item that slots can spell or begin to spell, if any
@@ -102,7 +150,8 @@ module _ (slots : List (List ℕ)) (some : 0 < length slots) where
       }
       | inr bad ↦ record {
         found = None;
-        is = from_head None slots some tt (λ other spelled same. absurd (bad (subst IsSpelled (write_is other head same kind flag.0 flag.1) spelled)));
+        is = from_head None slots some tt
+            (λ other spelled same. absurd (bad (subst IsSpelled (write_is other head same kind flag.0 flag.1) spelled)));
       }
     ]
     | inr never ↦ record {
@@ -127,7 +176,8 @@ module _ (slots : List (List ℕ)) (some : 0 < length slots) where
   add_candidate kind = elim (legal_decided (name_bytes slots)) [
     | inl legal ↦ record {
       found = Some (Add (slice_index head 1) (name_bytes slots));
-      is = named (λ n. Add (slice_index head 1) n) (name_bytes slots) slots refl legal (λ other spelled same. add_fits other slots some kind spelled same);
+      is = named (λ n. Add (slice_index head 1) n) (name_bytes slots) slots refl legal (λ other spelled same. add_fits other slots some kind spelled
+          same);
     }
     | inr never ↦ record {
       found = None;

@@ -58,7 +58,14 @@ module _ (g : Geometry) (ino : ℕ) (pages : List ℕ) (slots : List (List ℕ))
           | inr (inl part) ↦ inl (record { items = items; taken = n; end = Cut; front = front; ends = (part, some) })
           | inr (inr nothing) ↦ inl (record { items = items; taken = n; end = Bad; front = front; ends = (inl nothing, some) })
         ]
-    | inr le ↦ inl (record { items = items; taken = n; end = Filled; front = front; ends = nil_from_length (drop n slots) (omega (arith, le, length-drop n slots)) })
+    | inr le ↦ inl (record {
+      items = items;
+      taken = n;
+      end = Filled;
+      front = front;
+      ends = nil_from_length (drop n slots)
+          (omega (arith, le, length-drop n slots));
+    })
   ]
 
   items_from : (fuel : ℕ) (items : List Placed) (n : ℕ) → AreFront g ino pages slots items n → length slots ≤ n + fuel → AllItems

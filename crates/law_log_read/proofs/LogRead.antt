@@ -36,7 +36,8 @@ module _ (g : Geometry) (c : List ℕ) (ino : ℕ) where
       let m : ℕ = slots_before (length way.pages) way.whole tail in
       let read : AllItems g ino way.pages (first_slots c way.pages m) = all_items g ino way.pages (first_slots c way.pages m) in
       judged way.pages read.items (fault_place read.end way.whole (tail % 64) read.taken m)
-      (outcome g c ino head tail way.pages read.items read.taken m refl refl some way.is.part read.front read.end way.whole way.is.ends refl read.ends)
+      (outcome g c ino head tail way.pages read.items read.taken m refl refl some way.is.part read.front read.end way.whole way.is.ends refl
+      read.ends)
 
 pub log_read : LogsAreReadOrFaulty
 log_read g c ino = elim (cases_eq (slice_index c (inode_word ino 2)) 0) [

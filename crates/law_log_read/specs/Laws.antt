@@ -10,8 +10,10 @@ use Rattle.dn_model.specs.Valid.{IsLog}
 
 -- slots begin with an item's slots, or an item's slots begin with them and are more, or neither
 abbrev pub FrontsAreDecided : Type 0
-FrontsAreDecided = (slots : List (List ℕ)) → ((item : LogItem) × BeginsWith item slots) ⊎ BeginsItem slots ⊎ BeginsNothing slots
+FrontsAreDecided = (slots : List (List ℕ)) → ((item : LogItem) × BeginsWith item slots) ⊎ BeginsItem
+    slots ⊎ BeginsNothing slots
 
 -- the log of an inode has its first fault, or a log without a fault reads in the words
 abbrev pub LogsAreReadOrFaulty : Type 0
-LogsAreReadOrFaulty = (g : Geometry) (c : List ℕ) (ino : ℕ) → ((place : ℕ) × LogFault g c ino place) ⊎ ((log : Log) × Reads (LogSays ino log) c × IsLog g ino log)
+LogsAreReadOrFaulty = (g : Geometry) (c : List ℕ) (ino : ℕ) → ((place : ℕ) × LogFault g c ino place)
+    ⊎ ((log : Log) × Reads (LogSays ino log) c × IsLog g ino log)

@@ -23,7 +23,20 @@ use Rattle.law_write.proofs.WriteBytes.{length-bytes, byte_at}
 use Rattle.law_table_on_disk.proofs.Mappings.{blocks_tell, counted_mapped, near_stays}
 use Rattle.law_table.proofs.Rows.{all_listed, listed_here, listed_later, listed_cases}
 use Rattle.law_log_swap.specs.Relogged.{relogged, block_of, IsSpared, was_free, was_log, MayRelog, KeepsData, MovesLog, TellsDone, KeepsDone}
-use Rattle.law_log_swap.proofs.Relogged.{IsRelog, at_other, log_here, use_same, same_geometry, same_word, same_rows, below, above, maps_here, maps_before, maps_others}
+use Rattle.law_log_swap.proofs.Relogged.{
+  IsRelog,
+  at_other,
+  log_here,
+  use_same,
+  same_geometry,
+  same_word,
+  same_rows,
+  below,
+  above,
+  maps_here,
+  maps_before,
+  maps_others,
+}
 
 -- a mapping on the same page
 same_block : (m : Mapping) (o : Option Mapping) → block_of (Some m) ≡ block_of o → (n : Mapping) × (o ≡ Some n) × (n.block ≡ m.block)
@@ -35,7 +48,8 @@ listed_or_not : (xs : List ℕ) (x : ℕ) → Contains xs x ⊎ (Contains xs x �
 listed_or_not [] x = inr (λ has. omega (arith, has.1))
 listed_or_not (y ∷ xs) x = elim (cases_eq y x) [
   | inl e ↦ inl (subst (Contains (y ∷ xs)) e (listed_here y xs))
-  | inr ne ↦ ⊎_elim (λ (has : Contains xs x). inl (listed_later y xs x has)) (λ not. inr (λ has. ⊎_elim (λ (e : y ≡ x). ne e) not (listed_cases y xs x has))) (listed_or_not xs x)
+  | inr ne ↦ ⊎_elim (λ (has : Contains xs x). inl (listed_later y xs x has))
+      (λ not. inr (λ has. ⊎_elim (λ (e : y ≡ x). ne e) not (listed_cases y xs x has))) (listed_or_not xs x)
 ]
 
 module _ (d : Disk) (ino : ℕ) (log : Log) (may : MayRelog d ino log) where
@@ -59,18 +73,48 @@ module _ (d : Disk) (ino : ℕ) (log : Log) (may : MayRelog d ino log) where
   mapped_only page m =
       let to = m.maps_to in
       let was = same_block to.by (maps d m.ino m.idx) (ap block_of (sym to.is) ∙ blocks m.ino m.idx) in
-      record { ino = m.ino; idx = m.idx; maps_to = record { in_table = below d ino log m.ino to.in_table; in_file = to.in_file; by = was.0; is = was.1; block = was.2 ∙ to.block } }
+      record {
+        ino = m.ino;
+        idx = m.idx;
+        maps_to = record {
+          in_table = below d ino log m.ino to.in_table;
+          in_file = to.in_file;
+          by = was.0;
+          is = was.1;
+          block = was.2 ∙ to.block;
+        };
+      }
 
   pub mapped_kept : (page : ℕ) → IsMapped d page → IsMapped new page
   mapped_kept page m =
       let to = m.maps_to in
       let now = same_block to.by (maps new m.ino m.idx) (ap block_of (sym to.is) ∙ sym (blocks m.ino m.idx)) in
-      record { ino = m.ino; idx = m.idx; maps_to = record { in_table = above d ino log m.ino to.in_table; in_file = to.in_file; by = now.0; is = now.1; block = now.2 ∙ to.block } }
+      record {
+        ino = m.ino;
+        idx = m.idx;
+        maps_to = record {
+          in_table = above d ino log m.ino to.in_table;
+          in_file = to.in_file;
+          by = now.0;
+          is = now.1;
+          block = now.2 ∙ to.block;
+        };
+      }
 
   reads : (idx : ℕ) (m : Mapping) → mapping log idx ≡ Some m → IsReadPage d m.block
   reads idx m is =
       let was = same_block m (maps d ino idx) (ap block_of (sym (maps_here d ino log may.live idx ∙ is)) ∙ blocks ino idx) in
-      inl (record { ino = ino; idx = idx; maps_to = record { in_table = may.in_table; in_file = maps-in_file d valid ino idx was.0 may.in_table was.1; by = was.0; is = was.1; block = was.2 } })
+      inl (record {
+        ino = ino;
+        idx = idx;
+        maps_to = record {
+          in_table = may.in_table;
+          in_file = maps-in_file d valid ino idx was.0 may.in_table was.1;
+          by = was.0;
+          is = was.1;
+          block = was.2;
+        };
+      })
 
   pub names : (name : List ℕ) → named new name ≡ named d name
   unfolding named
@@ -83,7 +127,8 @@ module _ (d : Disk) (ino : ℕ) (log : Log) (may : MayRelog d ino log) where
   pub near_kept : Near d → Near new
   near_kept near = near_stays d new (same_rows d ino log) near (λ row has. inl (mappings_same row.page))
 
-  pub few_kept : ((page : ℕ) → IsNone (row_of (rows d) page) → mappings d page ≤ 1) → (page : ℕ) → IsNone (row_of (rows d) page) → mappings new page ≤ 1
+  pub few_kept : ((page : ℕ) → IsNone (row_of (rows d) page) → mappings d page ≤ 1) → (page : ℕ) → IsNone (row_of (rows d) page)
+      → mappings new page ≤ 1
   few_kept few page none = omega (arith, mappings_same page, few page none)
 
   was_used : IsUsed (d.inode ino).use_of
@@ -92,7 +137,8 @@ module _ (d : Disk) (ino : ℕ) (log : Log) (may : MayRelog d ino log) where
   listed_in_data : (page : ℕ) → Contains (d.inode ino).log.pages page → InData d.geometry page
   listed_in_data page has =
       let paged = (valid.logs ino may.in_table was_used).paged in
-      subst (InData d.geometry) has.2 (subst (InData d.geometry) (get_or_default (d.inode ino).log.pages has.0 0 page has.1) (paged.in_data has.0 has.1))
+      subst (InData d.geometry) has.2 (subst (InData d.geometry) (get_or_default (d.inode ino).log.pages has.0 0 page has.1)
+      (paged.in_data has.0 has.1))
 
   abbrev old_log_page : (page : ℕ) → Contains (d.inode ino).log.pages page → IsLogPage d page
   old_log_page page listed = record { ino = ino; in_table = may.in_table; used = was_used; listed = listed }
@@ -101,8 +147,10 @@ module _ (d : Disk) (ino : ℕ) (log : Log) (may : MayRelog d ino log) where
   to_new page = subst (λ (g : Geometry). InData g page) (sym (same_geometry d ino log))
 
   -- a log page of the new disk, as IsRelog's lemma says it without its premises
-  log_page_at : (page : ℕ) (p : IsLogPage new page) → (p.ino ≡ ino) ⊎ (p.ino ≢ ino) → Contains log.pages page ⊎ ((q : IsLogPage d page) × (q.ino ≢ ino))
-  log_page_at page p (inl e) = inl (subst (λ (l : Log). Contains l.pages page) (log_here d ino log) (subst (λ (i : ℕ). Contains (new.inode i).log.pages page) e p.listed))
+  log_page_at : (page : ℕ) (p : IsLogPage new page) → (p.ino ≡ ino) ⊎ (p.ino ≢ ino)
+      → Contains log.pages page ⊎ ((q : IsLogPage d page) × (q.ino ≢ ino))
+  log_page_at page p (inl e) = inl (subst (λ (l : Log). Contains l.pages page) (log_here d ino log)
+      (subst (λ (i : ℕ). Contains (new.inode i).log.pages page) e p.listed))
   log_page_at page p (inr ne) = inr (
     record {
       ino = p.ino;
@@ -133,7 +181,8 @@ module _ (d : Disk) (ino : ℕ) (log : Log) (may : MayRelog d ino log) where
   freed page listed not = record {
     data_page = to_new page (listed_in_data page listed);
     in_no_log = λ p. ⊎_elim not
-        (λ (other : (q : IsLogPage d page) × (q.ino ≢ ino)). other.1 (valid.single.one_log other.0.ino ino page other.0.in_table may.in_table other.0.used was_used other.0.listed listed)) (log_page_of page p);
+        (λ (other : (q : IsLogPage d page) × (q.ino ≢ ino)). other.1 (valid.single.one_log other.0.ino ino page other.0.in_table may.in_table
+        other.0.used was_used other.0.listed listed)) (log_page_of page p);
     unmapped = mappings_same page ∙ unmapped_log page (old_log_page page listed);
   }
 
@@ -191,7 +240,8 @@ module _ (d : Disk) (ino : ℕ) (log : Log) (may : MayRelog d ino log) where
     freed = freed;
     free_kept = free_kept;
     free_only = free_only;
-    log_pages_only = λ page p. ⊎_elim (λ (here : Contains log.pages page). inr here) (λ (other : (q : IsLogPage d page) × (q.ino ≢ ino)). inl other.0) (log_page_of page p);
+    log_pages_only = λ page p. ⊎_elim (λ (here : Contains log.pages page). inr here) (λ (other : (q : IsLogPage d page) × (q.ino ≢ ino)). inl other.0)
+        (log_page_of page p);
   }
 
   pub sizes : (i : ℕ) → size_of (new.inode i).log ≡ size_of (d.inode i).log
@@ -210,7 +260,8 @@ module _ (d : Disk) (ino : ℕ) (log : Log) (may : MayRelog d ino log) where
   mapped_byte_same k (Some m) (Some n) e = let same : m.block ≡ n.block = cc in byte_same m.block k ∙ ap (λ (page : ℕ). byte_of d page k) same
 
   pub bytes_same : (i : ℕ) → bytes new i ≡ bytes d i
-  bytes_same i = same_number_lists (bytes new i) (bytes d i) (length-bytes new i ∙ sizes i ∙ sym (length-bytes d i)) (λ j lt. byte j (omega (arith, lt, length-bytes new i)))
+  bytes_same i = same_number_lists (bytes new i) (bytes d i) (length-bytes new i ∙ sizes i ∙ sym (length-bytes d i))
+      (λ j lt. byte j (omega (arith, lt, length-bytes new i)))
     where
       byte : (j : ℕ) → j < size_of (new.inode i).log → slice_index (bytes new i) j ≡ slice_index (bytes d i) j
       byte j lt =
@@ -265,11 +316,19 @@ module _ (d : Disk) (ino : ℕ) (log : Log) (may : MayRelog d ino log) where
           by = was.0;
           place = record { in_table = below d ino log i place.in_table; live = sym (use_same d ino log i) ∙ place.live; maps = was.1 };
           block = was.2;
-          same = inr (e, sym (maps_before d ino log may.live idx) ∙ ap (λ (j : ℕ). maps d j idx) (sym e) ∙ was.1, sym (maps_here d ino log may.live idx) ∙ ap (λ (j : ℕ). maps new j idx) (sym e) ∙ place.maps);
+          same = inr (
+            e,
+            sym (maps_before d ino log may.live idx) ∙ ap (λ (j : ℕ). maps d j idx) (sym e) ∙ was.1,
+            sym (maps_here d ino log may.live idx) ∙ ap (λ (j : ℕ). maps new j idx) (sym e) ∙ place.maps,
+          );
         }
     | inr ne ↦ record {
       by = m;
-      place = record { in_table = below d ino log i place.in_table; live = sym (use_same d ino log i) ∙ place.live; maps = sym (maps_others d ino log i idx ne) ∙ place.maps };
+      place = record {
+        in_table = below d ino log i place.in_table;
+        live = sym (use_same d ino log i) ∙ place.live;
+        maps = sym (maps_others d ino log i idx ne) ∙ place.maps;
+      };
       block = refl;
       same = inl (ne, refl);
     }
@@ -289,7 +348,8 @@ module _ (d : Disk) (ino : ℕ) (log : Log) (may : MayRelog d ino log) where
   own_kept print tells own = record {
     zeros = λ i idx k m place past small.
         let was = was_place i idx m place in
-        byte_same m.block k ∙ ap (λ (page : ℕ). byte_of d page k) (sym was.block) ∙ own.zeros i idx k was.by was.place (subst (λ (n : ℕ). n ≤ 4096 * idx + k) (sizes i) past) small;
+        byte_same m.block k ∙ ap (λ (page : ℕ). byte_of d page k) (sym was.block) ∙ own.zeros i idx k was.by was.place
+        (subst (λ (n : ℕ). n ≤ 4096 * idx + k) (sizes i) past) small;
     prints = subst (All (λ row. row.print ≡ print (page_bytes new row.page))) (sym (same_rows d ino log))
         (All-weaker (λ (row : Row). row.print ≡ print (page_bytes d row.page)) (λ (row : Row). row.print ≡ print (page_bytes new row.page))
         (λ row is. is ∙ ap print (sym (page_bytes_same row.page))) (rows d) own.prints);
@@ -316,10 +376,15 @@ module _ (d : Disk) (ino : ℕ) (log : Log) (may : MayRelog d ino log) where
     where
       like : (i idx : ℕ) (m : Mapping) (was : WasPlace i idx m) → (was.by.flag ≡ Complete → m.flag ≡ Complete) × (IsAlone was.by → IsAlone m)
       like i idx m was = ⊎_elim
-          (λ (other : (i ≢ ino) × (was.by ≡ m)). ((λ e. subst (λ (x : Mapping). x.flag ≡ Complete) other.1 e), (λ alone. subst IsAlone other.1 alone)))
-          (λ (here : (i ≡ ino) × (mapping (d.inode ino).log idx ≡ Some was.by) × (mapping log idx ≡ Some m)). keeps idx was.by m here.1 here.2) was.same
+          (λ (other : (i ≢ ino) × (was.by ≡ m)). (
+            (λ e. subst (λ (x : Mapping). x.flag ≡ Complete) other.1 e),
+            (λ alone. subst IsAlone other.1 alone),
+          ))
+          (λ (here : (i ≡ ino) × (mapping (d.inode ino).log idx ≡ Some was.by) × (mapping log idx ≡ Some m)). keeps idx was.by m here.1 here.2)
+          was.same
 
-      joined : (i j idx jdx : ℕ) (m n : Mapping) (one : WasPlace i idx m) (two : WasPlace j jdx n) → (one.by.block ≡ two.by.block) ⊎ IsAlone one.by ⊎ IsAlone two.by → (m.block ≡ n.block) ⊎ IsAlone m ⊎ IsAlone n
+      joined : (i j idx jdx : ℕ) (m n : Mapping) (one : WasPlace i idx m) (two : WasPlace j jdx n) → (one.by.block ≡ two.by.block) ⊎ IsAlone one.by
+          ⊎ IsAlone two.by → (m.block ≡ n.block) ⊎ IsAlone m ⊎ IsAlone n
       joined i j idx jdx m n one two (inl same) = inl (sym one.block ∙ same ∙ two.block)
       joined i j idx jdx m n one two (inr (inl alone)) = inr (inl ((like i idx m one).1 alone))
       joined i j idx jdx m n one two (inr (inr alone)) = inr (inr ((like j jdx n two).1 alone))

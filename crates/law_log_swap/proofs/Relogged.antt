@@ -7,7 +7,39 @@ use Rattle.pm_layout.specs.Geometry.{IsAccepted, directs, slots}
 use Rattle.dn_model.specs.Log.{Log, LogSays}
 use Rattle.dn_model.specs.Maps.{Mapping, mapping}
 use Rattle.dn_model.specs.Table.{Row, row_of}
-use Rattle.dn_model.specs.Disk.{Disk, Inode, Use, Free, Live, Dying, IsUsed, IsMapped, maps, maps_by_use, rows, state_number, DiskSays, of_head, of_inodes, of_logs, of_chains, of_pointers, of_pages, HeadSays, at_magic, at_version, at_pages, at_inodes, at_gate, InodesSay, at_state, at_cut, LogsSay, ChainsSay, PointersSay}
+use Rattle.dn_model.specs.Disk.{
+  Disk,
+  Inode,
+  Use,
+  Free,
+  Live,
+  Dying,
+  IsUsed,
+  IsMapped,
+  maps,
+  maps_by_use,
+  rows,
+  state_number,
+  DiskSays,
+  of_head,
+  of_inodes,
+  of_logs,
+  of_chains,
+  of_pointers,
+  of_pages,
+  HeadSays,
+  at_magic,
+  at_version,
+  at_pages,
+  at_inodes,
+  at_gate,
+  InodesSay,
+  at_state,
+  at_cut,
+  LogsSay,
+  ChainsSay,
+  PointersSay,
+}
 use Rattle.dn_model.specs.Counts.{mappings, IsLogPage, IsFree, Near}
 use Rattle.dn_model.specs.Files.{named}
 use Rattle.dn_model.specs.Valid.{IsCut, IsLog, IsLinked, IsRow, AreApart, IsValid}
@@ -100,8 +132,19 @@ module _ (d : Disk) (ino : ℕ) (log : Log) (may : IsRelog d ino log) where
   mapped_read page m =
       let to = m.maps_to in
       elim (cases_eq m.ino ino) [
-        | inl e ↦ subst (IsReadPage d) to.block (may.reads m.idx to.by (sym (maps_here d ino log may.live m.idx) ∙ ap (λ (i : ℕ). maps new i m.idx) (sym e) ∙ to.is))
-        | inr ne ↦ inl (record { ino = m.ino; idx = m.idx; maps_to = record { in_table = below d ino log m.ino to.in_table; in_file = to.in_file; by = to.by; is = sym (maps_others d ino log m.ino m.idx ne) ∙ to.is; block = to.block } })
+        | inl e ↦ subst (IsReadPage d) to.block (may.reads m.idx to.by (sym (maps_here d ino log may.live m.idx) ∙ ap (λ (i : ℕ). maps new i m.idx)
+            (sym e) ∙ to.is))
+        | inr ne ↦ inl (record {
+          ino = m.ino;
+          idx = m.idx;
+          maps_to = record {
+            in_table = below d ino log m.ino to.in_table;
+            in_file = to.in_file;
+            by = to.by;
+            is = sym (maps_others d ino log m.ino m.idx ne) ∙ to.is;
+            block = to.block;
+          };
+        })
       ]
 
   pub read_before : (page : ℕ) → IsReadPage new page → IsReadPage d page
@@ -111,7 +154,8 @@ module _ (d : Disk) (ino : ℕ) (log : Log) (may : IsRelog d ino log) where
   -- a log page is one of the new log, or another inode's as before
   pub log_page_cases : (page : ℕ) → IsLogPage new page → Contains log.pages page ⊎ ((p : IsLogPage d page) × (p.ino ≢ ino))
   log_page_cases page p = elim (cases_eq p.ino ino) [
-    | inl e ↦ inl (subst (λ (l : Log). Contains l.pages page) (log_here d ino log) (subst (λ (i : ℕ). Contains (new.inode i).log.pages page) e p.listed))
+    | inl e ↦ inl (subst (λ (l : Log). Contains l.pages page) (log_here d ino log) (subst (λ (i : ℕ). Contains (new.inode i).log.pages page) e
+        p.listed))
     | inr ne ↦ inr (
       record {
         ino = p.ino;
@@ -129,7 +173,8 @@ module _ (d : Disk) (ino : ℕ) (log : Log) (may : IsRelog d ino log) where
   -- it was one, or it was unused
   pub log_page_before : (page : ℕ) → IsLogPage new page → IsLogPage d page ⊎ IsUnused d page
   log_page_before page p = ⊎_elim
-      (λ (here : Contains log.pages page). ⊎_elim (λ (was : Contains (d.inode ino).log.pages page). inl (was_log_page page was)) (λ (unused : IsUnused d page). inr unused) (may.pages page here))
+      (λ (here : Contains log.pages page). ⊎_elim (λ (was : Contains (d.inode ino).log.pages page). inl (was_log_page page was))
+      (λ (unused : IsUnused d page). inr unused) (may.pages page here))
       (λ (other : (q : IsLogPage d page) × (q.ino ≢ ino)). inl other.0) (log_page_cases page p)
 
   -- no page of the new log is another inode's
@@ -150,7 +195,8 @@ module _ (d : Disk) (ino : ℕ) (log : Log) (may : IsRelog d ino log) where
       (⊎_elim (λ (was : IsLogPage d page). valid.single.log_no_row page was) (λ (unused : IsUnused d page). unused.no_row) (log_page_before page p))
 
   -- a page of another inode's log
-  abbrev other_log_page : (page k : ℕ) → k < new.geometry.inodes → IsUsed (new.inode k).use_of → Contains (new.inode k).log.pages page → k ≢ ino → IsLogPage d page
+  abbrev other_log_page : (page k : ℕ) → k < new.geometry.inodes → IsUsed (new.inode k).use_of → Contains (new.inode k).log.pages page → k ≢ ino
+      → IsLogPage d page
   other_log_page page k lt used has ne = record {
     ino = k;
     in_table = below d ino log k lt;
@@ -168,7 +214,8 @@ module _ (d : Disk) (ino : ℕ) (log : Log) (may : IsRelog d ino log) where
     ]
     | inr ni ↦ elim (cases_eq j ino) [
       | inl ej ↦ absurd (other_not_here page (here j cj ej) (other_log_page page i il ui ci ni) ni)
-      | inr nj ↦ let p = other_log_page page i il ui ci ni in let q = other_log_page page j jl uj cj nj in valid.single.one_log i j page p.in_table q.in_table p.used q.used p.listed q.listed
+      | inr nj ↦ let p = other_log_page page i il ui ci ni in let q = other_log_page page j jl uj cj nj in valid.single.one_log i j page p.in_table
+          q.in_table p.used q.used p.listed q.listed
     ]
   ]
     where
@@ -182,7 +229,11 @@ module _ (d : Disk) (ino : ℕ) (log : Log) (may : IsRelog d ino log) where
   ]
 
   linked : (i : ℕ) (u : Use) → IsLinked d i u → IsLinked new i u
-  linked i Live one = record { name = one.name; leads = may.names one.name ∙ one.leads; alone = λ other e. one.alone other (sym (may.names other) ∙ e) }
+  linked i Live one = record {
+    name = one.name;
+    leads = may.names one.name ∙ one.leads;
+    alone = λ other e. one.alone other (sym (may.names other) ∙ e);
+  }
   linked i Free none = λ name e. none name (sym (may.names name) ∙ e)
   linked i (Dying c) none = λ name e. none name (sym (may.names name) ∙ e)
 
@@ -195,11 +246,17 @@ module _ (d : Disk) (ino : ℕ) (log : Log) (may : IsRelog d ino log) where
     root = use_same d ino log 0 ∙ valid.root;
     cuts = λ i lt. subst IsCut (sym (use_same d ino log i)) (valid.cuts i (below d ino log i lt));
     logs = λ i lt u. at_old_geometry (λ g. IsLog g i (new.inode i).log) (logs i (below d ino log i lt) (subst IsUsed (use_same d ino log i) u));
-    links = λ i some lt. subst (IsLinked new i) (sym (use_same d ino log i)) (linked i (d.inode i).use_of (valid.links i some (below d ino log i lt)));
-    table = λ p k row lt is. at_old_geometry (λ g. IsRow g p k row) (valid.table p k row (subst (λ (g : Geometry). p < directs g) (same_geometry d ino log) lt) (subst (λ (rs : List Row). slice_get rs k ≡ Some row) ((relogs d ino log).chain p) is));
+    links = λ i some lt. subst (IsLinked new i) (sym (use_same d ino log i))
+        (linked i (d.inode i).use_of (valid.links i some (below d ino log i lt)));
+    table = λ p k row lt is. at_old_geometry (λ g. IsRow g p k row)
+        (valid.table p k row (subst (λ (g : Geometry). p < directs g) (same_geometry d ino log) lt)
+        (subst (λ (rs : List Row). slice_get rs k ≡ Some row) ((relogs d ino log).chain p) is));
     rows_apart = subst AreApart (sym (same_rows d ino log)) valid.rows_apart;
-    pointers = λ page lt. at_old_geometry (λ g. new.pointer page ≤ slots g) (subst (λ (n : ℕ). n ≤ slots d.geometry) (sym ((relogs d ino log).pointer page)) (valid.pointers page (subst (λ (g : Geometry). page < g.pages) (same_geometry d ino log) lt)));
-    leads = subst (All (λ row. new.pointer row.page ≡ row.slot + 1)) (sym (same_rows d ino log)) (λ k e lt. (relogs d ino log).pointer _ ∙ valid.leads k e lt);
+    pointers = λ page lt. at_old_geometry (λ g. new.pointer page ≤ slots g)
+        (subst (λ (n : ℕ). n ≤ slots d.geometry) (sym ((relogs d ino log).pointer page))
+        (valid.pointers page (subst (λ (g : Geometry). page < g.pages) (same_geometry d ino log) lt)));
+    leads = subst (All (λ row. new.pointer row.page ≡ row.slot + 1)) (sym (same_rows d ino log)) (λ k e lt. (relogs d ino log).pointer _ ∙ valid.leads
+        k e lt);
     single = record {
       one_log = one_log;
       log_unmapped = log_unmapped;

@@ -1,5 +1,30 @@
 -- A log is replaced by head and tail together.
-use Rattle.std.proofs.Common.{◌≡◌, ◌≢◌, ◌⊎◌, inl, inr, ⊎_elim, ℕ, zero, suc, ◌*◌, ◌/◌, ◌%◌, ◌<◌, ◌≤◌, List, [], ◌∷◌, length, refl, sym, ◌∙◌, ap, subst, arith}
+use Rattle.std.proofs.Common.{
+  ◌≡◌,
+  ◌≢◌,
+  ◌⊎◌,
+  inl,
+  inr,
+  ⊎_elim,
+  ℕ,
+  zero,
+  suc,
+  ◌*◌,
+  ◌/◌,
+  ◌%◌,
+  ◌<◌,
+  ◌≤◌,
+  List,
+  [],
+  ◌∷◌,
+  length,
+  refl,
+  sym,
+  ◌∙◌,
+  ap,
+  subst,
+  arith,
+}
 use Rattle.std.specs.Prelude.{slice_index, Contains, Option, Some, None}
 use Rattle.std.proofs.lemmas.Bool.{cases_eq}
 use Rattle.std.proofs.lemmas.List.Elements.{Contains-get_or}
@@ -15,7 +40,24 @@ use Rattle.log_entry.specs.declared.item.Flag.TheVariants.{Complete}
 use Rattle.dn_model.specs.Log.{Log, LogSays, at_tail, at_head, at_footer, at_slot, IsPaged, count, tail_at}
 use Rattle.dn_model.specs.Maps.{Mapping, mapping}
 use Rattle.dn_model.specs.Rolled.{IsJournaled}
-use Rattle.dn_model.specs.Disk.{Disk, IsUsed, DiskSays, of_head, of_inodes, of_logs, of_chains, of_pointers, of_pages, at_magic, at_version, at_pages, at_inodes, at_gate, at_state, at_cut}
+use Rattle.dn_model.specs.Disk.{
+  Disk,
+  IsUsed,
+  DiskSays,
+  of_head,
+  of_inodes,
+  of_logs,
+  of_chains,
+  of_pointers,
+  of_pages,
+  at_magic,
+  at_version,
+  at_pages,
+  at_inodes,
+  at_gate,
+  at_state,
+  at_cut,
+}
 use Rattle.dn_model.specs.Own.{Print, IsAlone, HasRow, IsOwn, Settled}
 use Rattle.dn_model.specs.Valid.{IsValid}
 use Rattle.dn_model.specs.Image.{StandsFor}
@@ -35,8 +77,13 @@ use Rattle.law_log_swap.proofs.KeptPlaces.{is_relog, moves_log, own_kept, settle
 
 -- two pages of a log are left
 pub two_pages_spared : TwoPagesAreSpared
-two_pages_spared d ino log valid in_table live unused two =
-    (slice_index pages 0, slice_index pages 1, apart, was_log (listed 0 (omega (arith, two))) (untaken 0 (omega (arith, two))), was_log (listed 1 (omega (arith, two))) (untaken 1 (omega (arith, two))))
+two_pages_spared d ino log valid in_table live unused two = (
+  slice_index pages 0,
+  slice_index pages 1,
+  apart,
+  was_log (listed 0 (omega (arith, two))) (untaken 0 (omega (arith, two))),
+  was_log (listed 1 (omega (arith, two))) (untaken 1 (omega (arith, two))),
+)
   where
     pages : List ℕ
     pages = (d.inode ino).log.pages
@@ -51,7 +98,8 @@ two_pages_spared d ino log valid in_table live unused two =
     listed k lt = Contains-get_or (d.inode ino).log.pages k 0 lt
 
     untaken : (k : ℕ) → k < length (d.inode ino).log.pages → Contains log.pages (slice_index (d.inode ino).log.pages k) → ⊥
-    untaken k lt here = (unused (slice_index (d.inode ino).log.pages k) here).free.in_no_log (record { ino = ino; in_table = in_table; used = used; listed = listed k lt })
+    untaken k lt here = (unused (slice_index (d.inode ino).log.pages k) here).free.in_no_log
+        (record { ino = ino; in_table = in_table; used = used; listed = listed k lt })
 
 alike_blocks : (m n : Option Mapping) → AreAlike m n → block_of n ≡ block_of m
 alike_blocks None None same = refl
@@ -66,7 +114,8 @@ alike_some (Some m) None x same e = cc
 alike_some (Some m) (Some n) x same e = let is : n ≡ x = cc in (m, refl, subst (IsAlike m) is same)
 
 -- what is said of a head or a tail is said by that inode's log
-module _ (d : Disk) (valid : IsValid d) (ino field a v : ℕ) (in_table : ino < d.geometry.inodes) (low : 1 ≤ field) (high : field ≤ 2) (place : a ≡ inode_word ino field) where
+module _ (d : Disk) (valid : IsValid d) (ino field a v : ℕ) (in_table : ino < d.geometry.inodes) (low : 1 ≤ field) (high : field ≤ 2)
+    (place : a ≡ inode_word ino field) where
   not_high : IsHigh d.geometry a → ⊥
   not_high far = high_not_inode d.geometry a ino field far in_table (omega arith) place
 
@@ -84,7 +133,8 @@ module _ (d : Disk) (valid : IsValid d) (ino field a v : ℕ) (in_table : ino < 
   said_by_log (of_inodes (at_state i lt at value)) = absurd (omega arith)
   said_by_log (of_inodes (at_cut i c lt dying at value)) = absurd (omega arith)
   said_by_log (of_logs told) = subst (λ (i : ℕ). LogSays i (d.inode i).log a v)
-      (same_inode told.ino (log_place d.geometry told.ino (d.inode told.ino).log a v (valid.logs told.ino told.in_table told.used).paged told.says)) told.says
+      (same_inode told.ino (log_place d.geometry told.ino (d.inode told.ino).log a v (valid.logs told.ino told.in_table told.used).paged told.says))
+      told.says
   said_by_log (of_chains told) = absurd (not_high (chain_high d.geometry told.prefix (d.chain told.prefix) a v told.says))
   said_by_log (of_pointers told) = absurd (not_high (pointer_high d.geometry told.page a told.place))
   said_by_log (of_pages told) = absurd (not_high (data_high d.geometry told.page told.k a (read_in_data d valid told.page told.read) told.place))
@@ -103,9 +153,16 @@ log_part ino log a v (at_slot k j lt word place value) = its_body (body_slot k j
 
 -- a word of the body lies in a page of the log
 body_page : (g : Geometry) (log : Log) (a v : ℕ) → IsPaged g log → BodySays log a v → (page : ℕ) × Contains log.pages page × IsInPage page a
-body_page g log a v paged (body_footer k lt place value) = (slice_index log.pages k, Contains-get_or log.pages k 0 (omega arith), (omega (arith, place), omega (arith, place)))
-body_page g log a v paged (body_slot k j lt word place value) =
-    (slice_index log.pages (k / 63), Contains-get_or log.pages (k / 63) 0 (omega (arith, lt, paged.fits)), (omega (arith, place), omega (arith, place, word)))
+body_page g log a v paged (body_footer k lt place value) = (
+  slice_index log.pages k,
+  Contains-get_or log.pages k 0 (omega arith),
+  (omega (arith, place), omega (arith, place)),
+)
+body_page g log a v paged (body_slot k j lt word place value) = (
+  slice_index log.pages (k / 63),
+  Contains-get_or log.pages (k / 63) 0 (omega (arith, lt, paged.fits)),
+  (omega (arith, place), omega (arith, place, word)),
+)
 
 -- two words of one inode
 module _ (inodes ino head tail : ℕ) (in_table : ino < inodes) where
@@ -150,7 +207,11 @@ module _ (d : Disk) (ino : ℕ) (log : Log) (may : MayReplace d ino log) where
     in_table = may.in_table;
     live = may.live;
     good = may.good;
-    keeps = record { size = may.size; blocks = λ idx. alike_blocks (mapping (d.inode ino).log idx) (mapping log idx) (may.alike idx); names = may.names };
+    keeps = record {
+      size = may.size;
+      blocks = λ idx. alike_blocks (mapping (d.inode ino).log idx) (mapping log idx) (may.alike idx);
+      names = may.names;
+    };
     pages = λ page listed. inr (may.unused page listed);
     left = may.left;
   }
@@ -176,7 +237,8 @@ module _ (d : Disk) (ino : ℕ) (log : Log) (may : MayReplace d ino log) where
   not_named = not_two d.geometry.inodes ino (slice_index log.pages 0) (tail_at log.pages (count log)) may.in_table
 
   now_said : (field a v : ℕ) → 1 ≤ field → field ≤ 2 → a ≡ inode_word ino field → DiskSays new a v → LogSays ino log a v
-  now_said field a v low high place says = subst (λ (l : Log). LogSays ino l a v) (log_here d ino log) (said_by_log new new_valid ino field a v (above d ino log ino may.in_table) low high place says)
+  now_said field a v low high place says = subst (λ (l : Log). LogSays ino l a v) (log_here d ino log)
+      (said_by_log new new_valid ino field a v (above d ino log ino may.in_table) low high place says)
 
   abbrev Parts : ℕ → ℕ → Type 0
   Parts a v = NewValues changes 2 a v ⊎ ((IsNamed changes a → ⊥) × (DiskSays d a v ⊎ FreshWord d new changes a v))
@@ -194,7 +256,15 @@ module _ (d : Disk) (ino : ℕ) (log : Log) (may : MayReplace d ino log) where
   other_part a v says no_head no_tail (its_head place value) = absurd (no_head place)
   other_part a v says no_head no_tail (its_tail place value) = absurd (no_tail place)
   other_part a v says no_head no_tail (its_body told) =
-      inr (not_named a no_head no_tail, inr (record { read = says; unnamed = not_named a no_head no_tail; unread = λ said. body_unsaid a v said.value told said.told }))
+      inr (
+        not_named a no_head no_tail,
+        inr (record {
+          read = says;
+          unnamed = not_named a no_head no_tail;
+          unread = λ said. body_unsaid a v said.value
+              told said.told;
+        }),
+      )
 
   replaced_differs : DiffersBy changes (DiskSays d) (DiskSays new) (FreshWord d new changes)
   replaced_differs a v says = elim (cases_eq a (inode_word ino 1)) [
@@ -203,7 +273,8 @@ module _ (d : Disk) (ino : ℕ) (log : Log) (may : MayReplace d ino log) where
       | inl e ↦ by_part a v (inr e) (log_part ino log a v (now_said 2 a v (omega arith) (omega arith) e says))
       | inr no_tail ↦ ⊎_elim
           (λ (was : DiskSays d a v). inr (not_named a no_head no_tail, inl was))
-          (λ (told : LogSays ino log a v). other_part a v says no_head no_tail (log_part ino log a v told)) (relogged_says d ino log (is_relog d ino log may_relog) a v says)
+          (λ (told : LogSays ino log a v). other_part a v says no_head no_tail (log_part ino log a v told))
+          (relogged_says d ino log (is_relog d ino log may_relog) a v says)
     ]
   ]
 
@@ -227,35 +298,46 @@ module _ (d : Disk) (ino : ℕ) (log : Log) (may : MayReplace d ino log) where
   fresh_is : (a v : ℕ) → FreshWord d new changes a v → BodySays log a v
   fresh_is a v word = ⊎_elim
       (λ (was : DiskSays d a v). absurd (word.unread (record { value = v; told = was })))
-      (λ (told : LogSays ino log a v). of_body a v word (log_part ino log a v told)) (relogged_says d ino log (is_relog d ino log may_relog) a v word.read)
+      (λ (told : LogSays ino log a v). of_body a v word (log_part ino log a v told)) (relogged_says d ino log (is_relog d ino log may_relog) a v
+      word.read)
 
   pub body_suffices : (who : ℕ) (s : State) → IsReady who (BodySays log) s → IsReady who (FreshWord d new changes) s
   body_suffices who s = ready-weaken who s (BodySays log) (FreshWord d new changes) fresh_is
 
-  pub body_stores : (s t : State) → StoresOnly (Said (BodySays log)) s t → Stands (DiskSays d) s → Agree t.now t.past → length t.now ≡ 512 * d.geometry.pages → StandsStill d s t
+  pub body_stores : (s t : State) → StoresOnly (Said (BodySays log)) s t → Stands (DiskSays d) s → Agree t.now t.past
+      → length t.now ≡ 512 * d.geometry.pages → StandsStill d s t
   body_stores s t only stands agree size = record {
     stands = stands-stores (Said (BodySays log)) s t only (DiskSays d) apart stands;
     images =
         let reads = leaves_only-stores (Said (BodySays log)) s t (DiskSays d) only apart stands in
-        record { extends = reads.extends; each = λ m c late left. stands_for_read d c may.valid (reads.each m c late left) (length-left t.past t.now m c agree left ∙ size) };
+        record {
+          extends = reads.extends;
+          each = λ m c late left. stands_for_read d c may.valid (reads.each m c late left)
+              (length-left t.past t.now m c agree left ∙ size);
+        };
   }
     where
       apart : (a v : ℕ) → DiskSays d a v → Said (BodySays log) a → ⊥
       apart a v says told = body_unsaid a told.value v told.told says
 
-  pub replaced_images : (who : ℕ) (s t : State) → Agree s.now s.past → length s.now ≡ 512 * d.geometry.pages → Stands (DiskSays d) s → IsReady who (BodySays log) s
+  pub replaced_images : (who : ℕ) (s t : State) → Agree s.now s.past → length s.now ≡ 512 * d.geometry.pages → Stands (DiskSays d) s
+      → IsReady who (BodySays log) s
       → LeavesOnly s t (AllOrNone d.geometry.inodes who changes s) → LeavesOnly s t (λ c. StandsFor c d ⊎ StandsFor c new)
-  replaced_images who s t agree size stands ready = all_or_none_images d new changes replaced_all_or_none who s t agree size stands (body_suffices who s ready)
+  replaced_images who s t agree size stands ready = all_or_none_images d new changes replaced_all_or_none who s t agree size stands
+      (body_suffices who s ready)
 
-  pub replaced_stands : (who : ℕ) (s t : State) → Agree s.now s.past → length s.now ≡ 512 * d.geometry.pages → Stands (DiskSays d) s → IsReady who (BodySays log) s
+  pub replaced_stands : (who : ℕ) (s t : State) → Agree s.now s.past → length s.now ≡ 512 * d.geometry.pages → Stands (DiskSays d) s
+      → IsReady who (BodySays log) s
       → IsAllDone who changes s t → Stands (DiskSays new) t
-  replaced_stands who s t agree size stands ready = all_or_none_stands d new changes replaced_all_or_none who s t agree size stands (body_suffices who s ready)
+  replaced_stands who s t agree size stands ready = all_or_none_stands d new changes replaced_all_or_none who s t agree size stands
+      (body_suffices who s ready)
 
   pub swaps_log : SwapsLog d new ino log
   swaps_log = record {
     were_free = λ page listed. (may.unused page listed).free;
     taken = moves.taken;
-    freed = λ page listed. moves.freed page listed (λ here. (may.unused page here).free.in_no_log (record { ino = ino; in_table = may.in_table; used = subst IsUsed (sym may.live) tt; listed = listed }));
+    freed = λ page listed. moves.freed page listed (λ here. (may.unused page here).free.in_no_log
+        (record { ino = ino; in_table = may.in_table; used = subst IsUsed (sym may.live) tt; listed = listed }));
     kept = moves.free_kept;
     only = moves.free_only;
   }
@@ -271,7 +353,12 @@ module _ (d : Disk) (ino : ℕ) (log : Log) (may : MayReplace d ino log) where
 
   pub replaced_own : (print : Print) → IsOwn print d → IsOwn print new
   replaced_own print own = own_kept d ino log may_relog print
-      (tells_done (λ idx m is. own.complete ino idx m (record { in_table = may.in_table; live = may.live; maps = maps_before d ino log may.live idx ∙ is }))) own
+      (tells_done (λ idx m is. own.complete ino idx m (record {
+        in_table = may.in_table;
+        live = may.live;
+        maps = maps_before d ino log may.live
+            idx ∙ is;
+      }))) own
 
   keeps_done : KeepsDone (d.inode ino).log log
   keeps_done idx m n was now =

@@ -19,18 +19,23 @@ relogged d ino log = with_log d ino log d.word
 abbrev pub block_of : Option Mapping → Option ℕ
 block_of = option_map (λ (m : Mapping). m.block)
 
--- The size is the same, and each place is on the same page; of the root, each name leads to the same inode.
+-- The size is the same, and each place is on the same page; of the root, each name leads to the
+-- same inode.
 pub record KeepsPlaces (ino : ℕ) (old new : Log) : Type 0 where
   pub size : size_of new ≡ size_of old
   pub blocks : (idx : ℕ) → block_of (mapping new idx) ≡ block_of (mapping old idx)
-  pub names : ino ≡ 0 → (name : List ℕ) → named_after name None new.items ≡ named_after name None old.items
+  pub names : ino ≡ 0 → (name : List ℕ) → named_after name None new.items ≡ named_after name None
+      old.items
 
--- a page that is free afterwards: it was free, or a page of the old log, and the new log doesn't have it
+-- a page that is free afterwards: it was free, or a page of the old log, and the new log doesn't
+-- have it
 pub data IsSpared (d : Disk) (ino : ℕ) (log : Log) (page : ℕ) : Type 0 where
   was_free : IsFree d page → (Contains log.pages page → ⊥) → IsSpared d ino log page
-  was_log : Contains (d.inode ino).log.pages page → (Contains log.pages page → ⊥) → IsSpared d ino log page
+  was_log : Contains (d.inode ino).log.pages page → (Contains log.pages page → ⊥)
+      → IsSpared d ino log page
 
--- A live inode of a valid disk may get this log: it has no fault, keeps the places, and takes unused pages beside those
+-- A live inode of a valid disk may get this log: it has no fault, keeps the places, and takes
+-- unused pages beside those
 -- that it had.
 pub record MayRelog (d : Disk) (ino : ℕ) (log : Log) : Type 0 where
   pub valid : IsValid d
@@ -38,7 +43,8 @@ pub record MayRelog (d : Disk) (ino : ℕ) (log : Log) : Type 0 where
   pub live : (d.inode ino).use_of ≡ Live
   pub good : IsLog d.geometry ino log
   pub keeps : KeepsPlaces ino (d.inode ino).log log
-  pub pages : (page : ℕ) → Contains log.pages page → Contains (d.inode ino).log.pages page ⊎ IsUnused d page
+  pub pages : (page : ℕ) → Contains log.pages page → Contains (d.inode ino).log.pages page
+      ⊎ IsUnused d page
   pub left : (p : ℕ) × (q : ℕ) × (p ≢ q) × IsSpared d ino log p × IsSpared d ino log q
 
 -- the parts of the disk afterwards, one by one
@@ -51,7 +57,8 @@ pub record IsRelogged (old : Disk) (ino : ℕ) (log : Log) (new : Disk) : Type 0
   pub pointer : (page : ℕ) → new.pointer page ≡ old.pointer page
   pub word : (page k : ℕ) → new.word page k ≡ old.word page k
 
--- Each place is on its page, each name leads where it led, and files, rows and counts are what they were.
+-- Each place is on its page, each name leads where it led, and files, rows and counts are what they
+-- were.
 pub record KeepsData (old new : Disk) (ino : ℕ) : Type 0 where
   pub blocks : (i idx : ℕ) → block_of (maps new i idx) ≡ block_of (maps old i idx)
   pub maps_others : (i idx : ℕ) → i ≢ ino → maps new i idx ≡ maps old i idx
@@ -69,15 +76,20 @@ pub record KeepsData (old new : Disk) (ino : ℕ) : Type 0 where
 -- The pages of the new log are taken, those of the old one that it hasn't come free, and no others.
 pub record MovesLog (old new : Disk) (ino : ℕ) (log : Log) : Type 0 where
   pub taken : (page : ℕ) → Contains log.pages page → IsFree new page → ⊥
-  pub freed : (page : ℕ) → Contains (old.inode ino).log.pages page → (Contains log.pages page → ⊥) → IsFree new page
+  pub freed : (page : ℕ) → Contains (old.inode ino).log.pages page → (Contains log.pages page → ⊥)
+      → IsFree new page
   pub free_kept : (page : ℕ) → IsFree old page → (Contains log.pages page → ⊥) → IsFree new page
-  pub free_only : (page : ℕ) → IsFree new page → IsFree old page ⊎ Contains (old.inode ino).log.pages page
-  pub log_pages_only : (page : ℕ) → IsLogPage new page → IsLogPage old page ⊎ Contains log.pages page
+  pub free_only : (page : ℕ) → IsFree new page
+      → IsFree old page ⊎ Contains (old.inode ino).log.pages page
+  pub log_pages_only : (page : ℕ) → IsLogPage new page → IsLogPage old page ⊎ Contains log.pages
+      page
 
 -- The new log calls a place complete only where it is left alone or its page has a row.
 abbrev pub TellsDone : Disk → Log → Type 0
-TellsDone d log = (idx : ℕ) (m : Mapping) → mapping log idx ≡ Some m → m.flag ≡ Complete → IsAlone m ⊎ HasRow d m.block
+TellsDone d log = (idx : ℕ) (m : Mapping) → mapping log idx ≡ Some m → m.flag ≡ Complete
+    → IsAlone m ⊎ HasRow d m.block
 
 -- what was complete and left alone is so still
 abbrev pub KeepsDone : Log → Log → Type 0
-KeepsDone old new = (idx : ℕ) (m n : Mapping) → mapping old idx ≡ Some m → mapping new idx ≡ Some n → (m.flag ≡ Complete → n.flag ≡ Complete) × (IsAlone m → IsAlone n)
+KeepsDone old new = (idx : ℕ) (m n : Mapping) → mapping old idx ≡ Some m → mapping new idx ≡ Some n
+    → (m.flag ≡ Complete → n.flag ≡ Complete) × (IsAlone m → IsAlone n)

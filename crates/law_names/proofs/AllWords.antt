@@ -18,11 +18,13 @@ use Rattle.law_names.specs.AllOrNoneLaws.{FreshWord, AreAllOrNone, IsShut}
 use Rattle.law_names.proofs.Places.{only_gate}
 
 module _ (old new : Disk) (changes : List Change) (are : AreAllOrNone old new changes) (who : ℕ) (s t : State)
-    (agree : Agree s.now s.past) (size : length s.now ≡ 512 * old.geometry.pages) (stands : Stands (DiskSays old) s) (ready : IsReady who (FreshWord old new changes) s) where
+    (agree : Agree s.now s.past) (size : length s.now ≡ 512 * old.geometry.pages) (stands : Stands (DiskSays old) s)
+    (ready : IsReady who (FreshWord old new changes) s) where
   -- a fresh word isn't touched by the journal
   apart : (a v : ℕ) → FreshWord old new changes a v → IsTouched changes a → ⊥
   apart a v fresh touched = ⊎_elim fresh.unnamed
-      (λ (here : IsInPage 1 a). fresh.unread (record { value = 0; told = of_head (at_gate (only_gate new are.new_valid a v here fresh.read) refl) })) touched
+      (λ (here : IsInPage 1 a). fresh.unread (record { value = 0; told = of_head (at_gate (only_gate new are.new_valid a v here fresh.read) refl) }))
+      touched
 
   leads : Leads who changes (DiskSays old) (DiskSays new) (FreshWord old new changes) s
   leads = record {
@@ -45,11 +47,14 @@ module _ (old new : Disk) (changes : List Change) (are : AreAllOrNone old new ch
       })) state.1
 
   pub all_or_none_images : LeavesOnly s t (AllOrNone old.geometry.inodes who changes s) → LeavesOnly s t (λ c. StandsFor c old ⊎ StandsFor c new)
-  all_or_none_images leaves = leaves_only-image s t (OldOrNewState old.geometry.inodes (DiskSays old) (DiskSays new)) (λ c. StandsFor c old ⊎ StandsFor c new) agree read_as
-      (old_or_new_state old.geometry who changes (DiskSays old) (DiskSays new) (FreshWord old new changes) s t agree are.old_valid.accepted size are.journaled leads leaves)
+  all_or_none_images leaves = leaves_only-image s t (OldOrNewState old.geometry.inodes (DiskSays old) (DiskSays new))
+      (λ c. StandsFor c old ⊎ StandsFor c new) agree read_as
+      (old_or_new_state old.geometry who changes (DiskSays old) (DiskSays new) (FreshWord old new changes) s t agree are.old_valid.accepted size
+      are.journaled leads leaves)
 
   pub all_or_none_stands : IsAllDone who changes s t → Stands (DiskSays new) t
-  all_or_none_stands done = new_state_stands old.geometry who changes (DiskSays old) (DiskSays new) (FreshWord old new changes) s t agree are.old_valid.accepted size are.journaled leads done
+  all_or_none_stands done = new_state_stands old.geometry who changes (DiskSays old) (DiskSays new) (FreshWord old new changes) s t agree
+      are.old_valid.accepted size are.journaled leads done
 
 pub disk_shut : (d : Disk) (s : State) → Stands (DiskSays d) s → IsShut s
 disk_shut d s stands = record {

@@ -29,7 +29,8 @@ module _ (d : Disk) (change : NameChange) where
   pub at_ino : 1 ≤ change.ino → new.inode change.ino ≡ here_node
   unfolding names_changed
   at_ino file =
-      ap (λ (b : Bool). if b then root_node else if change.ino == change.ino then here_node else d.inode change.ino) (different change.ino 0 (λ e. omega (arith, e, file)))
+      ap (λ (b : Bool). if b then root_node else if change.ino == change.ino then here_node else d.inode change.ino)
+      (different change.ino 0 (λ e. omega (arith, e, file)))
       ∙ ap (λ (b : Bool). if b then here_node else d.inode change.ino) (itself change.ino)
 
   pub at_other : (i : ℕ) → 1 ≤ i → i ≢ change.ino → new.inode i ≡ d.inode i

@@ -33,7 +33,8 @@ module _ (d : Disk) (change : NameChange) (may : MayChange d change) where
   size_at i some used (is_here e) =
       let node : new.inode i ≡ turned change.turn (d.inode change.ino) = ap new.inode e ∙ at_ino d change may.file in
       ap (λ (n : Inode). size_of n.log) node
-      ∙ turned_size change.turn (d.inode change.ino) may.may_turn (subst (λ (j : ℕ). IsUsed (d.inode j).use_of) e used) ∙ ap (λ (j : ℕ). size_of (d.inode j).log) (sym e)
+      ∙ turned_size change.turn (d.inode change.ino) may.may_turn (subst (λ (j : ℕ). IsUsed (d.inode j).use_of) e used) ∙ ap
+      (λ (j : ℕ). size_of (d.inode j).log) (sym e)
   size_at i some used (elsewhere some' ne) = ap (λ (n : Inode). size_of n.log) (at_other d change i some ne)
 
   -- the files that there were have their sizes
@@ -47,11 +48,13 @@ module _ (d : Disk) (change : NameChange) (may : MayChange d change) where
   -- and their bytes
   pub bytes_same : (i : ℕ) → 1 ≤ i → IsUsed (d.inode i).use_of → bytes new i ≡ bytes d i
   bytes_same i some used =
-      same_number_lists (bytes new i) (bytes d i) (length-bytes new i ∙ size_same i some used ∙ sym (length-bytes d i)) (λ j lt. byte j (omega (arith, lt, length-bytes new i)))
+      same_number_lists (bytes new i) (bytes d i) (length-bytes new i ∙ size_same i some used ∙ sym (length-bytes d i))
+      (λ j lt. byte j (omega (arith, lt, length-bytes new i)))
     where
       byte : (j : ℕ) → j < size_of (new.inode i).log → slice_index (bytes new i) j ≡ slice_index (bytes d i) j
       byte j lt =
-          byte_at new i j lt ∙ ap (mapped_byte new (j % 4096)) (maps_same d change may i (j / 4096)) ∙ mapped_byte_same (j % 4096) (maps d i (j / 4096))
+          byte_at new i j lt ∙ ap (mapped_byte new (j % 4096)) (maps_same d change may i (j / 4096)) ∙ mapped_byte_same (j % 4096)
+          (maps d i (j / 4096))
           ∙ sym (byte_at d i j (omega (arith, lt, size_same i some used)))
 
   -- a file that comes has none

@@ -27,15 +27,18 @@ module _ (d : Disk) (change : NameChange) (may : MayChange d change) where
   abbrev new : Disk
   new = names_changed d change
 
-  turned_live : (turn : Turn) (idx : ℕ) (m : Mapping) → MayTurn turn (d.inode change.ino).use_of → (turned turn (d.inode change.ino)).use_of ≡ Live → maps d change.ino idx ≡ Some m → (d.inode change.ino).use_of ≡ Live
+  turned_live : (turn : Turn) (idx : ℕ) (m : Mapping) → MayTurn turn (d.inode change.ino).use_of → (turned turn (d.inode change.ino)).use_of ≡ Live
+      → maps d change.ino idx ≡ Some m → (d.inode change.ino).use_of ≡ Live
   turned_live Stays idx m turns live is = live
   turned_live Comes idx m turns live is = absurd (some_none (maps d change.ino idx) m is (free_maps d change.ino idx turns))
   turned_live Goes idx m turns live is = turns
 
   live_at : (i idx : ℕ) (m : Mapping) → (new.inode i).use_of ≡ Live → maps d i idx ≡ Some m → Where d change i → (d.inode i).use_of ≡ Live
-  live_at i idx m live is (is_root e) = ap (λ (j : ℕ). (d.inode j).use_of) e ∙ sym (use_of_root d change may) ∙ ap (λ (j : ℕ). (new.inode j).use_of) (sym e) ∙ live
+  live_at i idx m live is (is_root e) = ap (λ (j : ℕ). (d.inode j).use_of) e ∙ sym (use_of_root d change may) ∙ ap (λ (j : ℕ). (new.inode j).use_of)
+      (sym e) ∙ live
   live_at i idx m live is (is_here e) = ap (λ (j : ℕ). (d.inode j).use_of) e
-      ∙ turned_live change.turn idx m may.may_turn (ap (λ (n : Inode). n.use_of) (sym (at_ino d change may.file)) ∙ ap (λ (j : ℕ). (new.inode j).use_of) (sym e) ∙ live) (ap (λ (j : ℕ). maps d j idx) (sym e) ∙ is)
+      ∙ turned_live change.turn idx m may.may_turn (ap (λ (n : Inode). n.use_of) (sym (at_ino d change may.file)) ∙ ap
+      (λ (j : ℕ). (new.inode j).use_of) (sym e) ∙ live) (ap (λ (j : ℕ). maps d j idx) (sym e) ∙ is)
   live_at i idx m live is (elsewhere some ne) = ap (λ (n : Inode). n.use_of) (sym (at_other d change i some ne)) ∙ live
 
   -- a place of a live file was one
@@ -69,7 +72,8 @@ module _ (d : Disk) (change : NameChange) (may : MayChange d change) where
   own_kept print own = record {
     zeros = λ i idx k m place past small.
         let was : LivePlace d i idx m = live_was i idx m place in
-        byte_same m.block k ∙ own.zeros i idx k m was (subst (λ (n : ℕ). n ≤ 4096 * idx + k) (size_same d change may i (file_of i idx m was) (subst IsUsed (sym was.live) tt)) past) small;
+        byte_same m.block k ∙ own.zeros i idx k m was
+        (subst (λ (n : ℕ). n ≤ 4096 * idx + k) (size_same d change may i (file_of i idx m was) (subst IsUsed (sym was.live) tt)) past) small;
     prints = subst (All (λ row. row.print ≡ print (page_bytes new row.page))) (sym (same_rows d change))
         (All-weaker (λ (row : Row). row.print ≡ print (page_bytes d row.page)) (λ (row : Row). row.print ≡ print (page_bytes new row.page))
         (λ row is. is ∙ ap print (sym (page_bytes_same row.page))) (rows d) own.prints);
@@ -81,5 +85,6 @@ module _ (d : Disk) (change : NameChange) (may : MayChange d change) where
     complete = λ i idx m place. settled.complete i idx m (live_was i idx m place);
     done = λ i idx m place. alone_or_row m (settled.done i idx m (live_was i idx m place));
     shared = λ i j idx jdx m n at_i at_j same.
-        settled.shared i j idx jdx m n (live_was i idx m at_i) (live_was j jdx n at_j) (sym (page_bytes_same m.block) ∙ same ∙ page_bytes_same n.block);
+        settled.shared i j idx jdx m n (live_was i idx m at_i) (live_was j jdx n at_j) (sym (page_bytes_same m.block) ∙ same ∙ page_bytes_same
+        n.block);
   }

@@ -18,7 +18,26 @@ use Rattle.law_write.proofs.WriteEvent.{length-left, stands_for_read}
 use Rattle.name_journal.specs.declared.change.Change.{Change}
 use Rattle.name_journal.specs.Changes.{address, AreChanges, IsNamed, NewValues}
 use Rattle.name_journal.specs.AllOrNone.{DiffersBy}
-use Rattle.law_names.specs.NameChange.{NameChange, Turn, Stays, Comes, Goes, turned, root_after, names_changed, MayChange, TurnSays, FreshNames, turn_field, turn_words, in_root, in_inode, tail_change, state_changes, name_changes}
+use Rattle.law_names.specs.NameChange.{
+  NameChange,
+  Turn,
+  Stays,
+  Comes,
+  Goes,
+  turned,
+  root_after,
+  names_changed,
+  MayChange,
+  TurnSays,
+  FreshNames,
+  turn_field,
+  turn_words,
+  in_root,
+  in_inode,
+  tail_change,
+  state_changes,
+  name_changes,
+}
 use Rattle.law_names.specs.AllOrNoneLaws.{FreshWord, AreAllOrNone}
 use Rattle.law_names.specs.NameLaws.{StandsStill}
 use Rattle.law_names.proofs.Changed.{same_geometry}
@@ -117,7 +136,8 @@ module _ (d : Disk) (change : NameChange) (may : MayChange d change) where
   rest_by Goes a ne ne' = not_two d.geometry.inodes change.ino tail.value (root_in_table d change may) may.file may.in_table 2 a ne ne'
 
   differs_by : (a v : ℕ) → DiskSays new a v → Differs d change may a v
-      → NewValues (name_changes d change) (length (name_changes d change)) a v ⊎ ((IsNamed (name_changes d change) a → ⊥) × (DiskSays d a v ⊎ FreshNames d change a v))
+      → NewValues (name_changes d change) (length (name_changes d change)) a v
+      ⊎ ((IsNamed (name_changes d change) a → ⊥) × (DiskSays d a v ⊎ FreshNames d change a v))
   differs_by a v told (new_tail place value) = inl (tail_by change.turn a v place value)
   differs_by a v told (new_state place value) = ⊎_elim (λ new_value. inl new_value)
       (λ (old : (IsNamed (name_changes d change) a → ⊥) × DiskSays d a v). inr (old.0, inl old.1)) (state_by change.turn a v place value)
@@ -129,7 +149,8 @@ module _ (d : Disk) (change : NameChange) (may : MayChange d change) where
         other.0,
         ⊎_elim
             (λ (old : DiskSays d a v). inl old)
-            (λ (fresh : FreshNames d change a v). inr (record { read = told; unnamed = other.0; unread = λ said. fresh_unsaid d change may a v said.value fresh said.told })) other.1,
+            (λ (fresh : FreshNames d change a v). inr
+            (record { read = told; unnamed = other.0; unread = λ said. fresh_unsaid d change may a v said.value fresh said.told })) other.1,
       ))
       (differs_by a v told (changed_differs d change may a v told))
 
@@ -147,7 +168,8 @@ module _ (d : Disk) (change : NameChange) (may : MayChange d change) where
   -- the fresh words are the prepared ones
   fresh_is : (a v : ℕ) → FreshWord d new (name_changes d change) a v → FreshNames d change a v
   fresh_is a v word = ⊎_elim
-      (λ (named : NewValues (name_changes d change) (length (name_changes d change)) a v). absurd (word.unnamed (record { i = named.i; lt = named.lt; is = named.place })))
+      (λ (named : NewValues (name_changes d change) (length (name_changes d change)) a v). absurd
+      (word.unnamed (record { i = named.i; lt = named.lt; is = named.place })))
       (λ (other : (IsNamed (name_changes d change) a → ⊥) × (DiskSays d a v ⊎ FreshNames d change a v)). ⊎_elim
       (λ (old : DiskSays d a v). absurd (word.unread (record { value = v; told = old }))) (λ (fresh : FreshNames d change a v). fresh) other.1)
       (differs_by a v word.read (changed_differs d change may a v word.read))
@@ -156,17 +178,23 @@ module _ (d : Disk) (change : NameChange) (may : MayChange d change) where
   names_suffice who s ready = ready-weaken who s (FreshNames d change) (FreshWord d new (name_changes d change)) fresh_is ready
 
   -- stores to words of which the disk says nothing leave it standing
-  still : (W : ℕ → Type 0) → ((a v : ℕ) → DiskSays d a v → W a → ⊥) → (s t : State) → StoresOnly W s t → Stands (DiskSays d) s → Agree t.now t.past → length t.now ≡ 512 * d.geometry.pages → StandsStill d s t
+  still : (W : ℕ → Type 0) → ((a v : ℕ) → DiskSays d a v → W a → ⊥) → (s t : State) → StoresOnly W s t → Stands (DiskSays d) s → Agree t.now t.past
+      → length t.now ≡ 512 * d.geometry.pages → StandsStill d s t
   still W apart s t only stands agree size = record {
     stands = stands-stores W s t only (DiskSays d) apart stands;
     images =
         let reads = leaves_only-stores W s t (DiskSays d) only apart stands in
-        record { extends = reads.extends; each = λ m c late left. stands_for_read d c may.root.valid (reads.each m c late left) (length-left t.past t.now m c agree left ∙ size) };
+        record {
+          extends = reads.extends;
+          each = λ m c late left. stands_for_read d c may.root.valid (reads.each m c late left)
+              (length-left t.past t.now m c agree left ∙ size);
+        };
   }
 
   pub root_stores : (s t : State) → StoresOnly (Said (Prepared 0 (d.inode 0).log (root_after d change))) s t
       → Stands (DiskSays d) s → Agree t.now t.past → length t.now ≡ 512 * d.geometry.pages → StandsStill d s t
-  root_stores = still (Said (Prepared 0 (d.inode 0).log (root_after d change))) (λ a v says told. fresh_unsaid d change may a told.value v (in_root told.told) says)
+  root_stores = still (Said (Prepared 0 (d.inode 0).log (root_after d change))) (λ a v says told. fresh_unsaid d change may a told.value v
+      (in_root told.told) says)
 
   abbrev turn_at : ℕ
   turn_at = inode_word change.ino (turn_field change.turn)
@@ -174,8 +202,10 @@ module _ (d : Disk) (change : NameChange) (may : MayChange d change) where
   abbrev turn_values : List ℕ
   turn_values = turn_words change.turn (d.inode change.ino).log
 
-  pub turn_stores : (s t : State) → StoresOnly (IsIn turn_at (length turn_values)) s t → Stands (DiskSays d) s → Agree t.now t.past → length t.now ≡ 512 * d.geometry.pages → StandsStill d s t
-  turn_stores = still (IsIn turn_at (length turn_values)) (λ a v says here. fresh_unsaid d change may a (slice_index turn_values (a - turn_at)) v (in_inode (here, refl)) says)
+  pub turn_stores : (s t : State) → StoresOnly (IsIn turn_at (length turn_values)) s t → Stands (DiskSays d) s → Agree t.now t.past
+      → length t.now ≡ 512 * d.geometry.pages → StandsStill d s t
+  turn_stores = still (IsIn turn_at (length turn_values)) (λ a v says here. fresh_unsaid d change may a (slice_index turn_values (a - turn_at)) v
+      (in_inode (here, refl)) says)
 
   -- the run of the inode lies in the device
   turn_inside : (turn : Turn) → inode_word change.ino (turn_field turn) + length (turn_words turn (d.inode change.ino).log) ≤ 512 * d.geometry.pages
@@ -183,8 +213,10 @@ module _ (d : Disk) (change : NameChange) (may : MayChange d change) where
   turn_inside Comes = let low = inode_word_low d.geometry change.ino 3 may.in_table (omega arith) in omega (arith, low, may.root.valid.accepted.room)
   turn_inside Goes = let low = inode_word_low d.geometry change.ino 3 may.in_table (omega arith) in omega (arith, low, may.root.valid.accepted.room)
 
-  pub turn_ready : (who : ℕ) (s t : State) → length s.now ≡ 512 * d.geometry.pages → StoresRun who turn_at turn_values s t → IsReady who (TurnSays d change) t
-  turn_ready who s t size stores = run_is_ready who turn_at turn_values t (omega (arith, turn_inside change.turn, stores.only.words, size)) (record { reads = stores.reads; flushed = stores.flushed })
+  pub turn_ready : (who : ℕ) (s t : State) → length s.now ≡ 512 * d.geometry.pages → StoresRun who turn_at turn_values s t
+      → IsReady who (TurnSays d change) t
+  turn_ready who s t size stores = run_is_ready who turn_at turn_values t (omega (arith, turn_inside change.turn, stores.only.words, size))
+      (record { reads = stores.reads; flushed = stores.flushed })
 
 pub no_turn_ready : (d : Disk) (change : NameChange) → change.turn ≡ Stays → (who : ℕ) (s : State) → IsReady who (TurnSays d change) s
 no_turn_ready d change stays who s = record {
@@ -197,10 +229,13 @@ no_turn_ready d change stays who s = record {
     nothing a v told = omega (arith, told.0.0, told.0.1)
 
     none : (a v : ℕ) → TurnSays d change a v → ⊥
-    none a v told = nothing a v (subst (λ (t : Turn). SaysRun (inode_word change.ino (turn_field t)) (turn_words t (d.inode change.ino).log) a v) stays told)
+    none a v told = nothing a v (subst (λ (t : Turn). SaysRun (inode_word change.ino (turn_field t)) (turn_words t (d.inode change.ino).log) a v)
+        stays told)
 
-pub fresh_ready : (d : Disk) (change : NameChange) (who : ℕ) (s : State) → IsReady who (Prepared 0 (d.inode 0).log (root_after d change)) s → IsReady who (TurnSays d change) s → IsReady who (FreshNames d change) s
-fresh_ready d change who s root inode = ready-weaken who s (λ a v. Prepared 0 (d.inode 0).log (root_after d change) a v ⊎ TurnSays d change a v) (FreshNames d change) parts
+pub fresh_ready : (d : Disk) (change : NameChange) (who : ℕ) (s : State) → IsReady who (Prepared 0 (d.inode 0).log (root_after d change)) s
+    → IsReady who (TurnSays d change) s → IsReady who (FreshNames d change) s
+fresh_ready d change who s root inode = ready-weaken who s (λ a v. Prepared 0 (d.inode 0).log (root_after d change) a v ⊎ TurnSays d change a v)
+    (FreshNames d change) parts
     (ready-both who s (Prepared 0 (d.inode 0).log (root_after d change)) (TurnSays d change) root inode)
   where
     parts : (a v : ℕ) → FreshNames d change a v → Prepared 0 (d.inode 0).log (root_after d change) a v ⊎ TurnSays d change a v

@@ -45,7 +45,8 @@ uncut_mapping log idx = by_mapping (mapping log idx) refl
     nothing true m none = refl
     nothing false m none = sym none
 
-    by_mapping : (m : Option Mapping) → mapping log idx ≡ m → (if nat_lt idx (pages_of (size_of log)) then mapping log idx else None) ≡ mapping log idx
+    by_mapping : (m : Option Mapping) → mapping log idx ≡ m → (if nat_lt idx (pages_of (size_of log)) then mapping log idx else None) ≡ mapping log
+        idx
     by_mapping None e = nothing (nat_lt idx (pages_of (size_of log))) (mapping log idx) e
     by_mapping (Some x) e = ap (λ (b : Bool). if b then mapping log idx else None) (below idx (pages_of (size_of log)) (mapping-below log idx x e))
 
@@ -56,12 +57,14 @@ turned_maps Comes node may idx = nothing_mapped idx ∙ ap (λ (u : Use). maps_b
 turned_maps Goes node may idx = uncut_mapping node.log idx ∙ ap (λ (u : Use). maps_by_use u node.log idx) (sym may)
 
 -- an inode that turns has the pages that it had, where it is used before and after
-pub turned_pages : (turn : Turn) (node : Inode) → MayTurn turn node.use_of → (page : ℕ) → Contains (turned turn node).log.pages page → IsUsed (turned turn node).use_of → IsUsed node.use_of × Contains node.log.pages page
+pub turned_pages : (turn : Turn) (node : Inode) → MayTurn turn node.use_of → (page : ℕ) → Contains (turned turn node).log.pages page
+    → IsUsed (turned turn node).use_of → IsUsed node.use_of × Contains node.log.pages page
 turned_pages Stays node may page listed used = (used, listed)
 turned_pages Comes node may page listed used = absurd (omega (arith, listed.1))
 turned_pages Goes node may page listed used = (subst IsUsed (sym may) tt, listed)
 
-turned_kept : (turn : Turn) (node : Inode) → (page : ℕ) → MayTurn turn node.use_of → IsUsed node.use_of → Contains node.log.pages page → IsUsed (turned turn node).use_of × Contains (turned turn node).log.pages page
+turned_kept : (turn : Turn) (node : Inode) → (page : ℕ) → MayTurn turn node.use_of → IsUsed node.use_of → Contains node.log.pages page
+    → IsUsed (turned turn node).use_of × Contains (turned turn node).log.pages page
 turned_kept Stays node page may used listed = (used, listed)
 turned_kept Comes node page may used listed = absurd (subst IsUsed may used)
 turned_kept Goes node page may used listed = (tt, listed)
@@ -102,11 +105,15 @@ module _ (d : Disk) (change : NameChange) (may : MayChange d change) where
   unfolding maps
   root_maps idx = nothing_by_use (d.inode 0).use_of (d.inode 0).log idx root_standing
 
-  maps_at : (i idx : ℕ) → Where d change i → maps_by_use (new.inode i).use_of (new.inode i).log idx ≡ maps_by_use (d.inode i).use_of (d.inode i).log idx
-  maps_at i idx (is_root e) = subst (λ (j : ℕ). maps_by_use (new.inode j).use_of (new.inode j).log idx ≡ maps_by_use (d.inode j).use_of (d.inode j).log idx) (sym e)
+  maps_at : (i idx : ℕ) → Where d change i → maps_by_use (new.inode i).use_of (new.inode i).log idx ≡ maps_by_use (d.inode i).use_of (d.inode i).log
+      idx
+  maps_at i idx (is_root e) = subst (λ (j : ℕ). maps_by_use (new.inode j).use_of (new.inode j).log idx ≡ maps_by_use (d.inode j).use_of
+      (d.inode j).log idx) (sym e)
       (ap (λ (n : Inode). maps_by_use n.use_of n.log idx) (at_root d change)
-      ∙ nothing_by_use (d.inode 0).use_of (root_after d change) idx root_standing_after ∙ sym (nothing_by_use (d.inode 0).use_of (d.inode 0).log idx root_standing))
-  maps_at i idx (is_here e) = subst (λ (j : ℕ). maps_by_use (new.inode j).use_of (new.inode j).log idx ≡ maps_by_use (d.inode j).use_of (d.inode j).log idx) (sym e)
+      ∙ nothing_by_use (d.inode 0).use_of (root_after d change) idx root_standing_after ∙ sym (nothing_by_use (d.inode 0).use_of (d.inode 0).log idx
+      root_standing))
+  maps_at i idx (is_here e) = subst (λ (j : ℕ). maps_by_use (new.inode j).use_of (new.inode j).log idx ≡ maps_by_use (d.inode j).use_of
+      (d.inode j).log idx) (sym e)
       (ap (λ (n : Inode). maps_by_use n.use_of n.log idx) (at_ino d change may.file) ∙ turned_maps change.turn (d.inode change.ino) may.may_turn idx)
   maps_at i idx (elsewhere some ne) = ap (λ (n : Inode). maps_by_use n.use_of n.log idx) (at_other d change i some ne)
 
@@ -130,23 +137,46 @@ module _ (d : Disk) (change : NameChange) (may : MayChange d change) where
   pub mapped_kept : (page : ℕ) → IsMapped d page → IsMapped new page
   mapped_kept page m =
       let to = m.maps_to in
-      record { ino = m.ino; idx = m.idx; maps_to = record { in_table = above m.ino to.in_table; in_file = to.in_file; by = to.by; is = maps_same m.ino m.idx ∙ to.is; block = to.block } }
+      record {
+        ino = m.ino;
+        idx = m.idx;
+        maps_to = record {
+          in_table = above m.ino to.in_table;
+          in_file = to.in_file;
+          by = to.by;
+          is = maps_same m.ino
+              m.idx ∙ to.is;
+          block = to.block;
+        };
+      }
 
   pub mapped_only : (page : ℕ) → IsMapped new page → IsMapped d page
   mapped_only page m =
       let to = m.maps_to in
-      record { ino = m.ino; idx = m.idx; maps_to = record { in_table = below m.ino to.in_table; in_file = to.in_file; by = to.by; is = sym (maps_same m.ino m.idx) ∙ to.is; block = to.block } }
+      record {
+        ino = m.ino;
+        idx = m.idx;
+        maps_to = record {
+          in_table = below m.ino to.in_table;
+          in_file = to.in_file;
+          by = to.by;
+          is = sym (maps_same m.ino m.idx) ∙ to.is;
+          block = to.block;
+        };
+      }
 
   -- a log page was one before, or the root's log took it
   log_page_at : (page : ℕ) (p : IsLogPage new page) → Where d change p.ino → IsLogPage d page ⊎ Contains change.fresh page
   log_page_at page p (is_root e) =
       let there : Contains ((d.inode 0).log.pages ++ change.fresh) page =
       subst (λ (n : Inode). Contains n.log.pages page) (at_root d change) (subst (λ (i : ℕ). Contains (new.inode i).log.pages page) e p.listed) in
-      ⊎_elim (λ was. inl (record { ino = 0; in_table = root_in_table; used = root_used; listed = was })) (λ fresh. inr fresh) (Contains-append_cases (d.inode 0).log.pages change.fresh page there)
+      ⊎_elim (λ was. inl (record { ino = 0; in_table = root_in_table; used = root_used; listed = was })) (λ fresh. inr fresh)
+      (Contains-append_cases (d.inode 0).log.pages change.fresh page there)
   log_page_at page p (is_here e) =
       let there : Inode = turned change.turn (d.inode change.ino) in
       let node : new.inode p.ino ≡ turned change.turn (d.inode change.ino) = ap new.inode e ∙ at_ino d change may.file in
-      let both = turned_pages change.turn (d.inode change.ino) may.may_turn page (subst (λ (n : Inode). Contains n.log.pages page) node p.listed) (subst (λ (n : Inode). IsUsed n.use_of) node p.used) in
+      let both = turned_pages change.turn (d.inode change.ino) may.may_turn page (subst (λ (n : Inode). Contains n.log.pages page) node p.listed)
+      (subst (λ (n : Inode). IsUsed n.use_of) node p.used) in
       inl (record { ino = change.ino; in_table = may.in_table; used = both.0; listed = both.1 })
   log_page_at page p (elsewhere some ne) = inl (record {
     ino = p.ino;
@@ -163,7 +193,8 @@ module _ (d : Disk) (change : NameChange) (may : MayChange d change) where
     ino = 0;
     in_table = above 0 root_in_table;
     used = subst IsUsed (sym use_of_root) root_used;
-    listed = subst (λ (n : Inode). Contains n.log.pages page) (sym (at_root d change)) (Contains-append_right (d.inode 0).log.pages change.fresh page fresh);
+    listed = subst (λ (n : Inode). Contains n.log.pages page) (sym (at_root d change)) (Contains-append_right (d.inode 0).log.pages change.fresh page
+        fresh);
   }
 
   log_page_kept_at : (page : ℕ) (p : IsLogPage d page) → Where d change p.ino → IsLogPage new page
@@ -176,7 +207,8 @@ module _ (d : Disk) (change : NameChange) (may : MayChange d change) where
   }
   log_page_kept_at page p (is_here e) =
       let node : d.inode p.ino ≡ d.inode change.ino = ap d.inode e in
-      let both = turned_kept change.turn (d.inode change.ino) page may.may_turn (subst (λ (n : Inode). IsUsed n.use_of) node p.used) (subst (λ (n : Inode). Contains n.log.pages page) node p.listed) in
+      let both = turned_kept change.turn (d.inode change.ino) page may.may_turn (subst (λ (n : Inode). IsUsed n.use_of) node p.used)
+      (subst (λ (n : Inode). Contains n.log.pages page) node p.listed) in
       record {
         ino = change.ino;
         in_table = above change.ino may.in_table;
@@ -222,8 +254,10 @@ module _ (d : Disk) (change : NameChange) (may : MayChange d change) where
   exact_row : (row : Row) → IsExact d row → IsExact new row
   exact_row row is = (is.0, is.1 ∙ sym (mappings_same row.page), is.2)
 
-  pub unshared_kept : ((page : ℕ) → IsNone (row_of (rows d) page) → mappings d page ≤ 1) → (page : ℕ) → IsNone (row_of (rows new) page) → mappings new page ≤ 1
-  unshared_kept few page none = subst (λ (n : ℕ). n ≤ 1) (sym (mappings_same page)) (few page (subst (λ (rs : List Row). IsNone (row_of rs page)) (same_rows d change) none))
+  pub unshared_kept : ((page : ℕ) → IsNone (row_of (rows d) page) → mappings d page ≤ 1) → (page : ℕ) → IsNone (row_of (rows new) page)
+      → mappings new page ≤ 1
+  unshared_kept few page none = subst (λ (n : ℕ). n ≤ 1) (sym (mappings_same page))
+      (few page (subst (λ (rs : List Row). IsNone (row_of rs page)) (same_rows d change) none))
 
   pub exact_kept : Exact d → Exact new
   exact_kept exact = record {

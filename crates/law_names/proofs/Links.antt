@@ -10,7 +10,8 @@ use Rattle.dn_model.specs.Files.{named, named_after}
 use Rattle.dn_model.specs.Valid.{IsLinked}
 use Rattle.law_names.specs.Operations.{with_name}
 
-pub named_after-append : (name : List ℕ) (found : Option ℕ) (xs ys : List LogItem) → named_after name found (xs ++ ys) ≡ named_after name (named_after name found xs) ys
+pub named_after-append : (name : List ℕ) (found : Option ℕ) (xs ys : List LogItem) → named_after name found (xs ++ ys) ≡ named_after name
+    (named_after name found xs) ys
 named_after-append name found [] ys = refl
 named_after-append name found (Add ino new ∷ xs) ys = named_after-append name (if same_name new name then Some ino else found) xs ys
 named_after-append name found (Forget old ∷ xs) ys = named_after-append name (if same_name old name then None else found) xs ys
@@ -30,8 +31,10 @@ names_eq x y = by_test (same_name x y) refl
 pub with_name-here : (f : List ℕ → Option ℕ) (name : List ℕ) (found : Option ℕ) → with_name f name found name ≡ found
 with_name-here f name found = ap (λ (b : Bool). if b then found else f name) (same_name-same name)
 
-pub with_name-other : (f : List ℕ → Option ℕ) (name : List ℕ) (found : Option ℕ) (other : List ℕ) → other ≢ name → with_name f name found other ≡ f other
-with_name-other f name found other ne = ⊎_elim (λ here. absurd (ne here.1)) (λ there. ap (λ (b : Bool). if b then found else f other) there.0) (names_eq name other)
+pub with_name-other : (f : List ℕ → Option ℕ) (name : List ℕ) (found : Option ℕ) (other : List ℕ) → other ≢ name → with_name f name found other ≡ f
+    other
+with_name-other f name found other ne = ⊎_elim (λ here. absurd (ne here.1)) (λ there. ap (λ (b : Bool). if b then found else f other) there.0)
+    (names_eq name other)
 
 one_found : (i j : ℕ) → Some i ≡ Some j → i ≡ j
 one_found i j e = cc
@@ -59,7 +62,11 @@ linked_by d i Free none = none
 linked_by d i (Dying c) none = none
 
 pub linked_so : (d : Disk) (f : List ℕ → Option ℕ) → ((name : List ℕ) → named d name ≡ f name) → (i : ℕ) (u : Use) → LinkedBy f i u → IsLinked d i u
-linked_so d f same i Live one = record { name = one.name; leads = same one.name ∙ one.leads; alone = λ other e. one.alone other (sym (same other) ∙ e) }
+linked_so d f same i Live one = record {
+  name = one.name;
+  leads = same one.name ∙ one.leads;
+  alone = λ other e. one.alone other (sym (same other) ∙ e);
+}
 linked_so d f same i Free none = λ name e. none name (sym (same name) ∙ e)
 linked_so d f same i (Dying c) none = λ name e. none name (sym (same name) ∙ e)
 
@@ -70,7 +77,8 @@ module _ (f : List ℕ → Option ℕ) (name : List ℕ) (j : ℕ) where
 
   put_before : (other : List ℕ) (i : ℕ) → i ≢ j → put other ≡ Some i → f other ≡ Some i
   put_before other i ne e = ⊎_elim
-      (λ (here : (same_name name other ≡ true) × (other ≡ name)). absurd (ne (sym (one_found j i (sym (with_name-here f name (Some j)) ∙ ap put (sym here.1) ∙ e)))))
+      (λ (here : (same_name name other ≡ true) × (other ≡ name)). absurd
+      (ne (sym (one_found j i (sym (with_name-here f name (Some j)) ∙ ap put (sym here.1) ∙ e)))))
       (λ (there : (same_name name other ≡ false) × (other ≢ name)). sym (with_name-other f name (Some j) other there.1) ∙ e)
       (names_eq name other)
 
@@ -94,7 +102,8 @@ module _ (f : List ℕ → Option ℕ) (name : List ℕ) (j : ℕ) where
     name = name;
     leads = with_name-here f name (Some j);
     alone = λ other e. ⊎_elim (λ (here : (same_name name other ≡ true) × (other ≡ name)). here.1)
-        (λ (there : (same_name name other ≡ false) × (other ≢ name)). absurd (none other (sym (with_name-other f name (Some j) other there.1) ∙ e))) (names_eq name other);
+        (λ (there : (same_name name other ≡ false) × (other ≢ name)). absurd (none other (sym (with_name-other f name (Some j) other there.1) ∙ e)))
+        (names_eq name other);
   }
 
   -- a name goes that led to this inode
@@ -103,7 +112,8 @@ module _ (f : List ℕ → Option ℕ) (name : List ℕ) (j : ℕ) where
 
   forget_before : (other : List ℕ) (i : ℕ) → forget other ≡ Some i → (other ≢ name) × (f other ≡ Some i)
   forget_before other i e = ⊎_elim
-      (λ (here : (same_name name other ≡ true) × (other ≡ name)). absurd (none_found i (sym (with_name-here f name None) ∙ ap forget (sym here.1) ∙ e)))
+      (λ (here : (same_name name other ≡ true) × (other ≡ name)). absurd
+      (none_found i (sym (with_name-here f name None) ∙ ap forget (sym here.1) ∙ e)))
       (λ (there : (same_name name other ≡ false) × (other ≢ name)). (there.1, sym (with_name-other f name None other there.1) ∙ e))
       (names_eq name other)
 
@@ -126,7 +136,8 @@ module _ (f : List ℕ → Option ℕ) (name : List ℕ) (j : ℕ) where
   gone_forget here one other e = let was = forget_before other j e in was.0 (one.alone other was.1 ∙ sym (one.alone name here))
 
 -- a name that goes before it comes only comes
-pub put_over : (f : List ℕ → Option ℕ) (name : List ℕ) (found : Option ℕ) (other : List ℕ) → with_name f name found other ≡ with_name (with_name f name None) name found other
+pub put_over : (f : List ℕ → Option ℕ) (name : List ℕ) (found : Option ℕ) (other : List ℕ) → with_name f name found other ≡ with_name
+    (with_name f name None) name found other
 put_over f name found other = by_test (same_name name other) refl
   where
     by_test : (b : Bool) → same_name name other ≡ b → (if b then found else f other) ≡ (if b then found else with_name f name None other)

@@ -13,10 +13,28 @@ use Rattle.law_write.proofs.WriteFiles.{named-in_table}
 use Rattle.law_names.specs.NameChange.{NameChange, turned, names_changed, MayGrowRoot, MayChange}
 use Rattle.law_names.specs.Operations.{creation, removal, renaming, MayCreate, MayRemove, MayRename, with_name}
 use Rattle.law_names.proofs.Changed.{at_root, at_ino, at_other}
-use Rattle.law_names.proofs.Links.{named_after-append, with_name-here, with_name-other, LeadsOnce, IsUnnamed, LinkedBy, linked_by, linked_so, unnamed_put, linked_put, new_put, unnamed_forget, once_forget, linked_forget, gone_forget, put_over}
+use Rattle.law_names.proofs.Links.{
+  named_after-append,
+  with_name-here,
+  with_name-other,
+  LeadsOnce,
+  IsUnnamed,
+  LinkedBy,
+  linked_by,
+  linked_so,
+  unnamed_put,
+  linked_put,
+  new_put,
+  unnamed_forget,
+  once_forget,
+  linked_forget,
+  gone_forget,
+  put_over,
+}
 
 -- the items tell which inode a name leads to
-pub named_changed : (d : Disk) (change : NameChange) (other : List ℕ) → named (names_changed d change) other ≡ named_after other (named d other) change.more
+pub named_changed : (d : Disk) (change : NameChange) (other : List ℕ) → named (names_changed d change) other ≡ named_after other (named d other)
+    change.more
 unfolding named
 named_changed d change other =
     ap (λ (n : Inode). named_after other None n.log.items) (at_root d change) ∙ named_after-append other None (d.inode 0).log.items change.more
@@ -38,13 +56,17 @@ module _ (d : Disk) (valid : IsValid d) (name : List ℕ) (i : ℕ) (leads : nam
   named_once = subst (LinkedBy (named d) i) named_live (linked_by d i (d.inode i).use_of (valid.links i named_file.0 named_file.1))
 
 -- an inode that isn't the one that turns is linked so, where its use is what it was
-module _ (d : Disk) (change : NameChange) (f : List ℕ → Option ℕ) (same : (other : List ℕ) → named (names_changed d change) other ≡ f other) (file : 1 ≤ change.ino) where
-  pub links_by : ((i : ℕ) → 1 ≤ i → i < d.geometry.inodes → i ≢ change.ino → LinkedBy f i (d.inode i).use_of) → LinkedBy f change.ino (turned change.turn (d.inode change.ino)).use_of
+module _ (d : Disk) (change : NameChange) (f : List ℕ → Option ℕ) (same : (other : List ℕ) → named (names_changed d change) other ≡ f other)
+    (file : 1 ≤ change.ino) where
+  pub links_by : ((i : ℕ) → 1 ≤ i → i < d.geometry.inodes → i ≢ change.ino → LinkedBy f i (d.inode i).use_of)
+      → LinkedBy f change.ino (turned change.turn (d.inode change.ino)).use_of
       → (i : ℕ) → 1 ≤ i → i < d.geometry.inodes → IsLinked (names_changed d change) i ((names_changed d change).inode i).use_of
-  links_by others here i some lt = linked_so (names_changed d change) f same i ((names_changed d change).inode i).use_of (elim (cases_eq i change.ino) [
-    | inl e ↦ subst (λ (j : ℕ). LinkedBy f j ((names_changed d change).inode j).use_of) (sym e) (subst (λ (n : Inode). LinkedBy f change.ino n.use_of) (sym (at_ino d change file)) here)
-    | inr ne ↦ subst (λ (n : Inode). LinkedBy f i n.use_of) (sym (at_other d change i some ne)) (others i some lt ne)
-  ])
+  links_by others here i some lt = linked_so (names_changed d change) f same i ((names_changed d change).inode i).use_of
+      (elim (cases_eq i change.ino) [
+        | inl e ↦ subst (λ (j : ℕ). LinkedBy f j ((names_changed d change).inode j).use_of) (sym e) (subst (λ (n : Inode). LinkedBy f change.ino n.use_of)
+            (sym (at_ino d change file)) here)
+        | inr ne ↦ subst (λ (n : Inode). LinkedBy f i n.use_of) (sym (at_other d change i some ne)) (others i some lt ne)
+      ])
 
 module _ (d : Disk) (name : List ℕ) (ino : ℕ) (fresh : List ℕ) (may : MayCreate d name ino fresh) where
   pub named_created : (other : List ℕ) → named (names_changed d (creation name ino fresh)) other ≡ with_name (named d) name (Some ino) other
@@ -62,7 +84,8 @@ module _ (d : Disk) (name : List ℕ) (ino : ℕ) (fresh : List ℕ) (may : MayC
     in_table = may.in_table;
     may_turn = may.free;
     links = links_by d (creation name ino fresh) (with_name (named d) name (Some ino)) named_created may.file
-        (λ i some lt ne. linked_put (named d) name ino i ne may.unnamed (d.inode i).use_of (linked_by d i (d.inode i).use_of (may.root.valid.links i some lt)))
+        (λ i some lt ne. linked_put (named d) name ino i ne may.unnamed (d.inode i).use_of
+        (linked_by d i (d.inode i).use_of (may.root.valid.links i some lt)))
         (new_put (named d) name ino unnamed_before);
   }
 
@@ -82,11 +105,13 @@ module _ (d : Disk) (name : List ℕ) (ino : ℕ) (fresh : List ℕ) (may : MayR
     in_table = file.1;
     may_turn = named_live d may.root.valid name ino may.leads;
     links = links_by d (removal name ino fresh) (with_name (named d) name None) named_removed file.0
-        (λ i some lt ne. linked_forget (named d) name ino i ne may.leads (d.inode i).use_of (linked_by d i (d.inode i).use_of (may.root.valid.links i some lt)))
+        (λ i some lt ne. linked_forget (named d) name ino i ne may.leads (d.inode i).use_of
+        (linked_by d i (d.inode i).use_of (may.root.valid.links i some lt)))
         (gone_forget (named d) name ino may.leads (named_once d may.root.valid name ino may.leads));
   }
 
-module _ (d : Disk) (from to : List ℕ) (ino : ℕ) (fresh : List ℕ) (root : MayGrowRoot d fresh (Forget from ∷ Add ino to ∷ [])) (legal_from : IsLegal from) (legal_to : IsLegal to)
+module _ (d : Disk) (from to : List ℕ) (ino : ℕ) (fresh : List ℕ) (root : MayGrowRoot d fresh (Forget from ∷ Add ino to ∷ []))
+    (legal_from : IsLegal from) (legal_to : IsLegal to)
     (apart : from ≢ to) (leads : named d from ≡ Some ino) where
   abbrev kept : List ℕ → Option ℕ
   kept = with_name (named d) from None
@@ -101,7 +126,8 @@ module _ (d : Disk) (from to : List ℕ) (ino : ℕ) (fresh : List ℕ) (root : 
   kept_to = with_name-other (named d) from None to (λ e. apart (sym e))
 
   linked_kept : (i : ℕ) → 1 ≤ i → i < d.geometry.inodes → i ≢ ino → LinkedBy kept i (d.inode i).use_of
-  linked_kept i some lt ne = linked_forget (named d) from ino i ne leads (d.inode i).use_of (linked_by d i (d.inode i).use_of (root.valid.links i some lt))
+  linked_kept i some lt ne = linked_forget (named d) from ino i ne leads (d.inode i).use_of
+      (linked_by d i (d.inode i).use_of (root.valid.links i some lt))
 
   mover_kept : IsUnnamed kept ino
   mover_kept = gone_forget (named d) from ino leads (named_once d root.valid from ino leads)
@@ -118,7 +144,8 @@ module _ (d : Disk) (from to : List ℕ) (ino : ℕ) (fresh : List ℕ) (root : 
     may_rename_plain = record {
       root = root;
       spelled = All-cons IsSpelled (Forget from) (Add ino to ∷ []) legal_from (All-cons IsSpelled (Add ino to) [] legal_to (All-nil IsSpelled));
-      standing = All-cons (MayStand d.geometry 0) (Forget from) (Add ino to ∷ []) tt (All-cons (MayStand d.geometry 0) (Add ino to) [] mover (All-nil (MayStand d.geometry 0)));
+      standing = All-cons (MayStand d.geometry 0) (Forget from) (Add ino to ∷ []) tt (All-cons (MayStand d.geometry 0) (Add ino to) [] mover
+          (All-nil (MayStand d.geometry 0)));
       file = mover.0;
       in_table = mover.1;
       may_turn = tt;
@@ -157,26 +184,33 @@ module _ (d : Disk) (from to : List ℕ) (ino : ℕ) (fresh : List ℕ) (root : 
     may_rename_over = record {
       root = root;
       spelled = All-cons IsSpelled (Forget from) (Add ino to ∷ []) legal_from (All-cons IsSpelled (Add ino to) [] legal_to (All-nil IsSpelled));
-      standing = All-cons (MayStand d.geometry 0) (Forget from) (Add ino to ∷ []) tt (All-cons (MayStand d.geometry 0) (Add ino to) [] mover (All-nil (MayStand d.geometry 0)));
+      standing = All-cons (MayStand d.geometry 0) (Forget from) (Add ino to ∷ []) tt (All-cons (MayStand d.geometry 0) (Add ino to) [] mover
+          (All-nil (MayStand d.geometry 0)));
       file = lost.0;
       in_table = lost.1;
       may_turn = named_live d root.valid to other had;
       links = links_by d over placed (λ name. named_changed d over name ∙ put_over kept to (Some ino) name) lost.0 others
-          (unnamed_put freed to ino other different (gone_forget kept to other had_kept (once_forget (named d) from ino other different leads (named_once d root.valid to other had))));
+          (unnamed_put freed to ino other different (gone_forget kept to other had_kept (once_forget (named d) from ino other different leads
+          (named_once d root.valid to other had))));
     }
       where
         others : (i : ℕ) → 1 ≤ i → i < d.geometry.inodes → i ≢ other → LinkedBy placed i (d.inode i).use_of
         others i some lt ne = elim (cases_eq i ino) [
           | inl e ↦ subst (λ (k : ℕ). LinkedBy placed k (d.inode k).use_of) (sym e)
-              (subst (LinkedBy placed ino) (sym (named_live d root.valid from ino leads)) (new_put freed to ino (unnamed_forget kept to other ino mover_kept)))
-          | inr not ↦ linked_put freed to ino i not freed_to (d.inode i).use_of (linked_forget kept to other i ne had_kept (d.inode i).use_of (linked_kept i some lt not))
+              (subst (LinkedBy placed ino) (sym (named_live d root.valid from ino leads))
+              (new_put freed to ino (unnamed_forget kept to other ino mover_kept)))
+          | inr not ↦ linked_put freed to ino i not freed_to (d.inode i).use_of (linked_forget kept to other i ne had_kept (d.inode i).use_of
+              (linked_kept i some lt not))
         ]
 
-pub may_rename : (d : Disk) (from to : List ℕ) (ino : ℕ) (replaced : Option ℕ) (fresh : List ℕ) → MayRename d from to ino replaced fresh → MayChange d (renaming from to ino replaced fresh)
+pub may_rename : (d : Disk) (from to : List ℕ) (ino : ℕ) (replaced : Option ℕ) (fresh : List ℕ) → MayRename d from to ino replaced fresh
+    → MayChange d (renaming from to ino replaced fresh)
 may_rename d from to ino None fresh may = may_rename_plain d from to ino fresh may.root may.legal_from may.legal_to may.apart may.leads may.replaces
-may_rename d from to ino (Some other) fresh may = may_rename_over d from to ino fresh may.root may.legal_from may.legal_to may.apart may.leads other may.replaces
+may_rename d from to ino (Some other) fresh may = may_rename_over d from to ino fresh may.root may.legal_from may.legal_to may.apart may.leads other
+    may.replaces
 
 pub named_renamed : (d : Disk) (from to : List ℕ) (ino : ℕ) (replaced : Option ℕ) (fresh : List ℕ)
-    → (other : List ℕ) → named (names_changed d (renaming from to ino replaced fresh)) other ≡ with_name (with_name (named d) from None) to (Some ino) other
+    → (other : List ℕ) → named (names_changed d (renaming from to ino replaced fresh)) other ≡ with_name (with_name (named d) from None) to (Some ino)
+    other
 named_renamed d from to ino None fresh other = named_changed d (renaming from to ino None fresh) other
 named_renamed d from to ino (Some j) fresh other = named_changed d (renaming from to ino (Some j) fresh) other

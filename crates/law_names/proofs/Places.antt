@@ -6,7 +6,25 @@ use Rattle.pm_layout.specs.declared.Geometry.{Geometry}
 use Rattle.pm_layout.specs.Geometry.{InData, first_data, direct_page, inode_word, pointer_word, gate_word}
 use Rattle.dn_model.specs.Log.{Log, LogSays, at_tail, at_head, at_footer, at_slot, IsPaged}
 use Rattle.dn_model.specs.Table.{Row, RowsSay, at_field, at_next, at_later, ChainSays, at_direct_page, at_direct_next, at_row}
-use Rattle.dn_model.specs.Disk.{Disk, Dying, IsUsed, DiskSays, of_head, of_inodes, of_logs, of_chains, of_pointers, of_pages, at_magic, at_version, at_pages, at_inodes, at_gate, at_state, at_cut}
+use Rattle.dn_model.specs.Disk.{
+  Disk,
+  Dying,
+  IsUsed,
+  DiskSays,
+  of_head,
+  of_inodes,
+  of_logs,
+  of_chains,
+  of_pointers,
+  of_pages,
+  at_magic,
+  at_version,
+  at_pages,
+  at_inodes,
+  at_gate,
+  at_state,
+  at_cut,
+}
 use Rattle.dn_model.specs.Growth.{Prepared, new_head, new_footer, new_slot}
 use Rattle.dn_model.specs.Valid.{IsValid}
 use Rattle.law_write.proofs.Unread.{read_in_data}
@@ -46,16 +64,21 @@ pub data LogPlace (g : Geometry) (ino a : ℕ) : Type 0 where
 pub log_place : (g : Geometry) (ino : ℕ) (log : Log) (a v : ℕ) → IsPaged g log → LogSays ino log a v → LogPlace g ino a
 log_place g ino log a v paged (at_tail place value) = is_tail place
 log_place g ino log a v paged (at_head some place value) = is_head place
-log_place g ino log a v paged (at_footer k lt place value) = is_high (data_high g (slice_index log.pages k) 504 a (paged.in_data k (omega arith)) place)
+log_place g ino log a v paged (at_footer k lt place value) = is_high (data_high g (slice_index log.pages k) 504 a (paged.in_data k (omega arith))
+    place)
 log_place g ino log a v paged (at_slot k j lt word place value) =
-    is_high (data_high g (slice_index log.pages (k / 63)) (8 * (k % 63) + j) a (paged.in_data (k / 63) (omega (arith, paged.fits))) (omega (arith, place)))
+    is_high (data_high g (slice_index log.pages (k / 63)) (8 * (k % 63) + j) a (paged.in_data (k / 63) (omega (arith, paged.fits)))
+    (omega (arith, place)))
 
 -- what is prepared for a log is its head, or behind the inode table
-pub prepared_place : (g : Geometry) (ino : ℕ) (old new : Log) (a v : ℕ) → IsPaged g new → Prepared ino old new a v → (a ≡ inode_word ino 1) ⊎ IsHigh g a
+pub prepared_place : (g : Geometry) (ino : ℕ) (old new : Log) (a v : ℕ) → IsPaged g new → Prepared ino old new a v → (a ≡ inode_word ino 1) ⊎ IsHigh g
+    a
 prepared_place g ino old new a v paged (new_head none some place value) = inl place
-prepared_place g ino old new a v paged (new_footer k late lt place value) = inr (data_high g (slice_index new.pages k) 504 a (paged.in_data k (omega arith)) place)
+prepared_place g ino old new a v paged (new_footer k late lt place value) = inr (data_high g (slice_index new.pages k) 504 a
+    (paged.in_data k (omega arith)) place)
 prepared_place g ino old new a v paged (new_slot k j late lt word place value) =
-    inr (data_high g (slice_index new.pages (k / 63)) (8 * (k % 63) + j) a (paged.in_data (k / 63) (omega (arith, paged.fits))) (omega (arith, place)))
+    inr (data_high g (slice_index new.pages (k / 63)) (8 * (k % 63) + j) a (paged.in_data (k / 63) (omega (arith, paged.fits)))
+    (omega (arith, place)))
 
 -- a word of which a valid disk speaks lies in its first page, is the gate, is an inode's, or is behind the inode table
 pub data PlaceOf (g : Geometry) (a : ℕ) : Type 0 where
@@ -84,7 +107,8 @@ module _ (d : Disk) (valid : IsValid d) where
   place_of a v (of_head (at_gate place value)) = the_gate place
   place_of a v (of_inodes (at_state i lt place value)) = of_inode i 0 place
   place_of a v (of_inodes (at_cut i c lt dying place value)) = of_inode i 3 place
-  place_of a v (of_logs told) = log_place_of told.ino a (log_place d.geometry told.ino (d.inode told.ino).log a v (valid.logs told.ino told.in_table told.used).paged told.says)
+  place_of a v (of_logs told) = log_place_of told.ino a (log_place d.geometry told.ino (d.inode told.ino).log a v
+      (valid.logs told.ino told.in_table told.used).paged told.says)
   place_of a v (of_chains told) = behind (chain_high d.geometry told.prefix (d.chain told.prefix) a v told.says)
   place_of a v (of_pointers told) = behind (pointer_high d.geometry told.page a told.place)
   place_of a v (of_pages told) = behind (data_high d.geometry told.page told.k a (read_in_data d valid told.page told.read) told.place)
@@ -115,8 +139,10 @@ module _ (d : Disk) (valid : IsValid d) where
     said_of_inode (of_head (at_inodes at value)) = absurd (omega arith)
     said_of_inode (of_head (at_gate at value)) = absurd (omega arith)
     said_of_inode (of_inodes (at_state i lt at value)) = said_state (omega arith)
-    said_of_inode (of_inodes (at_cut i c lt dying at value)) = let same : i ≡ ino = omega arith in said_cut c (subst (λ (k : ℕ). (d.inode k).use_of ≡ Dying c) same dying)
-    said_of_inode (of_logs told) = by_log told.ino told.used (log_place d.geometry told.ino (d.inode told.ino).log a v (valid.logs told.ino told.in_table told.used).paged told.says)
+    said_of_inode (of_inodes (at_cut i c lt dying at value)) = let same : i ≡ ino = omega arith in
+        said_cut c (subst (λ (k : ℕ). (d.inode k).use_of ≡ Dying c) same dying)
+    said_of_inode (of_logs told) = by_log told.ino told.used (log_place d.geometry told.ino (d.inode told.ino).log a v
+        (valid.logs told.ino told.in_table told.used).paged told.says)
     said_of_inode (of_chains told) = absurd (not_high (chain_high d.geometry told.prefix (d.chain told.prefix) a v told.says))
     said_of_inode (of_pointers told) = absurd (not_high (pointer_high d.geometry told.page a told.place))
     said_of_inode (of_pages told) = absurd (not_high (data_high d.geometry told.page told.k a (read_in_data d valid told.page told.read) told.place))

@@ -11,13 +11,15 @@ use Rattle.name_journal.specs.declared.change.Change.{Change}
 use Rattle.name_journal.specs.Changes.{AreChanges, IsNamed}
 use Rattle.name_journal.specs.AllOrNone.{AllOrNone, IsAllDone, DiffersBy}
 
--- a word that the new disk reads and the old one doesn't, beside those that change, and what it says there
+-- a word that the new disk reads and the old one doesn't, beside those that change, and what it
+-- says there
 pub record FreshWord (old new : Disk) (changes : List Change) (a v : ℕ) : Type 0 where
   pub read : DiskSays new a v
   pub unnamed : IsNamed changes a → ⊥
   pub unread : Said (DiskSays old) a → ⊥
 
--- These words change together, once the fresh ones stand: then the disk is the new one. Both make sense.
+-- These words change together, once the fresh ones stand: then the disk is the new one. Both make
+-- sense.
 pub record AreAllOrNone (old new : Disk) (changes : List Change) : Type 0 where
   pub geometry : new.geometry ≡ old.geometry
   pub old_valid : IsValid old
@@ -27,16 +29,20 @@ pub record AreAllOrNone (old new : Disk) (changes : List Change) : Type 0 where
   pub journaled : AreChanges old.geometry.inodes changes
   pub differs : DiffersBy changes (DiskSays old) (DiskSays new) (FreshWord old new changes)
 
--- while they change, each image that a stop may leave stands for the disk of before or the disk of after
+-- while they change, each image that a stop may leave stands for the disk of before or the disk of
+-- after
 abbrev pub AllOrNoneLeavesOldOrNew : Type 0
 AllOrNoneLeavesOldOrNew = (old new : Disk) (changes : List Change) → AreAllOrNone old new changes
-    → (who : ℕ) (s t : State) → Agree s.now s.past → length s.now ≡ 512 * old.geometry.pages → Stands (DiskSays old) s → IsReady who (FreshWord old new changes) s
-    → LeavesOnly s t (AllOrNone old.geometry.inodes who changes s) → LeavesOnly s t (λ c. StandsFor c old ⊎ StandsFor c new)
+    → (who : ℕ) (s t : State) → Agree s.now s.past → length s.now ≡ 512 * old.geometry.pages
+    → Stands (DiskSays old) s → IsReady who (FreshWord old new changes) s
+    → LeavesOnly s t (AllOrNone old.geometry.inodes who changes s)
+    → LeavesOnly s t (λ c. StandsFor c old ⊎ StandsFor c new)
 
 -- once they have changed, the device stands for the disk of after
 abbrev pub AllOrNoneStands : Type 0
 AllOrNoneStands = (old new : Disk) (changes : List Change) → AreAllOrNone old new changes
-    → (who : ℕ) (s t : State) → Agree s.now s.past → length s.now ≡ 512 * old.geometry.pages → Stands (DiskSays old) s → IsReady who (FreshWord old new changes) s
+    → (who : ℕ) (s t : State) → Agree s.now s.past → length s.now ≡ 512 * old.geometry.pages
+    → Stands (DiskSays old) s → IsReady who (FreshWord old new changes) s
     → IsAllDone who changes s t → Stands (DiskSays new) t
 
 -- before that the gate is closed and settled

@@ -6,7 +6,8 @@ use Rattle.dn_model.specs.Counts.{mappings, IsLogPage, IsFree, Near, Exact}
 use Rattle.dn_model.specs.Files.{bytes}
 use Rattle.dn_model.specs.Own.{LivePlace, Settled}
 
--- Mappings, rows, counts and the words of pages are what they were, and the bytes of the files that there were. Of the
+-- Mappings, rows, counts and the words of pages are what they were, and the bytes of the files that
+-- there were. Of the
 -- pages the fresh ones alone are taken.
 pub record KeepsData (old new : Disk) (fresh : List ℕ) : Type 0 where
   pub geometry : new.geometry ≡ old.geometry
@@ -21,7 +22,8 @@ pub record KeepsData (old new : Disk) (fresh : List ℕ) : Type 0 where
   pub exact : Exact old → Exact new
   pub settled : Settled old → Settled new
   pub live_only : (ino idx : ℕ) (m : Mapping) → LivePlace new ino idx m → LivePlace old ino idx m
-  pub bytes_same : (ino : ℕ) → 1 ≤ ino → IsUsed (old.inode ino).use_of → bytes new ino ≡ bytes old ino
+  pub bytes_same : (ino : ℕ) → 1 ≤ ino → IsUsed (old.inode ino).use_of
+      → bytes new ino ≡ bytes old ino
   pub log_pages_kept : (page : ℕ) → IsLogPage old page → IsLogPage new page
   pub log_pages_only : (page : ℕ) → IsLogPage new page → IsLogPage old page ⊎ Contains fresh page
   pub free_kept : (page : ℕ) → IsFree old page → (Contains fresh page → ⊥) → IsFree new page

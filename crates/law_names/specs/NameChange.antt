@@ -1,5 +1,24 @@
--- How an operation on names changes a disk: the root's log grows, and one inode comes to life or is dying.
-use Rattle.std.specs.Prelude.{◌≡◌, ◌≢◌, ℕ, ◌+◌, ◌/◌, ◌<◌, ◌≤◌, if◌then◌else◌, ◌==◌, List, [], ◌∷◌, ◌++◌, length, slice_index, Contains, All}
+-- How an operation on names changes a disk: the root's log grows, and one inode comes to life or is
+-- dying.
+use Rattle.std.specs.Prelude.{
+  ◌≡◌,
+  ◌≢◌,
+  ℕ,
+  ◌+◌,
+  ◌/◌,
+  ◌<◌,
+  ◌≤◌,
+  if◌then◌else◌,
+  ◌==◌,
+  List,
+  [],
+  ◌∷◌,
+  ◌++◌,
+  length,
+  slice_index,
+  Contains,
+  All,
+}
 use Rattle.pm_device.specs.Pages.{SaysRun}
 use Rattle.pm_layout.specs.Geometry.{inode_word}
 use Rattle.log_entry.specs.Spelling.{IsSpelled, spelled, pages_of}
@@ -20,7 +39,8 @@ pub data Turn : Type 0 where
   Comes : Turn
   Goes : Turn
 
--- The root's log gets these items more, on these fresh pages where its last has no room, and this inode turns.
+-- The root's log gets these items more, on these fresh pages where its last has no room, and this
+-- inode turns.
 pub record NameChange : Type 0 where
   pub fresh : List ℕ
   pub more : List LogItem
@@ -70,15 +90,19 @@ pub record IsSpared (d : Disk) (fresh : List ℕ) (page : ℕ) : Type 0 where
   pub free : IsFree d page
   pub not_fresh : Contains fresh page → ⊥
 
--- The root's log of a valid disk can get these items more on these pages, which are unused and just hold them.
+-- The root's log of a valid disk can get these items more on these pages, which are unused and just
+-- hold them.
 pub record MayGrowRoot (d : Disk) (fresh : List ℕ) (more : List LogItem) : Type 0 where
   pub valid : IsValid d
   pub fresh_unused : (page : ℕ) → Contains fresh page → IsUnused d page
-  pub fresh_apart : (j k : ℕ) → j < length fresh → k < length fresh → slice_index fresh j ≡ slice_index fresh k → j ≡ k
-  pub room : length ((d.inode 0).log.pages ++ fresh) ≡ (count (d.inode 0).log + length (spelled more) + 62) / 63
+  pub fresh_apart : (j k : ℕ) → j < length fresh → k < length fresh
+      → slice_index fresh j ≡ slice_index fresh k → j ≡ k
+  pub room : length ((d.inode 0).log.pages ++ fresh) ≡
+      (count (d.inode 0).log + length (spelled more) + 62) / 63
   pub left : (p : ℕ) × (q : ℕ) × (p ≢ q) × IsSpared d fresh p × IsSpared d fresh q
 
--- So it may be changed: the items may stand in the root's log, the inode may turn, and each inode keeps to its names.
+-- So it may be changed: the items may stand in the root's log, the inode may turn, and each inode
+-- keeps to its names.
 pub record MayChange (d : Disk) (change : NameChange) : Type 0 where
   pub root : MayGrowRoot d change.fresh change.more
   pub spelled : All IsSpelled change.more
@@ -86,11 +110,16 @@ pub record MayChange (d : Disk) (change : NameChange) : Type 0 where
   pub file : 1 ≤ change.ino
   pub in_table : change.ino < d.geometry.inodes
   pub may_turn : MayTurn change.turn (d.inode change.ino).use_of
-  pub links : (i : ℕ) → 1 ≤ i → i < d.geometry.inodes → IsLinked (names_changed d change) i ((names_changed d change).inode i).use_of
+  pub links : (i : ℕ) → 1 ≤ i → i < d.geometry.inodes → IsLinked (names_changed d change) i
+      ((names_changed d change).inode i).use_of
 
 -- the words that change together: the root's tail, and the state of the inode that turns
 abbrev pub tail_change : Disk → NameChange → Change
-tail_change d change = record { at = inode_word 0 2; value = tail_at (root_after d change).pages (count (root_after d change)) }
+tail_change d change = record {
+  at = inode_word 0 2;
+  value = tail_at (root_after d change).pages
+      (count (root_after d change));
+}
 
 abbrev pub state_changes : Turn → ℕ → List Change
 state_changes Stays ino = []
@@ -100,7 +129,8 @@ state_changes Goes ino = record { at = inode_word ino 0; value = 2 } ∷ []
 abbrev pub name_changes : Disk → NameChange → List Change
 name_changes d change = tail_change d change ∷ state_changes change.turn change.ino
 
--- what has to stand in the inode before: head, tail and cut of one that comes are 0, one that goes has its cut
+-- what has to stand in the inode before: head, tail and cut of one that comes are 0, one that goes
+-- has its cut
 abbrev pub turn_field : Turn → ℕ
 turn_field Stays = 1
 turn_field Comes = 1
@@ -112,7 +142,8 @@ turn_words Comes log = 0 ∷ 0 ∷ 0 ∷ []
 turn_words Goes log = pages_of (size_of log) ∷ []
 
 abbrev pub TurnSays : Disk → NameChange → ℕ → ℕ → Type 0
-TurnSays d change = SaysRun (inode_word change.ino (turn_field change.turn)) (turn_words change.turn (d.inode change.ino).log)
+TurnSays d change = SaysRun (inode_word change.ino (turn_field change.turn))
+    (turn_words change.turn (d.inode change.ino).log)
 
 -- what has to stand before the words change: what was prepared for the root, and in the inode
 pub data FreshNames (d : Disk) (change : NameChange) (a v : ℕ) : Type 0 where

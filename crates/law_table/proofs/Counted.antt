@@ -1,5 +1,33 @@
 -- The row at one slot gets other counts: what the table then says, and that its rows make sense.
-use Rattle.std.proofs.Common.{◌≡◌, ◌≢◌, ◌⊎◌, inl, inr, ⊎_elim, ℕ, zero, suc, ◌+◌, ◌*◌, ◌^◌, ◌<◌, Bool, true, false, List, [], ◌∷◌, ◌++◌, map, refl, sym, ◌∙◌, ap, subst, arith}
+use Rattle.std.proofs.Common.{
+  ◌≡◌,
+  ◌≢◌,
+  ◌⊎◌,
+  inl,
+  inr,
+  ⊎_elim,
+  ℕ,
+  zero,
+  suc,
+  ◌+◌,
+  ◌*◌,
+  ◌^◌,
+  ◌<◌,
+  Bool,
+  true,
+  false,
+  List,
+  [],
+  ◌∷◌,
+  ◌++◌,
+  map,
+  refl,
+  sym,
+  ◌∙◌,
+  ap,
+  subst,
+  arith,
+}
 use Rattle.std.specs.Prelude.{slice_get, if◌then◌else◌, ◌==◌, Option, Some, None, is_some, All, Contains, option_map}
 use Rattle.std.proofs.lemmas.Bool.{cases_eq}
 use Rattle.std.proofs.lemmas.List.{map-append}
@@ -9,7 +37,22 @@ use Rattle.pm_device.specs.Reading.{DiffersAt}
 use Rattle.pm_layout.specs.declared.Geometry.{Geometry}
 use Rattle.pm_layout.specs.Geometry.{slot_word, directs, slots, first_data}
 use Rattle.fingerprint.specs.Count.{count_word}
-use Rattle.dn_model.specs.Table.{Row, RowsSay, at_field, at_next, at_later, ChainSays, at_direct_page, at_direct_next, at_row, row_of, rows_from, first_slot, chained, direct_page_word}
+use Rattle.dn_model.specs.Table.{
+  Row,
+  RowsSay,
+  at_field,
+  at_next,
+  at_later,
+  ChainSays,
+  at_direct_page,
+  at_direct_next,
+  at_row,
+  row_of,
+  rows_from,
+  first_slot,
+  chained,
+  direct_page_word,
+}
 use Rattle.dn_model.specs.Disk.{Disk, ChainsSay, TableSays, rows}
 use Rattle.dn_model.specs.Valid.{IsRow, HasGoodRows}
 use Rattle.law_write.proofs.Unread.{slot_word_low}
@@ -74,14 +117,16 @@ module _ (slot rfc uc : ℕ) where
 
   rows_map : (chain : ℕ → List Row) (s n : ℕ) → rows_from (λ p. map f (chain p)) s n ≡ map f (rows_from chain s n)
   rows_map chain s zero = refl
-  rows_map chain s (suc n) = ap (λ (rs : List Row). map f (chain s) ++ rs) (rows_map chain (s + 1) n) ∙ sym (map-append f (chain s) (rows_from chain (s + 1) n))
+  rows_map chain s (suc n) = ap (λ (rs : List Row). map f (chain s) ++ rs) (rows_map chain (s + 1) n) ∙ sym
+      (map-append f (chain s) (rows_from chain (s + 1) n))
 
   -- the row of a page is the one of before, with its new counts
   pub found_map : (rs : List Row) (page : ℕ) → row_of (map f rs) page ≡ option_map f (row_of rs page)
   found_map [] page = refl
   found_map (row ∷ rs) page = by_test (row.page == page) (found_map rs page)
     where
-      by_test : (b : Bool) → row_of (map f rs) page ≡ option_map f (row_of rs page) → (if b then Some (f row) else row_of (map f rs) page) ≡ option_map f (if b then Some row else row_of rs page)
+      by_test : (b : Bool) → row_of (map f rs) page ≡ option_map f (row_of rs page) → (if b then Some (f row) else row_of (map f rs) page) ≡
+          option_map f (if b then Some row else row_of rs page)
       by_test true later = refl
       by_test false later = later
 
@@ -142,7 +187,8 @@ module _ (d : Disk) (row : Row) (rfc uc : ℕ) (may : MayCount d row rfc uc) whe
 
   chains : DiffersAt (TableSays d) (ChainsSay (recounted d row.slot rfc uc)) (SaysRun 0 []) at (count_word rfc uc)
   chains a v told = ⊎_elim (λ here. inl here)
-      (λ (there : (a ≢ at) × ChainSays d.geometry told.prefix (d.chain told.prefix) a v). inr (there.0, inl (inl (record { prefix = told.prefix; direct = told.direct; says = there.1 }))))
+      (λ (there : (a ≢ at) × ChainSays d.geometry told.prefix (d.chain told.prefix) a v). inr
+      (there.0, inl (inl (record { prefix = told.prefix; direct = told.direct; says = there.1 }))))
       (chain_differs row.slot rfc uc d.geometry told.prefix (d.chain told.prefix) a v told.says)
 
   pub count_word_decides : IsOneTableWord d (recounted d row.slot rfc uc) 0 [] at (count_word rfc uc)
@@ -154,24 +200,53 @@ module _ (d : Disk) (row : Row) (rfc uc : ℕ) (may : MayCount d row rfc uc) whe
         geometry = refl;
         good = counted_good d row.slot rfc uc may.good may.rfc_fits may.uc_fits;
         inside = omega (arith, high, may.accepted.room);
-        said = record { value = count_word row.rfc row.uc; told = inl (record { prefix = stands.0; direct = stands.1; says = at_row (field_said d.geometry row (d.chain stands.0) 4 (omega arith) stands.2) }) };
+        said = record {
+          value = count_word row.rfc row.uc;
+          told = inl (record {
+            prefix = stands.0;
+            direct = stands.1;
+            says = at_row (field_said d.geometry row (d.chain stands.0) 4 (omega arith)
+                stands.2);
+          });
+        };
         differs = table_differs d (recounted d row.slot rfc uc) at (count_word rfc uc) 0 [] chains
-            (pointers_kept d (λ p. map (recount row.slot rfc uc) (d.chain p)) at (count_word rfc uc) 0 [] (λ page e. omega (arith, pointer_above d.geometry page row.slot 4 small (omega arith), e)));
+            (pointers_kept d (λ p. map (recount row.slot rfc uc) (d.chain p)) at (count_word rfc uc) 0 []
+            (λ page e. omega (arith, pointer_above d.geometry page row.slot 4 small (omega arith), e)));
       }
 
 module _ (d : Disk) (slot rfc uc : ℕ) where
   pub recounts_rows : RecountsRows slot rfc uc (rows d) (rows (recounted d slot rfc uc))
   recounts_rows = record {
     are = rows_recounted slot rfc uc d;
-    kept = λ row has. subst (λ (rs : List Row). Contains rs (recount slot rfc uc row)) (sym (rows_recounted slot rfc uc d)) (map_listed (recount slot rfc uc) (rows d) row has);
+    kept = λ row has. subst (λ (rs : List Row). Contains rs (recount slot rfc uc row)) (sym (rows_recounted slot rfc uc d))
+        (map_listed (recount slot rfc uc) (rows d) row has);
     only = λ row has. listed_map (recount slot rfc uc) (rows d) row (subst (λ (rs : List Row). Contains rs row) (rows_recounted slot rfc uc d) has);
     found = λ page. ap (λ (rs : List Row). row_of rs page) (rows_recounted slot rfc uc d) ∙ found_map slot rfc uc (rows d) page;
     this = this;
     others = others;
   }
     where
-      this : (row : Row) → row.slot ≡ slot → recount slot rfc uc row ≡ record { slot = row.slot; print = row.print; page = row.page; rfc = rfc; uc = uc }
-      this row e = ap (λ (b : Bool). record { slot = row.slot; print = row.print; page = row.page; rfc = if b then rfc else row.rfc; uc = if b then uc else row.uc }) (same_test row.slot slot e)
+      this : (row : Row) → row.slot ≡ slot → recount slot rfc uc row ≡ record {
+        slot = row.slot;
+        print = row.print;
+        page = row.page;
+        rfc = rfc;
+        uc = uc;
+      }
+      this row e = ap (λ (b : Bool). record {
+        slot = row.slot;
+        print = row.print;
+        page = row.page;
+        rfc = if b then rfc else row.rfc;
+        uc = if b then uc
+            else row.uc;
+      }) (same_test row.slot slot e)
 
       others : (row : Row) → row.slot ≢ slot → recount slot rfc uc row ≡ row
-      others row ne = ap (λ (b : Bool). record { slot = row.slot; print = row.print; page = row.page; rfc = if b then rfc else row.rfc; uc = if b then uc else row.uc }) (other_test row.slot slot ne)
+      others row ne = ap (λ (b : Bool). record {
+        slot = row.slot;
+        print = row.print;
+        page = row.page;
+        rfc = if b then rfc else row.rfc;
+        uc = if b then uc else row.uc;
+      }) (other_test row.slot slot ne)

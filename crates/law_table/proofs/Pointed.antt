@@ -21,11 +21,24 @@ use Rattle.law_table.proofs.Slots.{pointer_above, table_differs}
 -- a chain says nothing of a pointer's word
 rows_apart : (g : Geometry) (page : ℕ) (rs : List Row) (a v : ℕ) → All (λ row. row.slot < slots g) rs → RowsSay g rs a v → a ≢ pointer_word g page
 rows_apart g page [] a v small says = elim says [ ]
-rows_apart g page (row ∷ rs) a v small (at_field j lt place value) = λ e. omega (arith, pointer_above g page row.slot j (small 0 row (omega arith)) (omega arith), place, e)
-rows_apart g page (row ∷ rs) a v small (at_next place value) = λ e. omega (arith, pointer_above g page row.slot 5 (small 0 row (omega arith)) (omega arith), place, e)
+rows_apart g page (row ∷ rs) a v small (at_field j lt place value) = λ e. omega (
+  arith,
+  pointer_above g page row.slot j (small 0 row (omega arith))
+      (omega arith),
+  place,
+  e,
+)
+rows_apart g page (row ∷ rs) a v small (at_next place value) = λ e. omega (
+  arith,
+  pointer_above g page row.slot 5 (small 0 row (omega arith))
+      (omega arith),
+  place,
+  e,
+)
 rows_apart g page (row ∷ rs) a v small (at_later later) = rows_apart g page rs a v (All-tail (λ (r : Row). r.slot < slots g) row rs small) later
 
-chain_apart : (g : Geometry) (page p : ℕ) (rs : List Row) (a v : ℕ) → p < slots g → All (λ row. row.slot < slots g) rs → ChainSays g p rs a v → a ≢ pointer_word g page
+chain_apart : (g : Geometry) (page p : ℕ) (rs : List Row) (a v : ℕ) → p < slots g → All (λ row. row.slot < slots g) rs → ChainSays g p rs a v
+    → a ≢ pointer_word g page
 chain_apart g page p rs a v lt small (at_direct_page place value) = λ e. omega (arith, pointer_above g page p 0 lt (omega arith), place, e)
 chain_apart g page p rs a v lt small (at_direct_next place value) = λ e. omega (arith, pointer_above g page p 5 lt (omega arith), place, e)
 chain_apart g page p rs a v lt small (at_row says) = rows_apart g page rs a v small says
@@ -75,7 +88,8 @@ module _ (d : Disk) (page value : ℕ) (may : MayPoint d page value) where
   chains : DiffersAt (TableSays d) (ChainsSay (repointed d page value)) (SaysRun 0 []) at value
   chains a v told = inr (
     chain_apart d.geometry page told.prefix (d.chain told.prefix) a v (omega (arith, told.direct))
-        (all_listed (λ (row : Row). row.slot < slots d.geometry) (d.chain told.prefix) (λ row has. row_slot_small d may.good row (in_table d told.prefix row told.direct has))) told.says,
+        (all_listed (λ (row : Row). row.slot < slots d.geometry) (d.chain told.prefix)
+        (λ row has. row_slot_small d may.good row (in_table d told.prefix row told.direct has))) told.says,
     inl (inl (record { prefix = told.prefix; direct = told.direct; says = told.says })),
   )
 
@@ -101,10 +115,18 @@ module _ (d : Disk) (page value : ℕ) (may : MayPoint d page value) where
     differs = table_differs d (repointed d page value) at value 0 [] chains pointers;
   }
 
-pub stale_may_clear : (d : Disk) (page : ℕ) → IsAccepted d.geometry → HasGoodRows d → page < d.geometry.pages → ((r : Row) → Contains (rows d) r → r.page ≢ page) → MayPoint d page 0
-stale_may_clear d page accepted good in_image none = record { accepted = accepted; good = good; in_image = in_image; small = omega arith; leads = λ r has e. absurd (none r has e) }
+pub stale_may_clear : (d : Disk) (page : ℕ) → IsAccepted d.geometry → HasGoodRows d → page < d.geometry.pages
+    → ((r : Row) → Contains (rows d) r → r.page ≢ page) → MayPoint d page 0
+stale_may_clear d page accepted good in_image none = record {
+  accepted = accepted;
+  good = good;
+  in_image = in_image;
+  small = omega arith;
+  leads = λ r has e. absurd (none r has e);
+}
 
-module _ (d : Disk) (prefix : ℕ) (row : Row) (accepted : IsAccepted d.geometry) (good : HasGoodRows d) (fresh : IsFreshRow d prefix row) (small : row.slot < slots d.geometry) where
+module _ (d : Disk) (prefix : ℕ) (row : Row) (accepted : IsAccepted d.geometry) (good : HasGoodRows d) (fresh : IsFreshRow d prefix row)
+    (small : row.slot < slots d.geometry) where
   pub fresh_may_point : MayPoint d row.page (row.slot + 1)
   fresh_may_point = record {
     accepted = accepted;

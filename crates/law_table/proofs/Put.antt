@@ -1,9 +1,45 @@
 -- A row more among rows: which there are then, and what stays apart.
-use Rattle.std.proofs.Common.{◌≡◌, ◌≢◌, ◌⊎◌, inl, inr, ⊎_elim, ℕ, zero, suc, ◌+◌, ◌<◌, ◌≤◌, Bool, true, false, List, [], ◌∷◌, ◌++◌, refl, sym, ◌∙◌, ap, subst, arith}
+use Rattle.std.proofs.Common.{
+  ◌≡◌,
+  ◌≢◌,
+  ◌⊎◌,
+  inl,
+  inr,
+  ⊎_elim,
+  ℕ,
+  zero,
+  suc,
+  ◌+◌,
+  ◌<◌,
+  ◌≤◌,
+  Bool,
+  true,
+  false,
+  List,
+  [],
+  ◌∷◌,
+  ◌++◌,
+  refl,
+  sym,
+  ◌∙◌,
+  ap,
+  subst,
+  arith,
+}
 use Rattle.std.specs.Prelude.{if◌then◌else◌, ◌==◌, Option, Some, Contains}
 use Rattle.std.proofs.lemmas.Bool.{cases_eq}
 use Rattle.dn_model.specs.Table.{Row, row_of, rows_from}
-use Rattle.law_table.proofs.Rows.{same_test, other_test, listed_here, listed_later, listed_cases, IsDistinct, distinct_cons, distinct_tail, distinct_head}
+use Rattle.law_table.proofs.Rows.{
+  same_test,
+  other_test,
+  listed_here,
+  listed_later,
+  listed_cases,
+  IsDistinct,
+  distinct_cons,
+  distinct_tail,
+  distinct_head,
+}
 
 -- new is old with this row put in somewhere
 pub data IsPut (row : Row) : List Row → List Row → Type 0 where
@@ -26,21 +62,25 @@ pub put_listed : (row : Row) (olds news : List Row) → IsPut row olds news → 
 put_listed row olds (_ ∷ news) (put_here) r has = ⊎_elim (λ (e : row ≡ r). inl (sym e)) (λ later. inr later) (listed_cases row olds r has)
 put_listed row (other ∷ olds) (_ ∷ news) (put_later put) r has = ⊎_elim
     (λ (e : other ≡ r). inr (subst (Contains (other ∷ olds)) e (listed_here other olds)))
-    (λ (later : Contains news r). ⊎_elim (λ (e : r ≡ row). inl e) (λ (was : Contains olds r). inr (listed_later other olds r was)) (put_listed row olds news put r later)) (listed_cases other news r has)
+    (λ (later : Contains news r). ⊎_elim (λ (e : r ≡ row). inl e) (λ (was : Contains olds r). inr (listed_later other olds r was))
+    (put_listed row olds news put r later)) (listed_cases other news r has)
 put_listed row olds [] put r has = elim put [ ]
 
 module _ {X : Type 0} (f : Row → X) where
-  pub put_distinct : (row : Row) (olds news : List Row) → IsPut row olds news → IsDistinct f olds → ((r : Row) → Contains olds r → f r ≢ f row) → IsDistinct f news
+  pub put_distinct : (row : Row) (olds news : List Row) → IsPut row olds news → IsDistinct f olds → ((r : Row) → Contains olds r → f r ≢ f row)
+      → IsDistinct f news
   put_distinct row olds (_ ∷ news) (put_here) apart other = distinct_cons f row olds apart other
   put_distinct row (x ∷ olds) (_ ∷ news) (put_later put) apart other =
       distinct_cons f x news (put_distinct row olds news put (distinct_tail f x olds apart) (λ r has. other r (listed_later x olds r has)))
-      (λ r has e. ⊎_elim (λ (same : r ≡ row). other x (listed_here x olds) (sym (sym (ap f same) ∙ e))) (λ (was : Contains olds r). distinct_head f x olds apart r was e) (put_listed row olds news put r has))
+      (λ r has e. ⊎_elim (λ (same : r ≡ row). other x (listed_here x olds) (sym (sym (ap f same) ∙ e))) (λ (was : Contains olds r). distinct_head f x
+      olds apart r was e) (put_listed row olds news put r has))
   put_distinct row olds [] put apart other = elim put [ ]
 
   pub taken_distinct : (row : Row) (olds news : List Row) → IsPut row olds news → IsDistinct f news → IsDistinct f olds
   taken_distinct row olds (_ ∷ news) (put_here) apart = distinct_tail f row olds apart
   taken_distinct row (x ∷ olds) (_ ∷ news) (put_later put) apart =
-      distinct_cons f x olds (taken_distinct row olds news put (distinct_tail f x news apart)) (λ r has. distinct_head f x news apart r (put_kept row olds news put r has))
+      distinct_cons f x olds (taken_distinct row olds news put (distinct_tail f x news apart))
+      (λ r has. distinct_head f x news apart r (put_kept row olds news put r has))
   taken_distinct row olds [] put apart = elim put [ ]
 
   -- the row differs from the others
@@ -85,7 +125,8 @@ module _ (row : Row) (chain chain' : ℕ → List Row) (prefix : ℕ) (same : (p
   rows_past s zero lt = refl
   rows_past s (suc n) lt = (λ i. same s (omega arith) i ++ rows_past (s + 1) n (omega arith) i)
 
-  pub put_rows : IsPut row (chain prefix) (chain' prefix) → (s n : ℕ) → s ≤ prefix → prefix < s + n → IsPut row (rows_from chain s n) (rows_from chain' s n)
+  pub put_rows : IsPut row (chain prefix) (chain' prefix) → (s n : ℕ) → s ≤ prefix → prefix < s + n → IsPut row (rows_from chain s n)
+      (rows_from chain' s n)
   put_rows put s zero low high = absurd (omega arith)
   put_rows put s (suc n) low high = elim (cases_eq s prefix) [
     | inl e ↦ subst (λ (rs : List Row). IsPut row (chain s ++ rows_from chain (s + 1) n) (chain' s ++ rs)) (sym (rows_past (s + 1) n (omega arith)))

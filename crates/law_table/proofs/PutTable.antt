@@ -18,7 +18,8 @@ module _ (d : Disk) (prefix : ℕ) (row : Row) (may : MayPutRow d prefix row) wh
   put_direct = subst (λ (p : ℕ). p < directs d.geometry) may.fresh.prefix_is (prefix_small d.geometry row.print may.fresh.twenty may.fresh.bytes)
 
   -- the row may stand at each place of its chain that fits its slot
-  pub fits_at : (k : ℕ) → ((row.slot ≡ prefix) × (k ≡ 0)) ⊎ ((directs d.geometry ≤ row.slot) × (row.slot < slots d.geometry)) → IsRow d.geometry prefix k row
+  pub fits_at : (k : ℕ) → ((row.slot ≡ prefix) × (k ≡ 0)) ⊎ ((directs d.geometry ≤ row.slot) × (row.slot < slots d.geometry))
+      → IsRow d.geometry prefix k row
   fits_at k place = record {
     place = place;
     data_page = may.fresh.data_page;
@@ -29,7 +30,8 @@ module _ (d : Disk) (prefix : ℕ) (row : Row) (may : MayPutRow d prefix row) wh
     uc = may.fresh.uc_fits;
   }
 
-module _ (d : Disk) (prefix : ℕ) (row : Row) (may : MayPutRow d prefix row) (chain : ℕ → List Row) (same : (p : ℕ) → p ≢ prefix → chain p ≡ d.chain p) (put : IsPut row (d.chain prefix) (chain prefix)) where
+module _ (d : Disk) (prefix : ℕ) (row : Row) (may : MayPutRow d prefix row) (chain : ℕ → List Row) (same : (p : ℕ) → p ≢ prefix → chain p ≡ d.chain p)
+    (put : IsPut row (d.chain prefix) (chain prefix)) where
   abbrev news : List Row
   news = rows (with_table d chain d.pointer)
 
@@ -46,7 +48,8 @@ module _ (d : Disk) (prefix : ℕ) (row : Row) (may : MayPutRow d prefix row) (c
   }
 
   each : (P : Row → Type 0) → P row → All P (rows d) → All P news
-  each P here was = all_listed P news (λ r has. ⊎_elim (λ (e : r ≡ row). subst P (sym e) here) (λ (old : Contains (rows d) r). All-contains P (rows d) r was old) (put_listed row (rows d) news rows_put r has))
+  each P here was = all_listed P news (λ r has. ⊎_elim (λ (e : r ≡ row). subst P (sym e) here) (λ (old : Contains (rows d) r). All-contains P (rows d)
+      r was old) (put_listed row (rows d) news rows_put r has))
 
   pub put_good : ((k : ℕ) (r : Row) → slice_get (chain prefix) k ≡ Some r → IsRow d.geometry prefix k r) → HasGoodRows (with_table d chain d.pointer)
   put_good own = record {

@@ -1,5 +1,34 @@
 -- Rows of a table: which there are, at which places, and the row of a page.
-use Rattle.std.proofs.Common.{◌≡◌, ◌≢◌, ◌⊎◌, inl, inr, ⊎_elim, ℕ, zero, suc, ◌+◌, ◌<◌, ◌≤◌, Bool, true, false, List, [], ◌∷◌, ◌++◌, length, get_or, map, refl, sym, ◌∙◌, ap, subst, arith}
+use Rattle.std.proofs.Common.{
+  ◌≡◌,
+  ◌≢◌,
+  ◌⊎◌,
+  inl,
+  inr,
+  ⊎_elim,
+  ℕ,
+  zero,
+  suc,
+  ◌+◌,
+  ◌<◌,
+  ◌≤◌,
+  Bool,
+  true,
+  false,
+  List,
+  [],
+  ◌∷◌,
+  ◌++◌,
+  length,
+  get_or,
+  map,
+  refl,
+  sym,
+  ◌∙◌,
+  ap,
+  subst,
+  arith,
+}
 use Rattle.std.specs.Prelude.{slice_get, if◌then◌else◌, ◌==◌, Option, Some, None, is_some, IsSome, IsNone, All, Contains}
 use Rattle.std.proofs.lemmas.Bool.{cases_eq}
 use Rattle.std.proofs.lemmas.Bool.Decides.{nat_tests}
@@ -58,7 +87,8 @@ pub chain_listed : (chain : ℕ → List Row) (s n : ℕ) (row : Row) → Contai
 chain_listed chain s zero row listed = absurd (omega (arith, listed.1))
 chain_listed chain s (suc n) row listed = ⊎_elim
     (λ (here : Contains (chain s) row). (s, omega arith, here))
-    (λ (later : Contains (rows_from chain (s + 1) n) row). let found = chain_listed chain (s + 1) n row later in (found.0, omega (arith, found.1), found.2))
+    (λ (later : Contains (rows_from chain (s + 1) n) row). let found = chain_listed chain (s + 1) n row later in
+    (found.0, omega (arith, found.1), found.2))
     (Contains-append_cases (chain s) (rows_from chain (s + 1) n) row listed)
 
 pub listed_chain : (chain : ℕ → List Row) (s n p : ℕ) (row : Row) → s ≤ p → p < s + n → Contains (chain p) row → Contains (rows_from chain s n) row
@@ -73,7 +103,8 @@ pub row_listed : (rs : List Row) (page : ℕ) → IsSome (row_of rs page) → (r
 row_listed [] page some = cc
 row_listed (row ∷ rs) page some = by_test (row.page == page) refl (row_listed rs page) some
   where
-    by_test : (b : Bool) → (row.page == page) ≡ b → (IsSome (row_of rs page) → (r : Row) × Contains rs r × (r.page ≡ page)) → IsSome (if b then Some row else row_of rs page)
+    by_test : (b : Bool) → (row.page == page) ≡ b → (IsSome (row_of rs page) → (r : Row) × Contains rs r × (r.page ≡ page))
+        → IsSome (if b then Some row else row_of rs page)
         → (r : Row) × Contains (row ∷ rs) r × (r.page ≡ page)
     by_test true t later some = (row, (0, omega arith, refl), grind (arith, nat_tests))
     by_test false t later some = let found = later some in (found.0, (suc found.1.0, omega (arith, found.1.1), found.1.2), found.2)
@@ -102,7 +133,8 @@ pub none_listed : (rs : List Row) (page : ℕ) → IsNone (row_of rs page) → (
 none_listed rs page none row has e = none_or_some (row_of rs page) none (subst (λ (p : ℕ). IsSome (row_of rs p)) e (row_found rs row has))
 
 pub none_found : (rs : List Row) (page : ℕ) → ((row : Row) → Contains rs row → row.page ≢ page) → IsNone (row_of rs page)
-none_found rs page other = ⊎_elim (λ (some : IsSome (row_of rs page)). let found = row_listed rs page some in absurd (other found.0 found.1 found.2)) (λ none. none) (some_or_none (row_of rs page))
+none_found rs page other = ⊎_elim (λ (some : IsSome (row_of rs page)). let found = row_listed rs page some in absurd (other found.0 found.1 found.2))
+    (λ none. none) (some_or_none (row_of rs page))
 
 -- rows that agree in this are one row, at one place
 abbrev pub IsDistinct : {X : Type 0} → (Row → X) → List Row → Type 0
@@ -114,8 +146,10 @@ nothing_at r is = cc
 module _ {X : Type 0} (f : Row → X) where
   pub distinct_cons : (x : Row) (rs : List Row) → IsDistinct f rs → ((r : Row) → Contains rs r → f r ≢ f x) → IsDistinct f (x ∷ rs)
   distinct_cons x rs apart other zero zero r s at_j at_k e = refl
-  distinct_cons x rs apart other zero (suc k) r s at_j at_k e = let same : x ≡ r = cc in absurd (other s (listed_at rs k s at_k) (sym (ap f same ∙ e)))
-  distinct_cons x rs apart other (suc j) zero r s at_j at_k e = let same : x ≡ s = cc in absurd (other r (listed_at rs j r at_j) (e ∙ sym (ap f same)))
+  distinct_cons x rs apart other zero (suc k) r s at_j at_k e = let same : x ≡ r = cc in
+      absurd (other s (listed_at rs k s at_k) (sym (ap f same ∙ e)))
+  distinct_cons x rs apart other (suc j) zero r s at_j at_k e = let same : x ≡ s = cc in
+      absurd (other r (listed_at rs j r at_j) (e ∙ sym (ap f same)))
   distinct_cons x rs apart other (suc j) (suc k) r s at_j at_k e = ap suc (apart j k r s at_j at_k e)
 
   pub distinct_tail : (x : Row) (rs : List Row) → IsDistinct f (x ∷ rs) → IsDistinct f rs
@@ -140,7 +174,8 @@ module _ {X : Type 0} (f : Row → X) where
 
   pub distinct_left : (xs ys : List Row) → IsDistinct f (xs ++ ys) → IsDistinct f xs
   distinct_left [] ys apart = λ j k r s at_j at_k e. absurd (nothing_at r at_j)
-  distinct_left (x ∷ xs) ys apart = distinct_cons x xs (distinct_left xs ys (distinct_tail x (xs ++ ys) apart)) (λ r has. distinct_head x (xs ++ ys) apart r (Contains-append_left xs ys r has))
+  distinct_left (x ∷ xs) ys apart = distinct_cons x xs (distinct_left xs ys (distinct_tail x (xs ++ ys) apart))
+      (λ r has. distinct_head x (xs ++ ys) apart r (Contains-append_left xs ys r has))
 
   pub distinct_right : (xs ys : List Row) → IsDistinct f (xs ++ ys) → IsDistinct f ys
   distinct_right [] ys apart = apart

@@ -10,7 +10,21 @@ use Rattle.pm_device.specs.Pages.{SaysRun}
 use Rattle.pm_layout.specs.declared.Geometry.{Geometry}
 use Rattle.pm_layout.specs.Geometry.{slot_word, pointer_word, prefix_bits, directs, slots}
 use Rattle.pm_layout.proofs.Bits.{bits_of_within}
-use Rattle.dn_model.specs.Table.{Row, RowsSay, at_field, at_next, at_later, ChainSays, at_direct_page, at_direct_next, at_row, chained, direct_page_word, first_slot, row_word}
+use Rattle.dn_model.specs.Table.{
+  Row,
+  RowsSay,
+  at_field,
+  at_next,
+  at_later,
+  ChainSays,
+  at_direct_page,
+  at_direct_next,
+  at_row,
+  chained,
+  direct_page_word,
+  first_slot,
+  row_word,
+}
 use Rattle.dn_model.specs.Disk.{Disk, ChainsSay, PointersSay, TableSays}
 use Rattle.dn_model.specs.Valid.{HasGoodRows}
 use Rattle.law_table.specs.Changes.{with_table}
@@ -32,7 +46,8 @@ rows_elsewhere g s i (row ∷ rows) a v small others (at_field j lt place value)
     λ e. All-head (λ (r : Row). r.slot ≢ s) row rows others (slot_word_one g row.slot s j i (omega arith) small (sym place ∙ e)).0
 rows_elsewhere g s i (row ∷ rows) a v small others (at_next place value) =
     λ e. All-head (λ (r : Row). r.slot ≢ s) row rows others (slot_word_one g row.slot s 5 i (omega arith) small (sym place ∙ e)).0
-rows_elsewhere g s i (row ∷ rows) a v small others (at_later later) = rows_elsewhere g s i rows a v small (All-tail (λ (r : Row). r.slot ≢ s) row rows others) later
+rows_elsewhere g s i (row ∷ rows) a v small others (at_later later) = rows_elsewhere g s i rows a v small (All-tail (λ (r : Row). r.slot ≢ s) row rows
+    others) later
 
 pub chained_none : (s : ℕ) (rows : List Row) → AreElsewhere s rows → chained s rows ≡ rows
 chained_none s [] others = refl
@@ -49,7 +64,8 @@ pub direct_page_row : (s : ℕ) (row : Row) (rows : List Row) → row.slot ≡ s
 direct_page_row s row rows e = grind (arith, nat_tests)
 
 -- the words of a row are told, and its next word
-pub field_said : (g : Geometry) (row : Row) (rows : List Row) (j : ℕ) → j < 5 → Contains rows row → RowsSay g rows (slot_word g row.slot j) (row_word row j)
+pub field_said : (g : Geometry) (row : Row) (rows : List Row) (j : ℕ) → j < 5 → Contains rows row → RowsSay g rows (slot_word g row.slot j)
+    (row_word row j)
 field_said g row [] j lt has = absurd (omega (arith, has.1))
 field_said g row (x ∷ rows) j lt has = ⊎_elim
     (λ (e : x ≡ row). at_field j lt (ap (λ (r : Row). slot_word g r.slot j) (sym e)) (ap (λ (r : Row). row_word r j) (sym e)))
@@ -78,11 +94,30 @@ pub record IsChainWord (g : Geometry) (p : ℕ) (rows : List Row) (a : ℕ) : Ty
 
 rows_word : (g : Geometry) (p : ℕ) (rows : List Row) (a v : ℕ) → RowsSay g rows a v → IsChainWord g p rows a
 rows_word g p [] a v says = elim says [ ]
-rows_word g p (row ∷ rows) a v (at_field j lt place value) = record { slot = row.slot; field = j; small = omega arith; place = place; owned = inr (row, listed_here row rows, refl) }
-rows_word g p (row ∷ rows) a v (at_next place value) = record { slot = row.slot; field = 5; small = omega arith; place = place; owned = inr (row, listed_here row rows, refl) }
+rows_word g p (row ∷ rows) a v (at_field j lt place value) = record {
+  slot = row.slot;
+  field = j;
+  small = omega arith;
+  place = place;
+  owned = inr (row, listed_here row rows, refl);
+}
+rows_word g p (row ∷ rows) a v (at_next place value) = record {
+  slot = row.slot;
+  field = 5;
+  small = omega arith;
+  place = place;
+  owned = inr (row, listed_here row rows, refl);
+}
 rows_word g p (row ∷ rows) a v (at_later later) =
     let word = rows_word g p rows a v later in
-    record { slot = word.slot; field = word.field; small = word.small; place = word.place; owned = ⊎_elim (λ own. inl own) (λ (has : HasSlot rows word.slot). inr (has_later row rows word.slot has)) word.owned }
+    record {
+      slot = word.slot;
+      field = word.field;
+      small = word.small;
+      place = word.place;
+      owned = ⊎_elim (λ own. inl own)
+          (λ (has : HasSlot rows word.slot). inr (has_later row rows word.slot has)) word.owned;
+    }
 
 pub chain_word : (g : Geometry) (p : ℕ) (rows : List Row) (a v : ℕ) → ChainSays g p rows a v → IsChainWord g p rows a
 chain_word g p rows a v (at_direct_page place value) = record { slot = p; field = 0; small = omega arith; place = place; owned = inl refl }
@@ -94,9 +129,11 @@ module _ (d : Disk) (good : HasGoodRows d) where
   slot_one : (p q s : ℕ) → p < directs d.geometry → q < directs d.geometry → (s ≡ p) ⊎ HasSlot (d.chain p) s → (s ≡ q) ⊎ HasSlot (d.chain q) s → p ≡ q
   slot_one p q s pl ql (inl own_p) (inl own_q) = omega arith
   slot_one p q s pl ql (inl own_p) (inr has_q) = ⊎_elim (λ (e : has_q.0.slot ≡ q). omega (arith, e, has_q.2, own_p))
-      (λ (high : (directs d.geometry ≤ has_q.0.slot) × (has_q.0.slot < slots d.geometry)). absurd (omega (arith, high.0, has_q.2, own_p, pl))) (row_slot d good q has_q.0 ql has_q.1)
+      (λ (high : (directs d.geometry ≤ has_q.0.slot) × (has_q.0.slot < slots d.geometry)). absurd (omega (arith, high.0, has_q.2, own_p, pl)))
+      (row_slot d good q has_q.0 ql has_q.1)
   slot_one p q s pl ql (inr has_p) (inl own_q) = ⊎_elim (λ (e : has_p.0.slot ≡ p). omega (arith, e, has_p.2, own_q))
-      (λ (high : (directs d.geometry ≤ has_p.0.slot) × (has_p.0.slot < slots d.geometry)). absurd (omega (arith, high.0, has_p.2, own_q, ql))) (row_slot d good p has_p.0 pl has_p.1)
+      (λ (high : (directs d.geometry ≤ has_p.0.slot) × (has_p.0.slot < slots d.geometry)). absurd (omega (arith, high.0, has_p.2, own_q, ql)))
+      (row_slot d good p has_p.0 pl has_p.1)
   slot_one p q s pl ql (inr has_p) (inr has_q) = one_chain d good p q has_p.0 has_q.0 pl ql has_p.1 has_q.1 (has_p.2 ∙ sym has_q.2)
 
   -- behind the first place no row has the direct slot
@@ -109,7 +146,8 @@ module _ (d : Disk) (good : HasGoodRows d) where
           (good.table prefix (suc has.0) r lt (ap (λ (xs : List Row). slice_get xs (suc has.0)) is ∙ at_listed rs r has)).place
 
 -- Only the chain of one prefix differs, at a word of a slot that it has.
-module _ (d : Disk) (good : HasGoodRows d) (prefix : ℕ) (direct : prefix < directs d.geometry) (chain : ℕ → List Row) (same : (p : ℕ) → p < directs d.geometry → p ≢ prefix → chain p ≡ d.chain p)
+module _ (d : Disk) (good : HasGoodRows d) (prefix : ℕ) (direct : prefix < directs d.geometry) (chain : ℕ → List Row) (same : (p : ℕ)
+    → p < directs d.geometry → p ≢ prefix → chain p ≡ d.chain p)
     (s i : ℕ) (small : i < 8) (owned : (s ≡ prefix) ⊎ HasSlot (d.chain prefix) s) (value first : ℕ) (fresh : List ℕ) where
   abbrev at : ℕ
   at = slot_word d.geometry s i
@@ -121,17 +159,20 @@ module _ (d : Disk) (good : HasGoodRows d) (prefix : ℕ) (direct : prefix < dir
       ne (slot_one d good p prefix s lt direct (subst (λ (t : ℕ). (t ≡ p) ⊎ HasSlot (d.chain p) t) slot word.owned) owned)
 
   -- where the chain itself differs so, the chains do
-  pub chains_differ : ((a v : ℕ) → ChainSays d.geometry prefix (chain prefix) a v → ((a ≡ at) × (v ≡ value)) ⊎ ((a ≢ at) × (ChainSays d.geometry prefix (d.chain prefix) a v ⊎ SaysRun first fresh a v)))
+  pub chains_differ : ((a v : ℕ) → ChainSays d.geometry prefix (chain prefix) a v
+      → ((a ≡ at) × (v ≡ value)) ⊎ ((a ≢ at) × (ChainSays d.geometry prefix (d.chain prefix) a v ⊎ SaysRun first fresh a v)))
       → (a v : ℕ) → ChainsSay (with_table d chain d.pointer) a v → ((a ≡ at) × (v ≡ value)) ⊎ ((a ≢ at) × (TableSays d a v ⊎ SaysRun first fresh a v))
   chains_differ own a v told = elim (cases_eq told.prefix prefix) [
     | inl e ↦ ⊎_elim (λ here. inl here)
         (λ (there : (a ≢ at) × (ChainSays d.geometry prefix (d.chain prefix) a v ⊎ SaysRun first fresh a v)). inr (
           there.0,
-          ⊎_elim (λ (says : ChainSays d.geometry prefix (d.chain prefix) a v). inl (inl (record { prefix = prefix; direct = direct; says = says }))) (λ (word : SaysRun first fresh a v). inr word) there.1,
+          ⊎_elim (λ (says : ChainSays d.geometry prefix (d.chain prefix) a v). inl (inl (record { prefix = prefix; direct = direct; says = says })))
+              (λ (word : SaysRun first fresh a v). inr word) there.1,
         ))
         (own a v (subst (λ (p : ℕ). ChainSays d.geometry p (chain p) a v) e told.says))
     | inr ne ↦
-        let says : ChainSays d.geometry told.prefix (d.chain told.prefix) a v = subst (λ (rs : List Row). ChainSays d.geometry told.prefix rs a v) (same told.prefix told.direct ne) told.says in
+        let says : ChainSays d.geometry told.prefix (d.chain told.prefix) a v = subst (λ (rs : List Row). ChainSays d.geometry told.prefix rs a v)
+        (same told.prefix told.direct ne) told.says in
         inr (other_chain told.prefix a v told.direct ne says, inl (inl (record { prefix = told.prefix; direct = told.direct; says = says })))
   ]
 
@@ -156,7 +197,9 @@ module _ (d : Disk) (chain : ℕ → List Row) (at value first : ℕ) (fresh : L
   )
 
 -- where the chains and the pointers differ so, the table does
-pub table_differs : (old new : Disk) (word value first : ℕ) (fresh : List ℕ) → DiffersAt (TableSays old) (ChainsSay new) (SaysRun first fresh) word value
-    → DiffersAt (TableSays old) (PointersSay new) (SaysRun first fresh) word value → DiffersAt (TableSays old) (TableSays new) (SaysRun first fresh) word value
+pub table_differs : (old new : Disk) (word value first : ℕ) (fresh : List ℕ) → DiffersAt (TableSays old) (ChainsSay new) (SaysRun first fresh) word
+    value
+    → DiffersAt (TableSays old) (PointersSay new) (SaysRun first fresh) word value → DiffersAt (TableSays old) (TableSays new) (SaysRun first fresh)
+    word value
 table_differs old new word value first fresh chains pointers a v (inl told) = chains a v told
 table_differs old new word value first fresh chains pointers a v (inr told) = pointers a v told

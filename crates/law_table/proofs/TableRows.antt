@@ -1,5 +1,26 @@
 -- Where the rows of a table stand.
-use Rattle.std.proofs.Common.{◌≡◌, ◌⊎◌, inl, inr, ⊎_elim, ℕ, ◌+◌, ◌-◌, ◌*◌, ◌^◌, ◌<◌, ◌≤◌, List, length, sym, ◌∙◌, ap, subst, arith, div-lt_iff_lt-mul}
+use Rattle.std.proofs.Common.{
+  ◌≡◌,
+  ◌⊎◌,
+  inl,
+  inr,
+  ⊎_elim,
+  ℕ,
+  ◌+◌,
+  ◌-◌,
+  ◌*◌,
+  ◌^◌,
+  ◌<◌,
+  ◌≤◌,
+  List,
+  length,
+  sym,
+  ◌∙◌,
+  ap,
+  subst,
+  arith,
+  div-lt_iff_lt-mul,
+}
 use Rattle.std.specs.Prelude.{slice_index, All, Contains}
 use Rattle.std.proofs.lemmas.Nat.{pow-add, pow_pos}
 use Rattle.pm_layout.specs.declared.Geometry.{Geometry}
@@ -27,16 +48,20 @@ module _ (d : Disk) (good : HasGoodRows d) where
   is_row p row lt has = good.table p has.0 row lt (at_listed (d.chain p) row has)
 
   -- its slot is the direct one of its prefix, or an indirect one
-  pub row_slot : (p : ℕ) (row : Row) → p < directs d.geometry → Contains (d.chain p) row → (row.slot ≡ p) ⊎ ((directs d.geometry ≤ row.slot) × (row.slot < slots d.geometry))
-  row_slot p row lt has = ⊎_elim (λ (own : (row.slot ≡ p) × (has.0 ≡ 0)). inl own.0) (λ (indirect : (directs d.geometry ≤ row.slot) × (row.slot < slots d.geometry)). inr indirect) (is_row p row lt has).place
+  pub row_slot : (p : ℕ) (row : Row) → p < directs d.geometry → Contains (d.chain p) row
+      → (row.slot ≡ p) ⊎ ((directs d.geometry ≤ row.slot) × (row.slot < slots d.geometry))
+  row_slot p row lt has = ⊎_elim (λ (own : (row.slot ≡ p) × (has.0 ≡ 0)). inl own.0)
+      (λ (indirect : (directs d.geometry ≤ row.slot) × (row.slot < slots d.geometry)). inr indirect) (is_row p row lt has).place
 
   pub row_slot_small : (row : Row) → Contains (rows d) row → row.slot < slots d.geometry
   row_slot_small row has =
       let found = of_chain d row has in
-      ⊎_elim (λ (own : row.slot ≡ found.0). omega (arith, own, found.1)) (λ (indirect : (directs d.geometry ≤ row.slot) × (row.slot < slots d.geometry)). indirect.1) (row_slot found.0 row found.1 found.2)
+      ⊎_elim (λ (own : row.slot ≡ found.0). omega (arith, own, found.1))
+      (λ (indirect : (directs d.geometry ≤ row.slot) × (row.slot < slots d.geometry)). indirect.1) (row_slot found.0 row found.1 found.2)
 
   -- two rows of one slot are one row, so that no two chains have one
-  pub one_chain : (p q : ℕ) (r s : Row) → p < directs d.geometry → q < directs d.geometry → Contains (d.chain p) r → Contains (d.chain q) s → r.slot ≡ s.slot → p ≡ q
+  pub one_chain : (p q : ℕ) (r s : Row) → p < directs d.geometry → q < directs d.geometry → Contains (d.chain p) r → Contains (d.chain q) s
+      → r.slot ≡ s.slot → p ≡ q
   one_chain p q r s pl ql has_r has_s e =
       let same : r ≡ s = distinct_same (λ (x : Row). x.slot) (rows d) good.apart.slot r s (in_table d p r pl has_r) (in_table d q s ql has_s) e in
       sym (is_row p r pl has_r).prefix ∙ ap (λ (x : Row). prefix_of d.geometry x.print) same ∙ (is_row q s ql has_s).prefix
@@ -65,7 +90,9 @@ module _ (d : Disk) (good : HasGoodRows d) where
   stands_in_chain row has =
       let found = of_chain d row has in
       let prefix : prefix_of d.geometry row.print ≡ found.0 = (is_row d good found.0 row found.1 found.2).prefix in
-      subst (λ (p : ℕ). StandsInChain d p row) (sym prefix) (record { direct = found.1; prefix_is = prefix; listed = found.2; slot = row_slot d good found.0 row found.1 found.2 })
+      subst (λ (p : ℕ). StandsInChain d p row) (sym prefix)
+      (record { direct = found.1; prefix_is = prefix; listed = found.2; slot = row_slot d good found.0 row found.1 found.2 })
 
-  pub chain_holds : (prefix : ℕ) (row : Row) → prefix < directs d.geometry → Contains (d.chain prefix) row → Contains (rows d) row × (prefix_of d.geometry row.print ≡ prefix)
+  pub chain_holds : (prefix : ℕ) (row : Row) → prefix < directs d.geometry → Contains (d.chain prefix) row
+      → Contains (rows d) row × (prefix_of d.geometry row.print ≡ prefix)
   chain_holds prefix row lt has = (in_table d prefix row lt has, (is_row d good prefix row lt has).prefix)

@@ -33,16 +33,19 @@ repointed d page value = with_table d d.chain (λ p. if p == page then value els
 
 -- the row stands first in the chain of this prefix
 abbrev pub opened : Disk → ℕ → Row → Disk
-opened d prefix row = with_table d (λ p. if p == prefix then row ∷ d.chain p else d.chain p) d.pointer
+opened d prefix row = with_table d (λ p. if p == prefix then row ∷ d.chain p else d.chain p)
+    d.pointer
 
 -- the row stands behind that of the direct slot, or first where the direct slot has none
 abbrev pub link : ℕ → Row → List Row → List Row
 link prefix row [] = row ∷ []
-link prefix row (first ∷ rows) = if first.slot == prefix then first ∷ row ∷ rows else row ∷ first ∷ rows
+link prefix row (first ∷ rows) = if first.slot == prefix then first ∷ row ∷ rows else row ∷ first
+    ∷ rows
 
 -- so in the chain of this prefix
 abbrev pub linked : Disk → ℕ → Row → Disk
-linked d prefix row = with_table d (λ p. if p == prefix then link prefix row (d.chain p) else d.chain p) d.pointer
+linked d prefix row = with_table d (λ p. if p == prefix then link prefix row (d.chain p) else
+    d.chain p) d.pointer
 
 -- the rows at other slots
 abbrev pub without : ℕ → List Row → List Row
@@ -56,7 +59,8 @@ removed d slot = with_table d (λ p. without slot (d.chain p)) d.pointer
 -- the slot whose next word leads to this one, where the chain comes from slot `before`
 abbrev pub slot_before : ℕ → List Row → ℕ → ℕ
 slot_before before [] slot = before
-slot_before before (row ∷ rows) slot = if row.slot == slot then before else slot_before row.slot rows slot
+slot_before before (row ∷ rows) slot = if row.slot == slot then before else slot_before row.slot
+    rows slot
 
 -- the slot that follows this one in the chain, 0 for none
 abbrev pub slot_after : List Row → ℕ → ℕ

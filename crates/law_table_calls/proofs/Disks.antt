@@ -15,8 +15,10 @@ use Rattle.fact_table.specs.Table.{Table, IsTable}
 use Rattle.fact_calls.specs.declared.call.TableCall.{TableCall}
 use Rattle.fact_calls.specs.Follows.{MayMake, Follows, After, Allows}
 use Rattle.law_table.specs.Words.{IsTableWord}
-use Rattle.fact_calls.specs.Made.{IsSameBut, MayCall, HasCalled, HoldsRows, LeavesCall, MakesCall, MayCallAll, HasCalledSome, LeavesAll, MakesAll}
-use Rattle.law_table_calls.specs.Calls.{MayMakeOn, AllowsOn, HasRows, IsOnDisk, LeavesDisksAfter}
+use Rattle.fact_calls.specs.Made.{IsSameBut, MayCall, HasCalled, HoldsRows, LeavesCall, MakesCall, MayCallAll, HasCalledSome, HasRowsAfter, LeavesAfter}
+use Rattle.fact_calls.specs.Made.{LeavesAll, LeavesEach, MakesAll}
+use Rattle.fact_calls.proofs.Moments.{moments_weaken}
+use Rattle.law_table_calls.specs.Calls.{MayMakeOn, AllowsOn, HasRows, IsOnDisk, HasDiskAfter, LeavesDisksAfter, LeavesDisksSome}
 use Rattle.law_table_calls.proofs.Fitting.{IsFitting, valid_fitting, call_fitting, after_fitting}
 
 module _ (d : Disk) (valid : IsValid d) (s u : State) (stands : Stands (DiskSays d) s) where
@@ -50,10 +52,18 @@ module _ (d : Disk) (valid : IsValid d) (s u : State) (stands : Stands (DiskSays
       end_disk : (t' : Table) (e : Disk) → IsSameBut d e → Are (rows e) → IsTable e u.now t' → Stands (TableSays e) u → IsOnDisk d t' u Are
       end_disk t' e same are holds settled =
           let next = next_of e same holds.good are in
-          record { disk = e; same = same; are = are; valid = next.valid; stands = standing_table d valid s u stands only e next settled; table = holds }
+          record {
+            disk = e;
+            same = same;
+            are = are;
+            valid = next.valid;
+            stands = standing_table d valid s u stands only e next settled;
+            table = holds;
+          }
 
   -- one call
-  module _ (t : Table) (call : TableCall) (may : MayCall d s.now t call) (on : MayMakeOn d (rows d) call) (stores : StoresOnly (IsTableWord t.geometry) s u) where
+  module _ (t : Table) (call : TableCall) (may : MayCall d s.now t call) (on : MayMakeOn d (rows d) call)
+      (stores : StoresOnly (IsTableWord t.geometry) s u) where
     new_fitting : (rs : List Row) → Follows d.geometry (rows d) call rs → IsFitting d rs
     new_fitting rs follows =
         let may_here = subst (λ (g : Geometry). MayMake g (rows d) call) (sym may.table.geometry) may.may in
@@ -63,10 +73,15 @@ module _ (d : Disk) (valid : IsValid d) (s u : State) (stands : Stands (DiskSays
     one_fitting rs (inl same) = subst (IsFitting d) (sym same) (valid_fitting d valid)
     one_fitting rs (inr follows) = new_fitting rs follows
 
-    pub call_images : Agree u.now u.past → LeavesCall t call s u → LeavesOnly s u (λ c. HasRows d c (λ rs. (rs ≡ rows d) ⊎ Follows d.geometry (rows d) call rs))
+    pub call_images : Agree u.now u.past → LeavesCall t call s u
+        → LeavesOnly s u (λ c. HasRows d c (λ rs. (rs ≡ rows d) ⊎ Follows d.geometry (rows d) call rs))
     call_images agree leaves =
         let held = leaves d may table_stands in
-        record { extends = held.extends; each = λ m c late left. image_disk t may.table stores _ one_fitting agree m c late left (held.each m c late left) }
+        record {
+          extends = held.extends;
+          each = λ m c late left. image_disk t may.table stores _ one_fitting agree m c late left
+              (held.each m c late left);
+        }
 
     pub call_made : (t' : Table) → MakesCall t t' call s u → IsOnDisk d t' u (Follows d.geometry (rows d) call)
     call_made t' makes =
@@ -74,7 +89,8 @@ module _ (d : Disk) (valid : IsValid d) (s u : State) (stands : Stands (DiskSays
         end_disk t may.table stores _ new_fitting t' is.disk is.same is.follows is.table (is.settled table_stands)
 
   -- calls, one after another
-  module _ (t : Table) (calls : List TableCall) (may : MayCallAll d s.now t calls) (on : AllowsOn d calls) (stores : StoresOnly (IsTableWord t.geometry) s u) where
+  module _ (t : Table) (calls : List TableCall) (may : MayCallAll d s.now t calls) (on : AllowsOn d calls)
+      (stores : StoresOnly (IsTableWord t.geometry) s u) where
     made_fitting : (k : ℕ) (rs : List Row) → After d.geometry calls (rows d) k rs → IsFitting d rs
     made_fitting = after_fitting d valid calls (subst (λ (g : Geometry). Allows g calls (rows d)) (sym may.table.geometry) may.allows) on
 
@@ -82,13 +98,20 @@ module _ (d : Disk) (valid : IsValid d) (s u : State) (stands : Stands (DiskSays
     either_fitting k rs (inl now) = made_fitting k rs now
     either_fitting k rs (inr next) = made_fitting (k + 1) rs next
 
-    pub calls_images : Agree u.now u.past → LeavesAll t calls s u → LeavesDisksAfter d calls s u
+    images_after : Agree u.now u.past → (n : ℕ) → LeavesAfter d calls n s u → LeavesDisksAfter d calls n s u
+    images_after agree n leaves = record {
+      extends = leaves.extends;
+      told = moments_weaken (moment s.past) n u (HasRowsAfter d calls) (HasDiskAfter d calls)
+          (λ m k c late left is. image_disk t may.table stores _ (either_fitting k) agree m c late left is) leaves.told;
+    }
+
+    pub calls_images : Agree u.now u.past → LeavesAll t calls s u → LeavesDisksSome d calls s u
     calls_images agree leaves =
         let held = leaves d may table_stands in
-        record {
-          extends = held.extends;
-          each = λ m late. let was = held.each m late in record { k = was.k; images = λ c left. image_disk t may.table stores _ (either_fitting was.k) agree m c late left (was.images c left) };
-        }
+        record { made = held.made; few = held.few; leaves = images_after agree held.made held.leaves }
+
+    pub each_images : Agree u.now u.past → LeavesEach t calls s u → LeavesDisksAfter d calls (length calls) s u
+    each_images agree leaves = images_after agree (length calls) (leaves d may table_stands)
 
     pub calls_made : (t' : Table) → MakesAll t t' calls s u → IsOnDisk d t' u (After d.geometry calls (rows d) (length calls))
     calls_made t' makes =

@@ -20,7 +20,23 @@ use Rattle.fact_counts.specs.Counted.{raised, up, down, counted, MaySettleUp, Ma
 use Rattle.fact_rows.specs.Put.{new_row}
 use Rattle.fact_calls.specs.declared.call.TableCall.{TableCall}
 use Rattle.fact_calls.specs.declared.call.TableCall.TheVariants.{Insert, Raise, SettleUp, SettleDown, Recount, RemoveZero, ClearStale}
-use Rattle.fact_calls.specs.Follows.{HasRowAt, NoneAt, MayComeIn, MayMake, IsSlotFor, at_direct, at_indirect, InsertsRow, CountsRow, RemovesRow, Follows, After, none_made, one_more, Allows}
+use Rattle.fact_calls.specs.Follows.{
+  HasRowAt,
+  NoneAt,
+  MayComeIn,
+  MayMake,
+  IsSlotFor,
+  at_direct,
+  at_indirect,
+  InsertsRow,
+  CountsRow,
+  RemovesRow,
+  Follows,
+  After,
+  none_made,
+  one_more,
+  Allows,
+}
 use Rattle.law_table_calls.specs.Calls.{MayMakeOn, AllowsOn}
 
 -- rows that fit the disk, and of which no two are at one slot
@@ -48,10 +64,12 @@ module _ (d : Disk) (valid : IsValid d) (olds news : List Row) (old : IsFitting 
     put_fits : FitsDisk d news
     put_fits = record {
       read = λ r has. ⊎_elim (λ (here : r ≡ row). inl (at_page r here)) (λ (was : Contains olds r). old.fits.read r was) (puts.only r has);
-      log_no_row = λ page p. none_found news page (λ r has e. ⊎_elim (λ (here : r ≡ row). valid.single.log_unmapped page p (subst (IsMapped d) e (at_page r here)))
+      log_no_row = λ page p. none_found news page
+          (λ r has e. ⊎_elim (λ (here : r ≡ row). valid.single.log_unmapped page p (subst (IsMapped d) e (at_page r here)))
           (λ (was : Contains olds r). none_listed olds page (old.fits.log_no_row page p) r was e) (puts.only r has));
       unshared = λ page none. old.fits.unshared page (put_none row olds news puts page none);
-      near = all_listed (IsNear d) news (λ r has. ⊎_elim (λ (here : r ≡ row). subst (IsNear d) (sym here) near) (λ (was : Contains olds r). near_of r was) (puts.only r has));
+      near = all_listed (IsNear d) news (λ r has. ⊎_elim (λ (here : r ≡ row). subst (IsNear d) (sym here) near)
+          (λ (was : Contains olds r). near_of r was) (puts.only r has));
     }
 
     put_one : (r s : Row) → (r ≡ row) ⊎ Contains olds r → (s ≡ row) ⊎ Contains olds s → r.slot ≡ s.slot → r ≡ s
@@ -69,14 +87,16 @@ module _ (d : Disk) (valid : IsValid d) (olds news : List Row) (old : IsFitting 
     set = recount slot (f counts.row).rfc (f counts.row).uc
 
     abbrev IsNearSo : Type 0
-    IsNearSo = (mappings d counts.row.page ≤ (f counts.row).rfc + (f counts.row).uc) × ((f counts.row).rfc ≤ mappings d counts.row.page + (f counts.row).uc)
+    IsNearSo = (mappings d counts.row.page ≤ (f counts.row).rfc + (f counts.row).uc) × ((f counts.row).rfc ≤ mappings d counts.row.page +
+        (f counts.row).uc)
 
     module _ (near : IsNearSo) where
       near_at : (r : Row) → Contains olds r → IsNear d (set r)
       near_at r was = elim (cases_eq r.slot slot) [
         | inl e ↦
             let same : counts.row ≡ r = old.one counts.row r counts.there was (counts.slot_is ∙ sym e) in
-            let moved = subst (λ (p : ℕ). (mappings d p ≤ (f counts.row).rfc + (f counts.row).uc) × ((f counts.row).rfc ≤ mappings d p + (f counts.row).uc)) (ap (λ (x : Row). x.page) same) near in
+            let moved = subst (λ (p : ℕ). (mappings d p ≤ (f counts.row).rfc + (f counts.row).uc) × ((f counts.row).rfc ≤ mappings d
+            p + (f counts.row).uc)) (ap (λ (x : Row). x.page) same) near in
             subst (IsNear d) (sym (counts.recounts.this r e)) moved
         | inr ne ↦ subst (IsNear d) (sym (counts.recounts.others r ne)) (near_of r was)
       ]
@@ -86,7 +106,8 @@ module _ (d : Disk) (valid : IsValid d) (olds news : List Row) (old : IsFitting 
         read = λ r has. let was = counts.recounts.only r has in subst (IsReadPage d) (ap (λ (x : Row). x.page) was.2) (old.fits.read was.0 was.1);
         log_no_row = λ page p. none_found news page (λ r has e. let was = counts.recounts.only r has in
             none_listed olds page (old.fits.log_no_row page p) was.0 was.1 (ap (λ (x : Row). x.page) was.2 ∙ e));
-        unshared = λ page none. old.fits.unshared page (none_found olds page (λ r has. none_listed news page none (set r) (counts.recounts.kept r has)));
+        unshared = λ page none. old.fits.unshared page
+            (none_found olds page (λ r has. none_listed news page none (set r) (counts.recounts.kept r has)));
         near = all_listed (IsNear d) news (λ r has. let was = counts.recounts.only r has in subst (IsNear d) was.2 (near_at was.0 was.1));
       }
 
@@ -107,7 +128,8 @@ module _ (d : Disk) (valid : IsValid d) (olds news : List Row) (old : IsFitting 
   -- a row without references and updates goes
   module _ (slot : ℕ) (removes : RemovesRow slot olds news) (may : HasRowAt olds slot (λ row. (row.rfc ≡ 0) × (row.uc ≡ 0))) where
     counts_none : (removes.row.rfc ≡ 0) × (removes.row.uc ≡ 0)
-    counts_none = subst (λ (row : Row). (row.rfc ≡ 0) × (row.uc ≡ 0)) (old.one may.row removes.row may.there removes.there (may.slot_is ∙ sym removes.slot_is)) may.has
+    counts_none = subst (λ (row : Row). (row.rfc ≡ 0) × (row.uc ≡ 0)) (old.one may.row removes.row may.there removes.there
+        (may.slot_is ∙ sym removes.slot_is)) may.has
 
     few : mappings d removes.row.page ≤ 1
     few = omega (arith, counts_none.0, counts_none.1, (near_of removes.row removes.there).0)
@@ -126,7 +148,8 @@ module _ (d : Disk) (valid : IsValid d) (olds news : List Row) (old : IsFitting 
 
   -- each call
   module _ (g : Geometry) where
-    insert_fitting : (print : List ℕ) (page : ℕ) → MayComeIn g olds print page → IsMapped d page → InsertsRow g print page olds news → IsFitting d news
+    insert_fitting : (print : List ℕ) (page : ℕ) → MayComeIn g olds print page → IsMapped d page → InsertsRow g print page olds news
+        → IsFitting d news
     insert_fitting print page may mapped is =
         let alone : mappings d page ≤ 1 = old.fits.unshared page (none_found olds page may.new_page) in
         put_fitting (new_row is.slot print page) is.puts mapped (omega (arith, alone), omega arith) (slot_unused g olds print is.slot is.slot_for)
@@ -141,7 +164,8 @@ module _ (d : Disk) (valid : IsValid d) (olds news : List Row) (old : IsFitting 
         let most : is.row.rfc + 2 ≤ mappings d is.row.page + is.row.uc = on is.row is.there is.slot_is in
         count_fitting up slot is (omega (arith, near.0, can.0), omega (arith, most, can.0))
 
-    down_fitting : (slot : ℕ) → HasRowAt olds slot MaySettleDown → MayMakeOn d olds (SettleDown slot) → CountsRow down slot olds news → IsFitting d news
+    down_fitting : (slot : ℕ) → HasRowAt olds slot MaySettleDown → MayMakeOn d olds (SettleDown slot) → CountsRow down slot olds news
+        → IsFitting d news
     down_fitting slot may on is =
         let near = near_of is.row is.there in
         let can : MaySettleDown is.row = counts_have down slot is MaySettleDown may in

@@ -17,10 +17,12 @@ use Rattle.law_table_on_disk.specs.TableLaws.{FitsDisk}
 pub put_none : (row : Row) (olds news : List Row) → PutsRow row olds news → (page : ℕ) → IsNone (row_of news page) → IsNone (row_of olds page)
 put_none row olds news puts page none = none_found olds page (λ r has. none_listed news page none r (puts.kept r has))
 
-pub taken_none : (row : Row) (olds news : List Row) → TakesRow row olds news → (page : ℕ) → IsNone (row_of news page) → (page ≡ row.page) ⊎ IsNone (row_of olds page)
+pub taken_none : (row : Row) (olds news : List Row) → TakesRow row olds news → (page : ℕ) → IsNone (row_of news page)
+    → (page ≡ row.page) ⊎ IsNone (row_of olds page)
 taken_none row olds news takes page none = elim (cases_eq page row.page) [
   | inl e ↦ inl e
-  | inr ne ↦ inr (none_found olds page (λ r has. ⊎_elim (λ (e : r ≡ row). λ at. ne (sym at ∙ ap (λ (x : Row). x.page) e)) (λ (still : Contains news r). none_listed news page none r still) (takes.kept r has)))
+  | inr ne ↦ inr (none_found olds page (λ r has. ⊎_elim (λ (e : r ≡ row). λ at. ne (sym at ∙ ap (λ (x : Row). x.page) e))
+      (λ (still : Contains news r). none_listed news page none r still) (takes.kept r has)))
 ]
 
 module _ (d : Disk) (valid : IsValid d) (news : List Row) where
@@ -31,11 +33,13 @@ module _ (d : Disk) (valid : IsValid d) (news : List Row) where
 
     pub put_fits : FitsDisk d news
     put_fits = record {
-      read = λ r has. ⊎_elim (λ (here : r ≡ row). inl (subst (IsMapped d) (sym (ap (λ (x : Row). x.page) here)) mapped)) (λ (old : Contains (rows d) r). inr (row_found (rows d) r old)) (puts.only r has);
+      read = λ r has. ⊎_elim (λ (here : r ≡ row). inl (subst (IsMapped d) (sym (ap (λ (x : Row). x.page) here)) mapped))
+          (λ (old : Contains (rows d) r). inr (row_found (rows d) r old)) (puts.only r has);
       log_no_row = λ page p. none_found news page (λ r has e. ⊎_elim (λ (here : r ≡ row). valid.single.log_unmapped page p (at_page r page here e))
           (λ (old : Contains (rows d) r). none_listed (rows d) page (valid.single.log_no_row page p) r old e) (puts.only r has));
       unshared = λ page none. valid.single.unshared page (put_none row (rows d) news puts page none);
-      near = all_listed (IsNear d) news (λ r has. ⊎_elim (λ (here : r ≡ row). subst (IsNear d) (sym here) near) (λ (old : Contains (rows d) r). All-contains (IsNear d) (rows d) r valid.near old) (puts.only r has));
+      near = all_listed (IsNear d) news (λ r has. ⊎_elim (λ (here : r ≡ row). subst (IsNear d) (sym here) near)
+          (λ (old : Contains (rows d) r). All-contains (IsNear d) (rows d) r valid.near old) (puts.only r has));
     }
 
   -- one goes, of a page that is mapped once at most
@@ -43,7 +47,8 @@ module _ (d : Disk) (valid : IsValid d) (news : List Row) where
   take_fits row takes few = record {
     read = λ r has. inr (row_found (rows d) r (takes.only r has).0);
     log_no_row = λ page p. none_found news page (λ r has. none_listed (rows d) page (valid.single.log_no_row page p) r (takes.only r has).0);
-    unshared = λ page none. ⊎_elim (λ (e : page ≡ row.page). subst (λ (p : ℕ). mappings d p ≤ 1) (sym e) few) (λ (before : IsNone (row_of (rows d) page)). valid.single.unshared page before) (taken_none row (rows d) news takes page none);
+    unshared = λ page none. ⊎_elim (λ (e : page ≡ row.page). subst (λ (p : ℕ). mappings d p ≤ 1) (sym e) few)
+        (λ (before : IsNone (row_of (rows d) page)). valid.single.unshared page before) (taken_none row (rows d) news takes page none);
     near = all_listed (IsNear d) news (λ r has. All-contains (IsNear d) (rows d) r valid.near (takes.only r has).0);
   }
 

@@ -34,12 +34,34 @@ module _ (d : Disk) (chain : ℕ → List Row) (pointer : ℕ → ℕ) where
   pub mapped_kept : (page : ℕ) → IsMapped d page → IsMapped new page
   mapped_kept page m =
       let to = m.maps_to in
-      record { ino = m.ino; idx = m.idx; maps_to = record { in_table = to.in_table; in_file = to.in_file; by = to.by; is = maps_same m.ino m.idx ∙ to.is; block = to.block } }
+      record {
+        ino = m.ino;
+        idx = m.idx;
+        maps_to = record {
+          in_table = to.in_table;
+          in_file = to.in_file;
+          by = to.by;
+          is = maps_same m.ino
+              m.idx ∙ to.is;
+          block = to.block;
+        };
+      }
 
   pub mapped_only : (page : ℕ) → IsMapped new page → IsMapped d page
   mapped_only page m =
       let to = m.maps_to in
-      record { ino = m.ino; idx = m.idx; maps_to = record { in_table = to.in_table; in_file = to.in_file; by = to.by; is = sym (maps_same m.ino m.idx) ∙ to.is; block = to.block } }
+      record {
+        ino = m.ino;
+        idx = m.idx;
+        maps_to = record {
+          in_table = to.in_table;
+          in_file = to.in_file;
+          by = to.by;
+          is = sym (maps_same m.ino m.idx)
+              ∙ to.is;
+          block = to.block;
+        };
+      }
 
   pub log_page_kept : (page : ℕ) → IsLogPage d page → IsLogPage new page
   log_page_kept page p = record { ino = p.ino; in_table = p.in_table; used = p.used; listed = p.listed }
@@ -48,10 +70,19 @@ module _ (d : Disk) (chain : ℕ → List Row) (pointer : ℕ → ℕ) where
   log_page_only page p = record { ino = p.ino; in_table = p.in_table; used = p.used; listed = p.listed }
 
   pub free_kept : (page : ℕ) → IsFree d page → IsFree new page
-  free_kept page free = record { data_page = free.data_page; in_no_log = λ p. free.in_no_log (log_page_only page p); unmapped = mappings_same page ∙ free.unmapped }
+  free_kept page free = record {
+    data_page = free.data_page;
+    in_no_log = λ p. free.in_no_log (log_page_only page p);
+    unmapped = mappings_same
+        page ∙ free.unmapped;
+  }
 
   pub free_only : (page : ℕ) → IsFree new page → IsFree d page
-  free_only page free = record { data_page = free.data_page; in_no_log = λ p. free.in_no_log (log_page_kept page p); unmapped = sym (mappings_same page) ∙ free.unmapped }
+  free_only page free = record {
+    data_page = free.data_page;
+    in_no_log = λ p. free.in_no_log (log_page_kept page p);
+    unmapped = sym (mappings_same page) ∙ free.unmapped;
+  }
 
   pub keeps_files : KeepsFiles d new
   keeps_files = record {

@@ -19,11 +19,13 @@ use Rattle.law_table_on_disk.proofs.PutRows.{fresh_row}
 use Rattle.law_table_on_disk.proofs.Removed.{may_take, remove_next}
 
 pub stale_clears : (d : Disk) (page : ℕ) → IsValid d → page < d.geometry.pages → IsNone (row_of (rows d) page) → MayRepoint d page 0
-stale_clears d page valid in_image none = may_repoint d page 0 valid (stale_may_clear d page valid.accepted (good_of d valid) in_image (none_listed (rows d) page none))
+stale_clears d page valid in_image none = may_repoint d page 0 valid (stale_may_clear d page valid.accepted (good_of d valid) in_image
+    (none_listed (rows d) page none))
 
 module _ (d : Disk) (prefix : ℕ) (row : Row) (valid : IsValid d) (new_row : IsNewRow d prefix row) (small : row.slot < slots d.geometry) where
   pub may_point : MayRepoint d row.page (row.slot + 1)
-  may_point = may_repoint d row.page (row.slot + 1) valid (fresh_may_point d prefix row valid.accepted (good_of d valid) (fresh_row d prefix row valid new_row) small)
+  may_point = may_repoint d row.page (row.slot + 1) valid (fresh_may_point d prefix row valid.accepted (good_of d valid)
+      (fresh_row d prefix row valid new_row) small)
 
   abbrev pointed : Disk
   pointed = repointed d row.page (row.slot + 1)
@@ -51,4 +53,5 @@ module _ (d : Disk) (prefix : ℕ) (row : Row) (valid : IsValid d) (new_row : Is
   }
 
 pub removed_clears : (d : Disk) (prefix : ℕ) (row : Row) → MayRemove d prefix row → MayRepoint (removed d row.slot) row.page 0
-removed_clears d prefix row may = may_repoint (removed d row.slot) row.page 0 (remove_next d prefix row may).valid (taken_may_clear d prefix row (may_take d prefix row may))
+removed_clears d prefix row may = may_repoint (removed d row.slot) row.page 0 (remove_next d prefix row may).valid
+    (taken_may_clear d prefix row (may_take d prefix row may))

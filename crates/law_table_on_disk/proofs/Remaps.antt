@@ -14,7 +14,12 @@ use Rattle.law_write.proofs.WriteCounts.{maps_old, maps_others}
 use Rattle.law_table_on_disk.specs.MappingLaws.{RemapsInode, RemapsPlace, LowersCut, UnmapsPlace}
 
 pub write_remaps : (ino : ℕ) (old new : Disk) → Writes ino old new → RemapsInode ino old new
-write_remaps ino old new w = record { inodes = ap (λ (g : Geometry). g.inodes) w.relogs.geometry; in_table = w.in_table; others = λ i idx ne. maps_others ino old new w i idx ne }
+write_remaps ino old new w = record {
+  inodes = ap (λ (g : Geometry). g.inodes) w.relogs.geometry;
+  in_table = w.in_table;
+  others = λ i idx ne.
+      maps_others ino old new w i idx ne;
+}
 
 abbrev cut_by : Bool → Option Mapping → Option Mapping
 cut_by b m = if b then m else None
@@ -32,16 +37,18 @@ module _ (size more idx : ℕ) (le : size ≤ more) where
       grown : idx < pages_of size → idx < pages_of more
       grown lt = omega arith
 
-module _ (ino : ℕ) (old new : Disk) (w : Writes ino old new) (one : w.n ≡ 1) (in_file : w.first < 4096) (grows : size_of (old.inode ino).log ≤ w.size) where
-  other_place : (j : ℕ) → j ≢ w.first → maps new ino j ≡ maps old ino j
-  other_place j ne = w.other j (out (cases_lt j w.first)) ∙ not_cut (size_of (old.inode ino).log) w.size j grows (maps old ino j) (λ x is. mapping-below (old.inode ino).log j x (sym (maps_old ino old new w j) ∙ is))
-    where
-      out : (j < w.first) ⊎ (w.first ≤ j) → (j < w.first) ⊎ (w.first + w.n ≤ j)
-      out (inl low) = inl low
-      out (inr from) = inr (omega arith)
+module _ (ino : ℕ) (old new : Disk) (w : Writes ino old new) (one : w.n ≡ 1) (in_file : w.first < 4096) (grows : size_of (old.inode ino).log ≤ w.size)
+  where
+    other_place : (j : ℕ) → j ≢ w.first → maps new ino j ≡ maps old ino j
+    other_place j ne = w.other j (out (cases_lt j w.first)) ∙ not_cut (size_of (old.inode ino).log) w.size j grows (maps old ino j)
+        (λ x is. mapping-below (old.inode ino).log j x (sym (maps_old ino old new w j) ∙ is))
+      where
+        out : (j < w.first) ⊎ (w.first ≤ j) → (j < w.first) ⊎ (w.first + w.n ≤ j)
+        out (inl low) = inl low
+        out (inr from) = inr (omega arith)
 
-  pub write_remaps_place : RemapsPlace ino w.first old new
-  write_remaps_place = record { in_inode = write_remaps ino old new w; in_file = in_file; other_places = other_place }
+    pub write_remaps_place : RemapsPlace ino w.first old new
+    write_remaps_place = record { in_inode = write_remaps ino old new w; in_file = in_file; other_places = other_place }
 
 -- what a dying inode maps
 dying_below : (c idx : ℕ) (log : Log) → idx < c → maps_by_use (Dying c) log idx ≡ mapping log idx
@@ -70,7 +77,8 @@ module _ (ino c k : ℕ) (old new : Disk) (is : LowersCut ino c k old new) where
   other_inode i idx ne = ap (λ (n : Inode). maps_by_use n.use_of n.log idx) (is.others i ne)
 
   below_or_past : (j : ℕ) → j ≢ c → (j < c) ⊎ (c ≤ j) → maps new ino j ≡ maps old ino j
-  below_or_past j ne (inl low) = maps_after j ∙ dying_below c j (old.inode ino).log low ∙ sym (dying_below k j (old.inode ino).log (omega (arith, low, is.below))) ∙ sym (maps_before j)
+  below_or_past j ne (inl low) = maps_after j ∙ dying_below c j (old.inode ino).log low ∙ sym
+      (dying_below k j (old.inode ino).log (omega (arith, low, is.below))) ∙ sym (maps_before j)
   below_or_past j ne (inr from) = maps_after j ∙ dying_past c j (old.inode ino).log from ∙ sym (is.greatest j (omega (arith, ne, from)))
 
   pub lowered_cut_unmaps : UnmapsPlace ino c old new

@@ -35,12 +35,18 @@ module _ (d : Disk) (row : Row) (valid : IsValid d) (has : Contains (rows d) row
   still_found page ne some =
       let found = row_listed (rows d) page some in
       ⊎_elim (λ (e : found.0 ≡ row). absurd (ne (sym found.2 ∙ ap (λ (x : Row). x.page) e)))
-      (λ (still : Contains news found.0). subst (λ (p : ℕ). IsSome (row_of news p)) found.2 (row_found news found.0 still)) (takes.kept found.0 found.1)
+      (λ (still : Contains news found.0). subst (λ (p : ℕ). IsSome (row_of news p)) found.2 (row_found news found.0 still))
+      (takes.kept found.0 found.1)
 
   pub remove_own : (print : Print) → IsUnshared d row.page → IsOwn print d → IsOwn print (removed d row.slot)
   remove_own print unshared own = own_kept d (removed d row.slot).chain d.pointer print own
-      (all_listed (λ (r : Row). r.print ≡ print (page_bytes d r.page)) news (λ r listed. All-contains (λ (x : Row). x.print ≡ print (page_bytes d x.page)) (rows d) r own.prints (takes.only r listed).0))
-      (λ ino idx m place done (some : HasRow d m.block). elim (cases_eq m.block row.page) [ inl e ↦ inl (unshared ino idx m place done e) | inr ne ↦ inr (still_found m.block ne some) ])
+      (all_listed (λ (r : Row). r.print ≡ print (page_bytes d r.page)) news
+      (λ r listed. All-contains (λ (x : Row). x.print ≡ print (page_bytes d x.page)) (rows d) r own.prints (takes.only r listed).0))
+      (λ ino idx m place done (some : HasRow d m.block). elim (cases_eq m.block row.page) [
+        | inl e ↦ inl (unshared ino idx m place done e)
+        | inr ne ↦
+            inr (still_found m.block ne some)
+      ])
 
 module _ (d : Disk) (prefix : ℕ) (row : Row) (may : MayRemove d prefix row) where
   listed : Contains (rows d) row
@@ -62,11 +68,15 @@ module _ (d : Disk) (prefix : ℕ) (row : Row) (may : MayRemove d prefix row) wh
       exact_one : (r : Row) → Contains (rows (removed d row.slot)) r → IsExact d r
       exact_one r has =
           let only = (takes d row may.valid listed).only r has in
-          ⊎_elim (λ (e : r.slot ≡ row.slot). absurd (only.1 e)) (λ exact. exact) (All-contains (λ (x : Row). (x.slot ≡ row.slot) ⊎ IsExact d x) (rows d) r others only.0)
+          ⊎_elim (λ (e : r.slot ≡ row.slot). absurd (only.1 e)) (λ exact. exact) (All-contains (λ (x : Row). (x.slot ≡ row.slot) ⊎ IsExact d x)
+          (rows d) r others only.0)
 
   pub close_one_word : row.slot ≡ prefix → IsOneWord d (removed d row.slot) 0 [] (slot_word d.geometry prefix 0) 0
-  close_one_word own = disk_word d (removed d row.slot) remove_next may.valid 0 [] (slot_word d.geometry prefix 0) 0 (closing_decides d prefix row may_take own)
+  close_one_word own = disk_word d (removed d row.slot) remove_next may.valid 0 [] (slot_word d.geometry prefix 0) 0
+      (closing_decides d prefix row may_take own)
 
-  pub unlink_one_word : row.slot ≢ prefix → IsOneWord d (removed d row.slot) 0 [] (slot_word d.geometry (slot_before prefix (d.chain prefix) row.slot) 5) (slot_after (d.chain prefix) row.slot)
-  unlink_one_word other = disk_word d (removed d row.slot) remove_next may.valid 0 [] (slot_word d.geometry (slot_before prefix (d.chain prefix) row.slot) 5) (slot_after (d.chain prefix) row.slot)
+  pub unlink_one_word : row.slot ≢ prefix → IsOneWord d (removed d row.slot) 0 [] (slot_word d.geometry (slot_before prefix (d.chain prefix) row.slot)
+      5) (slot_after (d.chain prefix) row.slot)
+  unlink_one_word other = disk_word d (removed d row.slot) remove_next may.valid 0 []
+      (slot_word d.geometry (slot_before prefix (d.chain prefix) row.slot) 5) (slot_after (d.chain prefix) row.slot)
       (unlink_decides d prefix row may_take other)

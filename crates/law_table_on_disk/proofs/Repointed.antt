@@ -32,9 +32,16 @@ module _ (d : Disk) (page value : ℕ) where
 
 module _ (d : Disk) (page value : ℕ) (may : MayRepoint d page value) where
   decides : IsOneTableWord d (repointed d page value) 0 [] (pointer_word d.geometry page) value
-  decides = pointer_decides d page value (record { accepted = may.valid.accepted; good = good_of d may.valid; in_image = may.in_image; small = may.small; leads = may.leads })
+  decides = pointer_decides d page value (record {
+    accepted = may.valid.accepted;
+    good = good_of d may.valid;
+    in_image = may.in_image;
+    small = may.small;
+    leads = may.leads;
+  })
 
   pub repoint_one_word : IsOneWord d (repointed d page value) 0 [] (pointer_word d.geometry page) value
   repoint_one_word = disk_word d (repointed d page value)
-      (next_disk d d.chain (repointed d page value).pointer may.valid decides.good (subst (FitsDisk d) (sym (rows_repointed d page value)) (valid_fits d may.valid)))
+      (next_disk d d.chain (repointed d page value).pointer may.valid decides.good (subst (FitsDisk d) (sym (rows_repointed d page value))
+      (valid_fits d may.valid)))
       may.valid 0 [] (pointer_word d.geometry page) value decides

@@ -25,7 +25,8 @@ module _ (d : Disk) (chain : ℕ → List Row) (pointer : ℕ → ℕ) where
 
   -- prints that are right, and rows for all that is complete and not left alone
   pub own_kept : (print : Print) → IsOwn print d → All (λ row. row.print ≡ print (page_bytes d row.page)) (rows new)
-      → ((ino idx : ℕ) (m : Mapping) → LivePlace d ino idx m → m.flag ≡ Complete → HasRow d m.block → IsAlone m ⊎ HasRow new m.block) → IsOwn print new
+      → ((ino idx : ℕ) (m : Mapping) → LivePlace d ino idx m → m.flag ≡ Complete → HasRow d m.block → IsAlone m ⊎ HasRow new m.block)
+      → IsOwn print new
   own_kept print own prints has = record {
     zeros = λ ino idx k m place past small. own.zeros ino idx k m (live_only ino idx m place) past small;
     prints = All-weaker (λ (row : Row). row.print ≡ print (page_bytes d row.page)) (λ (row : Row). row.print ≡ print (page_bytes new row.page))

@@ -12,12 +12,18 @@ use Rattle.law_table.proofs.Rows.{row_listed, row_found}
 use Rattle.law_table_on_disk.specs.TableLaws.{IsNextDisk, FitsDisk}
 use Rattle.law_table_on_disk.proofs.Frame.{mappings_same, named_same, mapped_only, log_page_only, free_kept}
 
-module _ (d : Disk) (chain : ℕ → List Row) (pointer : ℕ → ℕ) (valid : IsValid d) (good : HasGoodRows (with_table d chain pointer)) (fits : FitsDisk d (rows (with_table d chain pointer))) where
+module _ (d : Disk) (chain : ℕ → List Row) (pointer : ℕ → ℕ) (valid : IsValid d) (good : HasGoodRows (with_table d chain pointer))
+    (fits : FitsDisk d (rows (with_table d chain pointer))) where
   abbrev new : Disk
   new = with_table d chain pointer
 
   linked : (i : ℕ) (u : Use) → IsLinked d i u → IsLinked new i u
-  linked i Live one = record { name = one.name; leads = named_same d chain pointer one.name ∙ one.leads; alone = λ other e. one.alone other (sym (named_same d chain pointer other) ∙ e) }
+  linked i Live one = record {
+    name = one.name;
+    leads = named_same d chain pointer one.name ∙ one.leads;
+    alone = λ other e. one.alone other
+        (sym (named_same d chain pointer other) ∙ e);
+  }
   linked i Free none = λ name e. none name (sym (named_same d chain pointer name) ∙ e)
   linked i (Dying c) none = λ name e. none name (sym (named_same d chain pointer name) ∙ e)
 

@@ -18,12 +18,24 @@ module _ (d : Disk) (valid : IsValid d) where
   unread : (first n : ℕ) → ((a : ℕ) → IsIn first n a → IsTableWord d.geometry a) → IsUntold d first n → IsUnread d first n
   unread first n within untold a v says inside = untold a v (said_of_table d valid a v (within a inside) says) inside
 
-  slot_run : (slot first n : ℕ) → slot < slots d.geometry → slot_word d.geometry slot 0 ≤ first → first + n ≤ slot_word d.geometry slot 0 + 8 → (a : ℕ) → IsIn first n a → IsTableWord d.geometry a
-  slot_run slot first n in_slots low high a inside = (omega (arith, inside.0), omega (arith, inside.1, slot_word_low d.geometry slot 7 in_slots (omega arith)))
+  slot_run : (slot first n : ℕ) → slot < slots d.geometry → slot_word d.geometry slot 0 ≤ first → first + n ≤ slot_word d.geometry slot 0 + 8
+      → (a : ℕ) → IsIn first n a → IsTableWord d.geometry a
+  slot_run slot first n in_slots low high a inside = (
+    omega (arith, inside.0),
+    omega (
+      arith,
+      inside.1,
+      slot_word_low d.geometry slot 7 in_slots
+          (omega arith),
+    ),
+  )
 
   module _ (slot : ℕ) where
-    pub indirect_unread : directs d.geometry ≤ slot → slot < slots d.geometry → ((r : Row) → Contains (rows d) r → r.slot ≢ slot) → IsUnread d (slot_word d.geometry slot 0) 8
-    indirect_unread above in_slots none = unread (slot_word d.geometry slot 0) 8 (slot_run slot (slot_word d.geometry slot 0) 8 in_slots (omega arith) (omega arith)) (indirect_untold d (good_of d valid) slot above in_slots none)
+    pub indirect_unread : directs d.geometry ≤ slot → slot < slots d.geometry → ((r : Row) → Contains (rows d) r → r.slot ≢ slot)
+        → IsUnread d (slot_word d.geometry slot 0) 8
+    indirect_unread above in_slots none = unread (slot_word d.geometry slot 0) 8 (slot_run slot (slot_word d.geometry slot 0) 8 in_slots (omega arith)
+        (omega arith)) (indirect_untold d (good_of d valid) slot above in_slots none)
 
     pub closed_unread : slot < directs d.geometry → ((r : Row) → Contains (rows d) r → r.slot ≢ slot) → IsUnread d (slot_word d.geometry slot 1) 4
-    closed_unread in_directs none = unread (slot_word d.geometry slot 1) 4 (slot_run slot (slot_word d.geometry slot 1) 4 (omega (arith, in_directs)) (omega arith) (omega arith)) (closed_untold d (good_of d valid) slot in_directs none)
+    closed_unread in_directs none = unread (slot_word d.geometry slot 1) 4 (slot_run slot (slot_word d.geometry slot 1) 4 (omega (arith, in_directs))
+        (omega arith) (omega arith)) (closed_untold d (good_of d valid) slot in_directs none)

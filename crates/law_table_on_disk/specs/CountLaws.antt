@@ -22,7 +22,8 @@ pub record MayRecount (d : Disk) (row : Row) (rfc uc : ℕ) : Type 0 where
 -- the count word of its slot decides
 abbrev pub RecountIsOneWord : Type 0
 RecountIsOneWord = (d : Disk) (row : Row) (rfc uc : ℕ) → MayRecount d row rfc uc
-    → IsOneWord d (recounted d row.slot rfc uc) 0 [] (slot_word d.geometry row.slot 4) (count_word rfc uc)
+    → IsOneWord d (recounted d row.slot rfc uc) 0 [] (slot_word d.geometry row.slot 4)
+    (count_word rfc uc)
 
 -- the row's count is the number of mappings of its page, and isn't 0
 abbrev pub IsExact : Disk → Row → Type 0
@@ -34,9 +35,11 @@ OthersAreExact d slot = All (λ row. (row.slot ≡ slot) ⊎ IsExact d row) (row
 
 -- the last count that was off is set right
 abbrev pub RecountMakesExact : Type 0
-RecountMakesExact = (d : Disk) (row : Row) (rfc : ℕ) → IsValid d → Contains (rows d) row → OthersAreExact d row.slot → rfc ≡ mappings d row.page → rfc ≢ 0
+RecountMakesExact = (d : Disk) (row : Row) (rfc : ℕ) → IsValid d → Contains (rows d) row
+    → OthersAreExact d row.slot → rfc ≡ mappings d row.page → rfc ≢ 0
     → Exact (recounted d row.slot rfc 0)
 
 -- prints and marks don't read the counts
 abbrev pub RecountStaysOwn : Type 0
-RecountStaysOwn = (print : Print) (d : Disk) (slot rfc uc : ℕ) → IsOwn print d → IsOwn print (recounted d slot rfc uc)
+RecountStaysOwn = (print : Print) (d : Disk) (slot rfc uc : ℕ) → IsOwn print d
+    → IsOwn print (recounted d slot rfc uc)

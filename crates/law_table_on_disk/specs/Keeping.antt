@@ -24,4 +24,5 @@ pub record KeepsFiles (old new : Disk) : Type 0 where
 
 -- whatever becomes of the chains and pointers
 abbrev pub TableChangesKeepFiles : Type 0
-TableChangesKeepFiles = (d : Disk) (chain : ℕ → List Row) (pointer : ℕ → ℕ) → KeepsFiles d (with_table d chain pointer)
+TableChangesKeepFiles = (d : Disk) (chain : ℕ → List Row) (pointer : ℕ → ℕ)
+    → KeepsFiles d (with_table d chain pointer)

@@ -18,11 +18,13 @@ pub record MayRepoint (d : Disk) (page value : ℕ) : Type 0 where
 
 -- its word decides
 abbrev pub RepointIsOneWord : Type 0
-RepointIsOneWord = (d : Disk) (page value : ℕ) → MayRepoint d page value → IsOneWord d (repointed d page value) 0 [] (pointer_word d.geometry page) value
+RepointIsOneWord = (d : Disk) (page value : ℕ) → MayRepoint d page value
+    → IsOneWord d (repointed d page value) 0 [] (pointer_word d.geometry page) value
 
 -- the counts are as exact as before
 abbrev pub RepointStaysExact : Type 0
 RepointStaysExact = (d : Disk) (page value : ℕ) → Exact d → Exact (repointed d page value)
 
 abbrev pub RepointStaysOwn : Type 0
-RepointStaysOwn = (print : Print) (d : Disk) (page value : ℕ) → IsOwn print d → IsOwn print (repointed d page value)
+RepointStaysOwn = (print : Print) (d : Disk) (page value : ℕ) → IsOwn print d
+    → IsOwn print (repointed d page value)

@@ -19,16 +19,19 @@ pub record IsNextDisk (d e : Disk) : Type 0 where
   pub valid : IsValid e
   pub read : (page : ℕ) → IsSome (row_of (rows e) page) → IsReadPage d page
 
--- where only words of the table are stored to, each image that a stop may leave on the way stands for the disk of its table
+-- where only words of the table are stored to, each image that a stop may leave on the way stands
+-- for the disk of its table
 abbrev pub TablesInImagesAreDisks : Type 0
 TablesInImagesAreDisks = (d e : Disk) → IsNextDisk d e → IsValid d
-    → (s t : State) → Stands (DiskSays d) s → Agree t.now t.past → length t.now ≡ 512 * d.geometry.pages → StoresOnly (IsTableWord d.geometry) s t
+    → (s t : State) → Stands (DiskSays d) s → Agree t.now t.past
+    → length t.now ≡ 512 * d.geometry.pages → StoresOnly (IsTableWord d.geometry) s t
     → (m : ℕ) (c : List ℕ) → moment s.past ≤ m → Left t.past m c → HoldsTable c e → StandsFor c e
 
 -- where the table of the next disk stands afterwards, the device stands for that disk
 abbrev pub StandingTablesAreDisks : Type 0
 StandingTablesAreDisks = (d e : Disk) → IsNextDisk d e → IsValid d
-    → (s t : State) → Stands (DiskSays d) s → StoresOnly (IsTableWord d.geometry) s t → Stands (TableSays e) t → Stands (DiskSays e) t
+    → (s t : State) → Stands (DiskSays d) s → StoresOnly (IsTableWord d.geometry) s t
+    → Stands (TableSays e) t → Stands (DiskSays e) t
 
 -- what a valid disk asks of its rows beside the table's own sense
 pub record FitsDisk (d : Disk) (rs : List Row) : Type 0 where
@@ -39,7 +42,8 @@ pub record FitsDisk (d : Disk) (rs : List Row) : Type 0 where
 
 -- a disk with another table is valid where its rows make sense and fit
 abbrev pub FittingTablesAreValid : Type 0
-FittingTablesAreValid = (d e : Disk) → IsValid d → e ≡ with_table d e.chain e.pointer → HasGoodRows e → FitsDisk d (rows e) → IsNextDisk d e
+FittingTablesAreValid = (d e : Disk) → IsValid d → e ≡ with_table d e.chain e.pointer
+    → HasGoodRows e → FitsDisk d (rows e) → IsNextDisk d e
 
 -- those of a valid disk do
 abbrev pub ValidDisksFit : Type 0

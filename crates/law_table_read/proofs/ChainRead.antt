@@ -5,7 +5,20 @@ use Rattle.std.proofs.lemmas.Bool.{cases_eq}
 use Rattle.pm_device.specs.Reading.{Reads}
 use Rattle.pm_layout.specs.declared.Geometry.{Geometry}
 use Rattle.pm_layout.specs.Geometry.{directs, slot_word}
-use Rattle.dn_model.specs.Table.{Row, RowsSay, at_field, at_next, at_later, ChainSays, at_direct_page, at_direct_next, at_row, first_slot, chained, direct_page_word}
+use Rattle.dn_model.specs.Table.{
+  Row,
+  RowsSay,
+  at_field,
+  at_next,
+  at_later,
+  ChainSays,
+  at_direct_page,
+  at_direct_next,
+  at_row,
+  first_slot,
+  chained,
+  direct_page_word,
+}
 use Rattle.dn_model.specs.Faults.{RowStands, StartsAt, starts_direct, starts_chained}
 use Rattle.law_unique.proofs.SameChain.{page_direct, page_indirect, chained_direct, chained_indirect}
 use Rattle.law_unique.proofs.TableWalks.{Walk, IsFull}
@@ -23,7 +36,8 @@ module _ (g : Geometry) (c : List ℕ) where
   linked_rest : (row : Row) (rows : List Row) → Linked (row ∷ rows) → Linked rows
   linked_rest row rows l = record {
     stand = λ k r at. l.stand (suc k) r at;
-    linked = λ k r next at after. let one : suc k + 1 ≡ suc (k + 1) = omega arith in l.linked (suc k) r next at (ap (slice_get (row ∷ rows)) one ∙ after);
+    linked = λ k r next at after. let one : suc k + 1 ≡ suc (k + 1) = omega arith in l.linked (suc k) r next at
+        (ap (slice_get (row ∷ rows)) one ∙ after);
     last = λ k r at long. l.last (suc k) r at (omega (arith, long));
   }
 
@@ -41,10 +55,12 @@ module _ (g : Geometry) (c : List ℕ) where
     linked_from : (rows : List Row) → Walk g c prefix direct rows → IsFull g c prefix direct rows → Linked rows
     linked_from rows walk full = record { stand = walk.stand; linked = walk.linked; last = full.last }
 
-    page_read : (rows : List Row) → Walk g c prefix direct rows → IsFull g c prefix direct rows → slice_index c (slot_word g prefix 0) ≡ direct_page_word prefix rows
+    page_read : (rows : List Row) → Walk g c prefix direct rows → IsFull g c prefix direct rows
+        → slice_index c (slot_word g prefix 0) ≡ direct_page_word prefix rows
     page_read [] walk full = (full.none refl).0
     page_read (row ∷ rows) walk full = elim (cases_eq row.slot prefix) [
-      | inl e ↦ ap (λ (s : ℕ). slice_index c (slot_word g s 0)) (sym e) ∙ (walk.stand 0 row refl).1 0 (omega arith) ∙ sym (page_direct prefix row rows e)
+      | inl e ↦ ap (λ (s : ℕ). slice_index c (slot_word g s 0)) (sym e) ∙ (walk.stand 0 row refl).1 0 (omega arith) ∙ sym
+          (page_direct prefix row rows e)
       | inr ne ↦ by_start ne (walk.first row refl) ∙ sym (page_indirect prefix row rows ne)
     ]
       where
@@ -52,10 +68,12 @@ module _ (g : Geometry) (c : List ℕ) where
         by_start ne (starts_direct some e) = absurd (ne e)
         by_start ne (starts_chained none e) = none
 
-    next_read : (rows : List Row) → Walk g c prefix direct rows → IsFull g c prefix direct rows → slice_index c (slot_word g prefix 5) ≡ first_slot (chained prefix rows)
+    next_read : (rows : List Row) → Walk g c prefix direct rows → IsFull g c prefix direct rows → slice_index c (slot_word g prefix 5) ≡ first_slot
+        (chained prefix rows)
     next_read [] walk full = (full.none refl).1
     next_read (row ∷ rows) walk full = elim (cases_eq row.slot prefix) [
-      | inl e ↦ ap (λ (s : ℕ). slice_index c (slot_word g s 5)) (sym e) ∙ next_first row rows (linked_from (row ∷ rows) walk full) ∙ ap first_slot (sym (chained_direct prefix row rows e))
+      | inl e ↦ ap (λ (s : ℕ). slice_index c (slot_word g s 5)) (sym e) ∙ next_first row rows (linked_from (row ∷ rows) walk full) ∙ ap first_slot
+          (sym (chained_direct prefix row rows e))
       | inr ne ↦ by_start ne (walk.first row refl) ∙ ap first_slot (sym (chained_indirect prefix row rows ne))
     ]
       where

@@ -58,10 +58,12 @@ module _ (P : ℕ → Type 0) where
   least_or_none zero each = inr (λ k lt p. omega (arith, lt))
   least_or_none (suc n) each = by_first (least_or_none n (λ k lt. each k (omega (arith, lt)))) (each n (omega arith))
     where
-      by_first : ((k : ℕ) × IsLeast n P k) ⊎ ((k : ℕ) → k < n → P k → ⊥) → Decided (P n) → ((k : ℕ) × IsLeast (suc n) P k) ⊎ ((k : ℕ) → k < suc n → P k → ⊥)
+      by_first : ((k : ℕ) × IsLeast n P k) ⊎ ((k : ℕ) → k < n → P k → ⊥) → Decided (P n) → ((k : ℕ) × IsLeast (suc n) P k) ⊎ ((k : ℕ) → k < suc n
+          → P k → ⊥)
       by_first (inl found) d = inl (found.0, record { below = omega (arith, found.1.below); has = found.1.has; least = found.1.least })
       by_first (inr none) (inl p) = inl (n, record { below = omega arith; has = p; least = none })
-      by_first (inr none) (inr not) = inr (λ k lt p. ⊎_elim (λ (e : k ≡ n). not (subst P e p)) (λ (ne : k ≡ n → ⊥). none k (omega (arith, lt, ne)) p) (cases_eq k n))
+      by_first (inr none) (inr not) = inr (λ k lt p. ⊎_elim (λ (e : k ≡ n). not (subst P e p)) (λ (ne : k ≡ n → ⊥). none k (omega (arith, lt, ne)) p)
+          (cases_eq k n))
 
   pub decide_below : (n : ℕ) → ((k : ℕ) → k < n → Decided (P k)) → Decided ((k : ℕ) × (k < n) × P k)
   decide_below n each = elim (least_or_none n each) [
@@ -72,7 +74,8 @@ module _ (P : ℕ → Type 0) where
 -- the elements of a list
 module _ {X : Type 0} (P : X → Type 0) where
   -- all of a list have P, or it has a first one that doesn't
-  pub all_or_first : ((x : X) → Decided (P x)) → (xs : List X) → All P xs ⊎ ((front : List X) × (x : X) × (rest : List X) × (xs ≡ front ++ x ∷ rest) × All P front × (P x → ⊥))
+  pub all_or_first : ((x : X) → Decided (P x)) → (xs : List X) → All P xs ⊎ ((front : List X) × (x : X) × (rest : List X) × (xs ≡ front ++ x ∷ rest) ×
+      All P front × (P x → ⊥))
   all_or_first each [] = inl (All-nil P)
   all_or_first each (x ∷ xs) = by_first (each x) (all_or_first each xs)
     where
@@ -80,7 +83,14 @@ module _ {X : Type 0} (P : X → Type 0) where
           → All P (x ∷ xs) ⊎ ((front : List X) × (y : X) × (rest : List X) × (x ∷ xs ≡ front ++ y ∷ rest) × All P front × (P y → ⊥))
       by_first (inr not) more = inr ([], x, xs, refl, All-nil P, not)
       by_first (inl p) (inl all) = inl (All-cons P x xs p all)
-      by_first (inl p) (inr found) = inr (x ∷ found.0, found.1, found.2, ap (λ (ys : List X). x ∷ ys) found.3, All-cons P x found.0 p found.4, found.5)
+      by_first (inl p) (inr found) = inr (
+        x ∷ found.0,
+        found.1,
+        found.2,
+        ap (λ (ys : List X). x ∷ ys) found.3,
+        All-cons P x found.0 p found.4,
+        found.5,
+      )
 
   pub decide_all : ((x : X) → Decided (P x)) → (xs : List X) → Decided (All P xs)
   decide_all each [] = inl (All-nil P)
@@ -99,7 +109,8 @@ module _ {X : Type 0} (P : X → Type 0) where
       by_parts : Decided (P x) → Decided ((y : X) × Contains xs y × P y) → Decided ((y : X) × Contains (x ∷ xs) y × P y)
       by_parts (inl p) d = inl (x, here x xs, p)
       by_parts (inr not) (inl found) = inl (found.0, later x found.0 xs found.1, found.2)
-      by_parts (inr not) (inr none) = inr (λ some. ⊎_elim (λ (e : x ≡ some.0). not (subst P (sym e) some.2)) (λ (more : Contains xs some.0). none (some.0, more, some.2)) (cons_cases x some.0 xs some.1))
+      by_parts (inr not) (inr none) = inr (λ some. ⊎_elim (λ (e : x ≡ some.0). not (subst P (sym e) some.2))
+          (λ (more : Contains xs some.0). none (some.0, more, some.2)) (cons_cases x some.0 xs some.1))
 
 -- a number is listed or not
 pub decide_contains : (xs : List ℕ) (x : ℕ) → Decided (Contains xs x)

@@ -75,7 +75,8 @@ module _ (g : Geometry) (c : List ℕ) (slot prefix k : ℕ) where
   print_is : IsPrint print_there
   print_is = record {
     twenty = refl;
-    bytes = All-append IsByte (big_bytes 8 (word 1) ++ big_bytes 8 (word 2)) (big_bytes 4 (word 3)) (All-append IsByte (big_bytes 8 (word 1)) (big_bytes 8 (word 2)) (bytes_small 8 (word 1)) (bytes_small 8 (word 2))) (bytes_small 4 (word 3));
+    bytes = All-append IsByte (big_bytes 8 (word 1) ++ big_bytes 8 (word 2)) (big_bytes 4 (word 3))
+        (All-append IsByte (big_bytes 8 (word 1)) (big_bytes 8 (word 2)) (bytes_small 8 (word 1)) (bytes_small 8 (word 2))) (bytes_small 4 (word 3));
   }
 
   counts_there : (w : ℕ) → w ≡ w / 2 ^ 32 * 2 ^ 32 + w % 2 ^ 32
@@ -96,7 +97,8 @@ module _ (g : Geometry) (c : List ℕ) (slot prefix k : ℕ) where
     there_one : (h : HoldsRow g c slot prefix k) → h.row ≡ row_there
     there_one h =
         let same : (j : ℕ) → j < 5 → row_word h.row j ≡ row_word row_there j = λ j lt. sym (h.stands.1 j lt) ∙ word_there j lt in
-        let print = print_word-one h.row.print print_there (print_in h.row h.is_row) print_is (same 1 (omega arith)) (same 2 (omega arith)) (same 3 (omega arith)) in
+        let print = print_word-one h.row.print print_there (print_in h.row h.is_row) print_is (same 1 (omega arith)) (same 2 (omega arith))
+        (same 3 (omega arith)) in
         let small : word 4 % 2 ^ 32 < 2 ^ 32 = omega arith in
         let counts = count_word-one h.row.rfc h.row.uc (word 4 / 2 ^ 32) (word 4 % 2 ^ 32) h.is_row.uc small (same 4 (omega arith)) in
         let page : h.row.page ≡ word 0 = same 0 (omega arith) in
@@ -111,7 +113,8 @@ module _ (g : Geometry) (c : List ℕ) (slot prefix k : ℕ) where
 
     decide_may : Decided MayStandThere
     decide_may =
-        decide_as (((slot ≡ prefix × (k ≡ 0)) ⊎ ((directs g ≤ slot) × (slot < slots g))) × (InData g (word 0) × (prefix_of g print_there ≡ prefix))) MayStandThere
+        decide_as (((slot ≡ prefix × (k ≡ 0)) ⊎ ((directs g ≤ slot) × (slot < slots g))) × (InData g (word 0) × (prefix_of g print_there ≡ prefix)))
+        MayStandThere
         (λ all. record { place = all.0; data_page = all.1.0; prefix_is = all.1.1 }) (λ m. (m.place, (m.data_page, m.prefix_is)))
         (decide_both ((slot ≡ prefix × (k ≡ 0)) ⊎ ((directs g ≤ slot) × (slot < slots g))) (InData g (word 0) × (prefix_of g print_there ≡ prefix))
         (decide_either (slot ≡ prefix × (k ≡ 0)) ((directs g ≤ slot) × (slot < slots g))

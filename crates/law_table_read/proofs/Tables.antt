@@ -1,5 +1,28 @@
 -- The chains of all prefixes, one after another.
-use Rattle.std.proofs.Common.{◌≡◌, ◌≢◌, ◌⊎◌, inl, inr, ℕ, zero, suc, ◌+◌, ◌<◌, ◌≤◌, Bool, List, [], ◌++◌, refl, sym, ◌∙◌, ap, subst, arith, append-nil}
+use Rattle.std.proofs.Common.{
+  ◌≡◌,
+  ◌≢◌,
+  ◌⊎◌,
+  inl,
+  inr,
+  ℕ,
+  zero,
+  suc,
+  ◌+◌,
+  ◌<◌,
+  ◌≤◌,
+  Bool,
+  List,
+  [],
+  ◌++◌,
+  refl,
+  sym,
+  ◌∙◌,
+  ap,
+  subst,
+  arith,
+  append-nil,
+}
 use Rattle.std.specs.Prelude.{slice_get, Some, if◌then◌else◌, ◌==◌}
 use Rattle.std.proofs.lemmas.Bool.{cases_eq, eq-eqb, ne_eqb}
 use Rattle.pm_device.specs.Reading.{Reads}
@@ -69,14 +92,16 @@ module _ (g : Geometry) (c : List ℕ) where
       rows_more =
           let one : suc n ≡ n + 1 = omega arith in
           let z : 0 + n ≡ n = omega arith in
-          let old : rows_from more 0 n ≡ rows_from below.chain 0 n = rows_from-same more below.chain 0 n (λ q low lt. put_other below.chain n w.rows q (λ e. omega (arith, lt, e))) in
+          let old : rows_from more 0 n ≡ rows_from below.chain 0 n = rows_from-same more below.chain 0 n (λ q low lt. put_other below.chain n w.rows q
+          (λ e. omega (arith, lt, e))) in
           let new : rows_from more (0 + n) 1 ≡ w.rows = append-nil (more (0 + n)) ∙ ap more z ∙ put_here below.chain n w.rows in
           ap (rows_from more 0) one ∙ rows_from-split more 0 n 1 ∙ (λ i. old i ++ new i)
 
       read_more : ReadBelow (suc n)
       read_more = record {
         chain = more;
-        reads = by_prefix (λ q rows. Reads (ChainSays g q rows) c) (walk_reads g c n direct w.rows (whole_walk g c below.chain n direct w) w.full) below.reads;
+        reads = by_prefix (λ q rows. Reads (ChainSays g q rows) c) (walk_reads g c n direct w.rows (whole_walk g c below.chain n direct w) w.full)
+            below.reads;
         are_rows = λ q k row lt at. by_prefix (λ p rows. (j : ℕ) (r : Row) → slice_get rows j ≡ Some r → IsRow g p j r)
             (λ j r here. (w.reached.front.own j r here).0) (λ p low j r here. below.are_rows p j r low here) q lt k row at;
         apart = subst AreApart (sym rows_more) w.reached.front.apart;
@@ -100,5 +125,10 @@ module _ (g : Geometry) (c : List ℕ) where
 pub tables_read_or_faulty : TablesAreReadOrFaulty
 tables_read_or_faulty g c = elim (read_all g c (directs g) (omega arith)) [
   | inl fault ↦ inl fault
-  | inr below ↦ inr (record { chain = below.chain; reads = below.reads; are_rows = λ q k row lt at. below.are_rows q k row lt at; apart = below.apart })
+  | inr below ↦ inr (record {
+    chain = below.chain;
+    reads = below.reads;
+    are_rows = λ q k row lt at. below.are_rows q k row lt at;
+    apart = below.apart;
+  })
 ]

@@ -1,5 +1,31 @@
 -- The walk along a chain, row by row: to its end, or to the first fault of the table.
-use Rattle.std.proofs.Common.{◌≡◌, ◌≢◌, ◌⊎◌, inl, inr, ⊎_elim, ℕ, zero, suc, ◌+◌, ◌<◌, ◌≤◌, List, [], ◌∷◌, ◌++◌, length, refl, sym, ◌∙◌, ap, subst, arith, length-append, append_assoc}
+use Rattle.std.proofs.Common.{
+  ◌≡◌,
+  ◌≢◌,
+  ◌⊎◌,
+  inl,
+  inr,
+  ⊎_elim,
+  ℕ,
+  zero,
+  suc,
+  ◌+◌,
+  ◌<◌,
+  ◌≤◌,
+  List,
+  [],
+  ◌∷◌,
+  ◌++◌,
+  length,
+  refl,
+  sym,
+  ◌∙◌,
+  ap,
+  subst,
+  arith,
+  length-append,
+  append_assoc,
+}
 use Rattle.std.specs.Prelude.{slice_index, slice_get, Some}
 use Rattle.std.proofs.lemmas.Bool.{cases_eq}
 use Rattle.std.proofs.lemmas.List.{nil_from_length}
@@ -8,7 +34,22 @@ use Rattle.pm_layout.specs.declared.Geometry.{Geometry}
 use Rattle.pm_layout.specs.Geometry.{directs, slots, slot_word}
 use Rattle.dn_model.specs.Table.{Row, rows_from}
 use Rattle.dn_model.specs.Valid.{IsRow, AreApart}
-use Rattle.dn_model.specs.Faults.{RowStands, ComesNext, direct_row, first_chained, after_row, IsDirectNext, IsIndirect, StartsAt, starts_direct, starts_chained, IsReached, TableFault, no_row, no_next}
+use Rattle.dn_model.specs.Faults.{
+  RowStands,
+  ComesNext,
+  direct_row,
+  first_chained,
+  after_row,
+  IsDirectNext,
+  IsIndirect,
+  StartsAt,
+  starts_direct,
+  starts_chained,
+  IsReached,
+  TableFault,
+  no_row,
+  no_next,
+}
 use Rattle.law_unique.proofs.SameChain.{row_one}
 use Rattle.law_unique.proofs.TableWalks.{slice_get-behind, Walk, IsFull}
 use Rattle.law_table_read.specs.Tables.{HoldsRow}
@@ -38,12 +79,14 @@ module _ (g : Geometry) (c : List ℕ) (chain : ℕ → List Row) (prefix : ℕ)
 
     module _ (holder slot : ℕ) (comes : ComesNext g c prefix so_far holder slot) where
       -- the last row so far leads to the slot
-      leads_by : ComesNext g c prefix so_far holder slot → (k : ℕ) (row : Row) → slice_get so_far k ≡ Some row → k + 1 ≡ length so_far → slice_index c (slot_word g row.slot 5) ≡ slot
+      leads_by : ComesNext g c prefix so_far holder slot → (k : ℕ) (row : Row) → slice_get so_far k ≡ Some row → k + 1 ≡ length so_far
+          → slice_index c (slot_word g row.slot 5) ≡ slot
       leads_by (direct_row none some h e) k row at long = absurd (omega (arith, long, ap length none))
       leads_by (first_chained none page h e) k row at long = absurd (omega (arith, long, ap length none))
       leads_by (after_row front last is h e) k row at long =
           let place : k ≡ length front = omega (arith, long, ap length is, length-append front (last ∷ [])) in
-          let there : slice_get so_far (length front) ≡ Some last = ap (λ (xs : List Row). slice_get xs (length front)) is ∙ slice_get-behind front [] last in
+          let there : slice_get so_far (length front) ≡ Some last = ap (λ (xs : List Row). slice_get xs (length front)) is ∙ slice_get-behind front []
+          last in
           let same : row ≡ last = same_Some row last (sym at ∙ ap (slice_get so_far) place ∙ there) in
           ap (λ (r : Row). slice_index c (slot_word g r.slot 5)) same ∙ sym e
 
@@ -54,18 +97,24 @@ module _ (g : Geometry) (c : List ℕ) (chain : ℕ → List Row) (prefix : ℕ)
       starts_by (after_row front last is h e) nil = absurd (not_nil so_far front last is nil)
 
       -- one more row
-      module _ (new : Row) (stands : RowStands g c slot new) (is : IsRow g prefix (length so_far) new) (apart : AreApart (rows_from chain 0 prefix ++ so_far ++ new ∷ [])) where
+      module _ (new : Row) (stands : RowStands g c slot new) (is : IsRow g prefix (length so_far) new)
+          (apart : AreApart (rows_from chain 0 prefix ++ so_far ++ new ∷ [])) where
         grown_own : (k : ℕ) (row : Row) → slice_get (so_far ++ new ∷ []) k ≡ Some row → IsRow g prefix k row × RowStands g c row.slot row
         grown_own k row at = ⊎_elim
             (λ (old : (k < length so_far) × (slice_get so_far k ≡ Some row)). reached.front.own k row old.1)
             (λ (last : (k ≡ length so_far) × (new ≡ row)).
-            subst (λ (r : Row). IsRow g prefix k r × RowStands g c r.slot r) last.1 (subst (λ (j : ℕ). IsRow g prefix j new) (sym last.0) is, subst (λ (s : ℕ). RowStands g c s new) (sym stands.0) stands))
+            subst (λ (r : Row). IsRow g prefix k r × RowStands g c r.slot r) last.1 (
+              subst (λ (j : ℕ). IsRow g prefix j new) (sym last.0) is,
+              subst (λ (s : ℕ). RowStands g c s new) (sym stands.0) stands,
+            ))
             (push_cases so_far new k row at)
 
-        grown_linked : (k : ℕ) (row next : Row) → slice_get (so_far ++ new ∷ []) k ≡ Some row → slice_get (so_far ++ new ∷ []) (k + 1) ≡ Some next → slice_index c (slot_word g row.slot 5) ≡ next.slot
+        grown_linked : (k : ℕ) (row next : Row) → slice_get (so_far ++ new ∷ []) k ≡ Some row → slice_get (so_far ++ new ∷ []) (k + 1) ≡ Some next
+            → slice_index c (slot_word g row.slot 5) ≡ next.slot
         grown_linked k row next at after = by_cases (push_cases so_far new k row at) (push_cases so_far new (k + 1) next after)
           where
-            by_cases : ((k < length so_far) × (slice_get so_far k ≡ Some row)) ⊎ ((k ≡ length so_far) × (new ≡ row)) → ((k + 1 < length so_far) × (slice_get so_far (k + 1) ≡ Some next)) ⊎ ((k + 1 ≡ length so_far) × (new ≡ next))
+            by_cases : ((k < length so_far) × (slice_get so_far k ≡ Some row)) ⊎ ((k ≡ length so_far) × (new ≡ row))
+                → ((k + 1 < length so_far) × (slice_get so_far (k + 1) ≡ Some next)) ⊎ ((k + 1 ≡ length so_far) × (new ≡ next))
                 → slice_index c (slot_word g row.slot 5) ≡ next.slot
             by_cases (inl a) (inl b) = reached.front.linked k row next a.1 b.1
             by_cases (inl a) (inr b) = leads_by comes k row a.1 b.0 ∙ sym stands.0 ∙ ap (λ (r : Row). r.slot) b.1
@@ -93,9 +142,11 @@ module _ (g : Geometry) (c : List ℕ) (chain : ℕ → List Row) (prefix : ℕ)
         }
 
       -- the rows that may stand in one slot are one
-      same_row : (h : HoldsRow g c slot prefix (length so_far)) (row : Row) → RowStands g c slot row → IsRow g prefix (length so_far) row → row ≡ h.row
+      same_row : (h : HoldsRow g c slot prefix (length so_far)) (row : Row) → RowStands g c slot row → IsRow g prefix (length so_far) row
+          → row ≡ h.row
       same_row h row stands is =
-          row_one g prefix prefix (length so_far) (length so_far) row h.row is h.is_row (stands.0 ∙ sym h.stands.0) (λ i lt. sym (stands.1 i lt) ∙ h.stands.1 i lt)
+          row_one g prefix prefix (length so_far) (length so_far) row h.row is h.is_row (stands.0 ∙ sym h.stands.0)
+          (λ i lt. sym (stands.1 i lt) ∙ h.stands.1 i lt)
 
       module _ (place : IsDirectNext g c prefix so_far ⊎ IsIndirect g slot) where
         by_apart : (h : HoldsRow g c slot prefix (length so_far)) → Decided (AreApart (rows_from chain 0 prefix ++ so_far ++ h.row ∷ [])) → Step
@@ -107,11 +158,13 @@ module _ (g : Geometry) (c : List ℕ) (chain : ℕ → List Row) (prefix : ℕ)
         try_row : Step
         try_row = elim (rows_decided g c slot prefix (length so_far)) [
           | inl h ↦ by_apart h (decide_apart (rows_from chain 0 prefix ++ so_far) h.row reached.front.apart)
-          | inr none ↦ is_faulty slot (no_row chain prefix so_far holder reached comes place (λ row stands is apart. none (record { row = row; stands = stands; is_row = is })))
+          | inr none ↦ is_faulty slot (no_row chain prefix so_far holder reached comes place
+              (λ row stands is apart. none (record { row = row; stands = stands; is_row = is })))
         ]
 
       module _ (other : IsDirectNext g c prefix so_far → ⊥) where
-        none_by : slot ≡ 0 → ComesNext g c prefix so_far holder slot → so_far ≡ [] → (slice_index c (slot_word g prefix 0) ≡ 0) × (slice_index c (slot_word g prefix 5) ≡ 0)
+        none_by : slot ≡ 0 → ComesNext g c prefix so_far holder slot → so_far ≡ [] → (slice_index c (slot_word g prefix 0) ≡ 0) ×
+            (slice_index c (slot_word g prefix 5) ≡ 0)
         none_by zero_next (direct_row none some h e) nil = absurd (other (none, some))
         none_by zero_next (first_chained none page h e) nil = (page, sym e ∙ zero_next)
         none_by zero_next (after_row front last is h e) nil = absurd (not_nil so_far front last is nil)
@@ -137,7 +190,8 @@ module _ (g : Geometry) (c : List ℕ) (chain : ℕ → List Row) (prefix : ℕ)
     ]
 
     step_after : (front : List Row) (last : Row) → so_far ≡ front ++ last ∷ [] → Step
-    step_after front last is = follow last.slot (slice_index c (slot_word g last.slot 5)) (after_row front last is refl refl) (λ d. not_nil so_far front last is d.0)
+    step_after front last is = follow last.slot (slice_index c (slot_word g last.slot 5)) (after_row front last is refl refl)
+        (λ d. not_nil so_far front last is d.0)
 
     step : Step
     step = elim (last_or_none so_far) [
@@ -147,7 +201,8 @@ module _ (g : Geometry) (c : List ℕ) (chain : ℕ → List Row) (prefix : ℕ)
 
     -- the slots of the rows so far are slots of the table, and different
     not_many : length so_far ≤ slots g
-    not_many = few_rows so_far (slots g) (λ k row at. by_place k row (reached.front.own k row at).0.place) (slots_apart (rows_from chain 0 prefix) so_far reached.front.apart)
+    not_many = few_rows so_far (slots g) (λ k row at. by_place k row (reached.front.own k row at).0.place)
+        (slots_apart (rows_from chain 0 prefix) so_far reached.front.apart)
       where
         by_place : (k : ℕ) (row : Row) → (row.slot ≡ prefix × (k ≡ 0)) ⊎ ((directs g ≤ row.slot) × (row.slot < slots g)) → row.slot < slots g
         by_place k row (inl own) = omega (arith, own.0, direct)
@@ -162,7 +217,8 @@ module _ (g : Geometry) (c : List ℕ) (chain : ℕ → List Row) (prefix : ℕ)
   abbrev pub FaultOrWhole : Type 0
   FaultOrWhole = ((slot : ℕ) × TableFault g c slot) ⊎ Whole
 
-  by_step : (so_far : List Row) (reached : IsReached g c chain prefix so_far) → Step so_far reached → ((row : Row) → IsReached g c chain prefix (so_far ++ row ∷ []) → FaultOrWhole) → FaultOrWhole
+  by_step : (so_far : List Row) (reached : IsReached g c chain prefix so_far) → Step so_far reached
+      → ((row : Row) → IsReached g c chain prefix (so_far ++ row ∷ []) → FaultOrWhole) → FaultOrWhole
   by_step so_far reached (ends full) more = inr (record { rows = so_far; reached = reached; full = full })
   by_step so_far reached (is_faulty slot fault) more = inl (slot, fault)
   by_step so_far reached (goes_on row grown) more = more row grown
@@ -171,7 +227,8 @@ module _ (g : Geometry) (c : List ℕ) (chain : ℕ → List Row) (prefix : ℕ)
   run : (fuel : ℕ) (so_far : List Row) → IsReached g c chain prefix so_far → slots g < length so_far + fuel → FaultOrWhole
   run zero so_far reached much = absurd (omega (arith, much, not_many so_far reached))
   run (suc fuel) so_far reached much =
-      by_step so_far reached (step so_far reached) (λ row grown. run fuel (so_far ++ row ∷ []) grown (omega (arith, much, length-append so_far (row ∷ []))))
+      by_step so_far reached (step so_far reached) (λ row grown. run fuel (so_far ++ row ∷ []) grown
+      (omega (arith, much, length-append so_far (row ∷ []))))
 
   pub walked : IsReached g c chain prefix [] → FaultOrWhole
   walked reached = run (slots g + 1) [] reached (omega arith)

@@ -17,13 +17,16 @@ pub record HoldsRow (g : Geometry) (c : List ℕ) (slot prefix k : ℕ) : Type 0
 pub record HasChains (g : Geometry) (c : List ℕ) : Type 0 where
   pub chain : ℕ → List Row
   pub reads : (q : ℕ) → q < directs g → Reads (ChainSays g q (chain q)) c
-  pub are_rows : (q k : ℕ) (row : Row) → q < directs g → slice_get (chain q) k ≡ Some row → IsRow g q k row
+  pub are_rows : (q k : ℕ) (row : Row) → q < directs g → slice_get (chain q) k ≡ Some row
+      → IsRow g q k row
   pub apart : AreApart (rows_from chain 0 (directs g))
 
 -- it is decided whether a slot holds a row that may stand there
 abbrev pub RowsAreReadOrNot : Type 0
-RowsAreReadOrNot = (g : Geometry) (c : List ℕ) (slot prefix k : ℕ) → HoldsRow g c slot prefix k ⊎ (HoldsRow g c slot prefix k → ⊥)
+RowsAreReadOrNot = (g : Geometry) (c : List ℕ) (slot prefix k : ℕ)
+    → HoldsRow g c slot prefix k ⊎ (HoldsRow g c slot prefix k → ⊥)
 
 -- the table is read, or it has a first fault
 abbrev pub TablesAreReadOrFaulty : Type 0
-TablesAreReadOrFaulty = (g : Geometry) (c : List ℕ) → ((slot : ℕ) × TableFault g c slot) ⊎ HasChains g c
+TablesAreReadOrFaulty = (g : Geometry) (c : List ℕ) → ((slot : ℕ) × TableFault g c slot) ⊎ HasChains
+    g c

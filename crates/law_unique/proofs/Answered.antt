@@ -1,11 +1,53 @@
 -- An operation has one reply, a history one end, and operations on other names may be done in either order.
-use Rattle.std.proofs.Common.{◌≡◌, ◌≢◌, ◌⊎◌, inl, inr, ⊎_elim, ℕ, Bool, true, false, List, [], ◌∷◌, ◌++◌, length, take, drop, refl, sym, ◌∙◌, ap, subst, Option, Some, None}
+use Rattle.std.proofs.Common.{
+  ◌≡◌,
+  ◌≢◌,
+  ◌⊎◌,
+  inl,
+  inr,
+  ⊎_elim,
+  ℕ,
+  Bool,
+  true,
+  false,
+  List,
+  [],
+  ◌∷◌,
+  ◌++◌,
+  length,
+  take,
+  drop,
+  refl,
+  sym,
+  ◌∙◌,
+  ap,
+  subst,
+  Option,
+  Some,
+  None,
+}
 use Rattle.std.specs.Prelude.{Contains, IsSome, if◌then◌else◌}
 use Rattle.std.proofs.lemmas.Bool.{cases_Bool}
 use Rattle.log_entry.specs.Name.{same_name}
 use Rattle.log_entry.proofs.SameName.{same_name-true, same_name-same}
 use Rattle.dn_model.specs.Files.{Files, IsSameFiles}
-use Rattle.dn_model.specs.Apply.{Replies, grants, bad_name, missed, too_long, too_big, Grants, IsGranted, Finds, after_op, with_file, written, resized, bytes_or_none, names_of}
+use Rattle.dn_model.specs.Apply.{
+  Replies,
+  grants,
+  bad_name,
+  missed,
+  too_long,
+  too_big,
+  Grants,
+  IsGranted,
+  Finds,
+  after_op,
+  with_file,
+  written,
+  resized,
+  bytes_or_none,
+  names_of,
+}
 use Rattle.dn_model.specs.History.{Step, done, refused, no_inode, no_space, Legal}
 use Rattle.dn_model.specs.declared.op.Op.{Op}
 use Rattle.dn_model.specs.declared.op.Op.TheVariants.{Create, Write, Read, Cut, Remove, Rename, Size, List as ListAll}
@@ -15,7 +57,17 @@ use Rattle.dn_model.specs.declared.op.Reply.TheVariants.{Done, Bytes, Number, Na
 use Rattle.dn_model.specs.declared.op.Refusal.{Refusal}
 use Rattle.dn_model.specs.declared.op.Refusal.TheVariants.{BadName, TooLong, TooBig, NoInode, NoSpace}
 use Rattle.dn_model.specs.Apply.{miss}
-use Rattle.law_unique.specs.Operations.{HasOneReply, IsGrantedOrRefused, IsOfFiles, HasOneEnd, IsLegalInParts, Commute, IsAnsweredAlike, IsGrantedAlike, IsRefusal}
+use Rattle.law_unique.specs.Operations.{
+  HasOneReply,
+  IsGrantedOrRefused,
+  IsOfFiles,
+  HasOneEnd,
+  IsLegalInParts,
+  Commute,
+  IsAnsweredAlike,
+  IsGrantedAlike,
+  IsRefusal,
+}
 use Rattle.law_unique.proofs.Listings.{listing_one, here, later, none_listed, cons_cases}
 
 -- Replies.
@@ -137,17 +189,20 @@ legal_parts old new front rest = (split old new front rest, λ x. join old new f
 
 -- Operations on other names.
 other_test : (n m : List ℕ) → n ≢ m → same_name n m ≡ false
-other_test n m ne = ⊎_elim (λ (t : same_name n m ≡ true). absurd (ne (same_name-true n m t))) (λ (t : same_name n m ≡ false). t) (cases_Bool (same_name n m))
+other_test n m ne = ⊎_elim (λ (t : same_name n m ≡ true). absurd (ne (same_name-true n m t))) (λ (t : same_name n m ≡ false). t)
+    (cases_Bool (same_name n m))
 
 listed_cases : (names : List (List ℕ)) (name : List ℕ) → Contains names name ⊎ (Contains names name → ⊥)
 listed_cases [] name = inr (none_listed name)
 listed_cases (n ∷ names) name = by_test (cases_Bool (same_name n name)) (listed_cases names name)
   where
-    by_test : ((same_name n name ≡ true) ⊎ (same_name n name ≡ false)) → (Contains names name ⊎ (Contains names name → ⊥)) → Contains (n ∷ names) name ⊎ (Contains (n ∷ names) name → ⊥)
+    by_test : ((same_name n name ≡ true) ⊎ (same_name n name ≡ false)) → (Contains names name ⊎ (Contains names name → ⊥))
+        → Contains (n ∷ names) name ⊎ (Contains (n ∷ names) name → ⊥)
     by_test (inl t) more = inl (subst (Contains (n ∷ names)) (same_name-true n name t) (here n names))
     by_test (inr t) (inl found) = inl (later n name names found)
     by_test (inr t) (inr none) = inr (λ found. ⊎_elim
-        (λ (e : n ≡ name). let same : same_name n name ≡ true = ap (same_name n) (sym e) ∙ same_name-same n in let bad : true ≡ false = sym same ∙ t in cc)
+        (λ (e : n ≡ name). let same : same_name n name ≡ true = ap (same_name n) (sym e) ∙ same_name-same n in let bad : true ≡ false = sym
+        same ∙ t in cc)
         none (cons_cases n name names found))
 
 with_other : (f : Files) (n name : List ℕ) (x : Option (List ℕ)) → n ≢ name → with_file f n x name ≡ f name
@@ -174,11 +229,13 @@ AgreeOn names f g = (name : List ℕ) → Contains names name → f name ≡ g n
 local : (f g : Files) (op : Op) (name : List ℕ) → AgreeOn (names_of op) f g → f name ≡ g name → after_op f op name ≡ after_op g op name
 local f g (Create n) name agree e = λ i. if same_name n name then Some [] else e i
 local f g (Write n at []) name agree e = e
-local f g (Write n at (b ∷ bytes)) name agree e = λ i. if same_name n name then Some (written (bytes_or_none (agree n (here n []) i)) at (b ∷ bytes)) else e i
+local f g (Write n at (b ∷ bytes)) name agree e = λ i. if same_name n name then Some (written (bytes_or_none (agree n (here n []) i)) at (b ∷ bytes))
+    else e i
 local f g (Read n at long) name agree e = e
 local f g (Cut n size) name agree e = λ i. if same_name n name then Some (resized (bytes_or_none (agree n (here n []) i)) size) else e i
 local f g (Remove n) name agree e = λ i. if same_name n name then None else e i
-local f g (Rename from to) name agree e = λ i. if same_name to name then agree from (here from (to ∷ [])) i else (if same_name from name then None else e i)
+local f g (Rename from to) name agree e = λ i. if same_name to name then agree from (here from (to ∷ [])) i else
+    (if same_name from name then None else e i)
 local f g (Size n) name agree e = e
 local f g ListAll name agree e = e
 
@@ -192,7 +249,8 @@ commute f p q apart name = by_place (listed_cases (names_of p) name)
     q_agrees n in_q = frame f p n (λ in_p. apart n in_p in_q)
 
     by_place : (Contains (names_of p) name ⊎ (Contains (names_of p) name → ⊥)) → after_op (after_op f p) q name ≡ after_op (after_op f q) p name
-    by_place (inl in_p) = frame (after_op f p) q name (λ in_q. apart name in_p in_q) ∙ sym (local (after_op f q) f p name p_agrees (p_agrees name in_p))
+    by_place (inl in_p) = frame (after_op f p) q name (λ in_q. apart name in_p in_q) ∙ sym
+        (local (after_op f q) f p name p_agrees (p_agrees name in_p))
     by_place (inr out) = local (after_op f p) f q name q_agrees (frame f p name out) ∙ sym (frame (after_op f q) p name out)
 
 finds_local : (f g : Files) (op : Op) → AgreeOn (names_of op) f g → Finds f op → Finds g op
@@ -208,7 +266,8 @@ finds_local f g ListAll agree x = tt
 grants_local : (f g : Files) (op : Op) (r : Reply) → op ≢ ListAll → AgreeOn (names_of op) f g → Grants f op r → Grants g op r
 grants_local f g (Create n) r ne agree x = x
 grants_local f g (Write n at bytes) r ne agree x = x
-grants_local f g (Read n at long) r ne agree x = x ∙ ap (λ (file : Option (List ℕ)). Bytes (take long (drop at (bytes_or_none file)))) (agree n (here n []))
+grants_local f g (Read n at long) r ne agree x = x ∙ ap (λ (file : Option (List ℕ)). Bytes (take long (drop at (bytes_or_none file))))
+    (agree n (here n []))
 grants_local f g (Cut n size) r ne agree x = x
 grants_local f g (Remove n) r ne agree x = x
 grants_local f g (Rename from to) r ne agree x = x
@@ -233,6 +292,11 @@ answered_alike f p q apart ne reply =
 pub granted_alike : IsGrantedAlike
 granted_alike f p q apart =
     let same : AgreeOn (names_of q) (after_op f p) f = λ n in_q. frame f p n (λ in_p. apart n in_p in_q) in (
-      (λ gr. record { legal = gr.legal; finds = finds_local f (after_op f p) q (back (names_of q) (after_op f p) f same) gr.finds; short = gr.short; fits = gr.fits }),
+      (λ gr. record {
+        legal = gr.legal;
+        finds = finds_local f (after_op f p) q (back (names_of q) (after_op f p) f same) gr.finds;
+        short = gr.short;
+        fits = gr.fits;
+      }),
       (λ gr. record { legal = gr.legal; finds = finds_local (after_op f p) f q same gr.finds; short = gr.short; fits = gr.fits }),
     )

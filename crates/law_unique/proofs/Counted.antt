@@ -27,7 +27,8 @@ module _ (d : Disk) (page : ℕ) where
   mapped_counts m =
       let to = m.maps_to in
       let one : hit page (maps d m.ino m.idx) ≡ 1 = ap (hit page) to.is ∙ hit_there page to.by to.block in
-      chain _ _ _ one (term-le (λ j. hit page (maps d m.ino j)) 4096 m.idx to.in_file) (term-le (λ i. total 4096 (λ idx. hit page (maps d i idx))) d.geometry.inodes m.ino to.in_table)
+      chain _ _ _ one (term-le (λ j. hit page (maps d m.ino j)) 4096 m.idx to.in_file) (term-le (λ i. total 4096 (λ idx. hit page (maps d i idx)))
+      d.geometry.inodes m.ino to.in_table)
     where
       chain : (a b c : ℕ) → a ≡ 1 → a ≤ b → b ≤ c → 1 ≤ c
       chain a b c e ab bc = omega arith
@@ -38,7 +39,17 @@ module _ (d : Disk) (page : ℕ) where
       let by_inode = total-some (λ i. total 4096 (λ idx. hit page (maps d i idx))) d.geometry.inodes some in
       let by_place = total-some (λ idx. hit page (maps d by_inode.0 idx)) 4096 by_inode.2 in
       let found = hit_from page (maps d by_inode.0 by_place.0) by_place.2 in
-      record { ino = by_inode.0; idx = by_place.0; maps_to = record { in_table = by_inode.1; in_file = by_place.1; by = found.0; is = found.1; block = found.2 } }
+      record {
+        ino = by_inode.0;
+        idx = by_place.0;
+        maps_to = record {
+          in_table = by_inode.1;
+          in_file = by_place.1;
+          by = found.0;
+          is = found.1;
+          block = found.2;
+        };
+      }
 
   unmapped : (IsMapped d page → ⊥) → mappings d page ≡ 0
   unmapped none = elim (cases_eq (mappings d page) 0) [

@@ -51,7 +51,8 @@ module _ {X : Type 0} (R : X → X → Type 0) where
         (λ (rest : Contains ys z). rest)
         (cons_cases y z ys has)
 
-    pub same_sorted : (xs ys : List X) → AllPairs R xs → AllPairs R ys → ((z : X) → Contains xs z → Contains ys z) → ((z : X) → Contains ys z → Contains xs z) → xs ≡ ys
+    pub same_sorted : (xs ys : List X) → AllPairs R xs → AllPairs R ys → ((z : X) → Contains xs z → Contains ys z)
+        → ((z : X) → Contains ys z → Contains xs z) → xs ≡ ys
     same_sorted [] [] px py to from = refl
     same_sorted [] (y ∷ ys) px py to from = absurd (none_listed y (from y (here y ys)))
     same_sorted (x ∷ xs) [] px py to from = absurd (none_listed x (to x (here x xs)))

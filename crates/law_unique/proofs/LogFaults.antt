@@ -1,5 +1,37 @@
 -- A log has its first fault at one place, and none where it may be read.
-use Rattle.std.proofs.Common.{◌≡◌, ◌≢◌, ◌⊎◌, inl, inr, ⊎_elim, ℕ, zero, suc, ◌+◌, ◌-◌, ◌*◌, ◌/◌, ◌%◌, ◌<◌, ◌≤◌, List, [], ◌∷◌, ◌++◌, length, get_or, map, refl, sym, ◌∙◌, ap, subst, arith, length-append, append_assoc}
+use Rattle.std.proofs.Common.{
+  ◌≡◌,
+  ◌≢◌,
+  ◌⊎◌,
+  inl,
+  inr,
+  ⊎_elim,
+  ℕ,
+  zero,
+  suc,
+  ◌+◌,
+  ◌-◌,
+  ◌*◌,
+  ◌/◌,
+  ◌%◌,
+  ◌<◌,
+  ◌≤◌,
+  List,
+  [],
+  ◌∷◌,
+  ◌++◌,
+  length,
+  get_or,
+  map,
+  refl,
+  sym,
+  ◌∙◌,
+  ap,
+  subst,
+  arith,
+  length-append,
+  append_assoc,
+}
 use Rattle.std.specs.Prelude.{slice_index, All, Contains}
 use Rattle.std.specs.List.{range_with_len}
 use Rattle.std.proofs.lemmas.Bool.{cases_lt}
@@ -18,7 +50,19 @@ use Rattle.log_entry.proofs.Spelled.{spelling_some}
 use Rattle.log_entry.proofs.Fronts.{part_no_whole}
 use Rattle.dn_model.specs.Log.{Log, LogSays, at_tail, at_head, at_footer, at_slot, count, tail_at, log_word, footer_word, spelled_word}
 use Rattle.dn_model.specs.Valid.{MayStand, IsLog}
-use Rattle.dn_model.specs.LogFault.{LogFault, bad_page, no_slot, cut_off, no_item, misplaced, slots_between, page_after, IsFront, EndsAtTail, EndsBeforeTail}
+use Rattle.dn_model.specs.LogFault.{
+  LogFault,
+  bad_page,
+  no_slot,
+  cut_off,
+  no_item,
+  misplaced,
+  slots_between,
+  page_after,
+  IsFront,
+  EndsAtTail,
+  EndsBeforeTail,
+}
 use Rattle.dn_model.proofs.OneLog.{spelled_width}
 use Rattle.law_unique.proofs.Parsing.{front_of, same_rest, map_split, map_range-alike, NextItem, parse_next}
 
@@ -37,22 +81,26 @@ module _ (g : Geometry) (c : List ℕ) (ino : ℕ) where
   ends_bound pages m (inr e) = omega (arith, e.slots)
 
   -- the pages of two walks are the same as far as both go
-  pages_agree : (x y : Log) (m n : ℕ) → IsFront g c ino x m → IsFront g c ino y n → (k : ℕ) → k < length x.pages → k < length y.pages → slice_index x.pages k ≡ slice_index y.pages k
+  pages_agree : (x y : Log) (m n : ℕ) → IsFront g c ino x m → IsFront g c ino y n → (k : ℕ) → k < length x.pages → k < length y.pages
+      → slice_index x.pages k ≡ slice_index y.pages k
   pages_agree x y m n fx fy zero kx ky = sym (fx.head kx) ∙ fy.head ky
   pages_agree x y m n fx fy (suc k) kx ky =
       let before : slice_index x.pages k ≡ slice_index y.pages k = pages_agree x y m n fx fy k (omega arith) (omega arith) in
       let one : k + 1 ≡ suc k = omega arith in
-      ap (slice_index x.pages) (sym one) ∙ sym (fx.chained k (omega arith)) ∙ ap (λ (p : ℕ). slice_index c (512 * p + 504)) before ∙ fy.chained k (omega arith) ∙ ap (slice_index y.pages) one
+      ap (slice_index x.pages) (sym one) ∙ sym (fx.chained k (omega arith)) ∙ ap (λ (p : ℕ). slice_index c (512 * p + 504)) before ∙ fy.chained k
+      (omega arith) ∙ ap (slice_index y.pages) one
 
   -- the page after all pages of the one walk, where the other goes on
-  page_after_is : (x y : Log) (m n : ℕ) → IsFront g c ino x m → IsFront g c ino y n → length x.pages < length y.pages → page_after c ino x.pages ≡ slice_index y.pages (length x.pages)
+  page_after_is : (x y : Log) (m n : ℕ) → IsFront g c ino x m → IsFront g c ino y n → length x.pages < length y.pages
+      → page_after c ino x.pages ≡ slice_index y.pages (length x.pages)
   page_after_is x y m n fx fy lt = by_pages x.pages refl
     where
       by_pages : (ps : List ℕ) → x.pages ≡ ps → page_after c ino ps ≡ slice_index y.pages (length ps)
       by_pages [] e = fy.head (omega (arith, lt, ap length e))
       by_pages (p ∷ ps) e =
           let long : length x.pages ≡ length ps + 1 = ap length e ∙ omega arith in
-          let last : slice_index (p ∷ ps) (length ps) ≡ slice_index y.pages (length ps) = ap (λ (qs : List ℕ). slice_index qs (length ps)) (sym e) ∙ pages_agree x y m n fx fy (length ps) (omega (arith, long)) (omega (arith, long, lt)) in
+          let last : slice_index (p ∷ ps) (length ps) ≡ slice_index y.pages (length ps) = ap (λ (qs : List ℕ). slice_index qs (length ps))
+          (sym e) ∙ pages_agree x y m n fx fy (length ps) (omega (arith, long)) (omega (arith, long, lt)) in
           let one : length ps + 1 ≡ length (p ∷ ps) = omega arith in
           ap (λ (q : ℕ). slice_index c (512 * q + 504)) last ∙ fy.chained (length ps) (omega (arith, long, lt)) ∙ ap (slice_index y.pages) one
 
@@ -60,14 +108,17 @@ module _ (g : Geometry) (c : List ℕ) (ino : ℕ) where
   no_longer x y m n fx fy none lt =
       let next = page_after_is x y m n fx fy lt in
       let found = none (subst (InData g) (sym next) (fy.in_data (length x.pages) lt)) in
-      let here : slice_index x.pages found.0 ≡ page_after c ino x.pages = get_or_default x.pages found.0 0 (page_after c ino x.pages) found.1 ∙ found.2 in
-      let same : found.0 ≡ length x.pages = fy.apart found.0 (length x.pages) (omega (arith, found.1, lt)) lt (sym (pages_agree x y m n fx fy found.0 found.1 (omega (arith, found.1, lt))) ∙ here ∙ next) in
+      let here : slice_index x.pages found.0 ≡ page_after c ino x.pages = get_or_default x.pages found.0 0 (page_after c ino x.pages)
+      found.1 ∙ found.2 in
+      let same : found.0 ≡ length x.pages = fy.apart found.0 (length x.pages) (omega (arith, found.1, lt)) lt
+      (sym (pages_agree x y m n fx fy found.0 found.1 (omega (arith, found.1, lt))) ∙ here ∙ next) in
       omega (arith, found.1, same)
 
   -- a walk goes no further than one that has met the tail's page
   no_past_tail : (x y : Log) (m n : ℕ) → IsFront g c ino x m → IsFront g c ino y n → EndsAtTail c ino x.pages m → length x.pages < length y.pages → ⊥
   no_past_tail x y m n fx fy e lt =
-      fy.before_tail (length x.pages - 1) (omega (arith, e.some, lt)) (sym (pages_agree x y m n fx fy (length x.pages - 1) (omega (arith, e.some)) (omega (arith, e.some, lt))) ∙ e.met)
+      fy.before_tail (length x.pages - 1) (omega (arith, e.some, lt))
+      (sym (pages_agree x y m n fx fy (length x.pages - 1) (omega (arith, e.some)) (omega (arith, e.some, lt))) ∙ e.met)
 
   data IsLast (pages : List ℕ) (m : ℕ) : Type 0 where
     last_at_tail : EndsAtTail c ino pages m → IsLast pages m
@@ -77,7 +128,8 @@ module _ (g : Geometry) (c : List ℕ) (ino : ℕ) where
   last_ends pages m (last_at_tail e) = inl e
   last_ends pages m (last_of_all e none) = inr e
 
-  tail_met : (x y : Log) (m n : ℕ) → IsFront g c ino x m → IsFront g c ino y n → EndsAtTail c ino x.pages m → length y.pages ≡ length x.pages → slice_index y.pages (length y.pages - 1) ≡ tail / 64
+  tail_met : (x y : Log) (m n : ℕ) → IsFront g c ino x m → IsFront g c ino y n → EndsAtTail c ino x.pages m → length y.pages ≡ length x.pages
+      → slice_index y.pages (length y.pages - 1) ≡ tail / 64
   tail_met x y m n fx fy e same =
       let at : length y.pages - 1 ≡ length x.pages - 1 = omega (arith, same) in
       ap (slice_index y.pages) at ∙ sym (pages_agree x y m n fx fy (length x.pages - 1) (omega (arith, e.some)) (omega (arith, e.some, same))) ∙ e.met
@@ -104,7 +156,8 @@ module _ (g : Geometry) (c : List ℕ) (ino : ℕ) where
   ]
 
   -- not both of one walk at the tail's page, and one that never meets it
-  tail_or_all : (x y : Log) (m n : ℕ) → IsFront g c ino x m → IsFront g c ino y n → EndsAtTail c ino x.pages m → EndsBeforeTail c ino y.pages n → NoNext y.pages → ⊥
+  tail_or_all : (x y : Log) (m n : ℕ) → IsFront g c ino x m → IsFront g c ino y n → EndsAtTail c ino x.pages m → EndsBeforeTail c ino y.pages n
+      → NoNext y.pages → ⊥
   tail_or_all x y m n fx fy e e' none = elim (cases_lt (length x.pages) (length y.pages)) [
     | inl lt ↦ no_past_tail x y m n fx fy e lt
     | inr le ↦ elim (cases_lt (length y.pages) (length x.pages)) [
@@ -120,7 +173,8 @@ module _ (g : Geometry) (c : List ℕ) (ino : ℕ) where
   item_slots : (x : Log) (m : ℕ) → IsFront g c ino x m → spelled x.items ≡ map (slot x.pages) (range_with_len 0 (count x))
   unfolding count spelled_word
   item_slots x m fx = fill_by_all (slot x.pages) (spelled x.items) (length (spelled x.items)) [] refl (λ k lt.
-      same_number_lists (get_or (spelled x.items) k []) (slot x.pages k) (spelled_width x.items k lt ∙ sym (length-map-range_with_len (λ j. slice_index c (log_word x.pages k j)) 0 8)) (λ j jl.
+      same_number_lists (get_or (spelled x.items) k []) (slot x.pages k)
+      (spelled_width x.items k lt ∙ sym (length-map-range_with_len (λ j. slice_index c (log_word x.pages k j)) 0 8)) (λ j jl.
       let small : j < 8 = omega (arith, jl, spelled_width x.items k lt) in
       let at : 0 + j ≡ j = omega arith in
       sym (fx.slots k j lt small) ∙ sym (get_or-map-range_with_len (λ i. slice_index c (log_word x.pages k i)) 0 8 j j 0 small at)))
@@ -142,7 +196,8 @@ module _ (g : Geometry) (c : List ℕ) (ino : ℕ) where
   longer_slots x y m n fx fy bx by le =
       let long : n ≡ m + (n - m) = omega (arith, le) in
       let more = map (slot y.pages) (range_with_len (0 + m) (n - m)) in
-      let same : map (slot y.pages) (range_with_len 0 m) ≡ map (slot x.pages) (range_with_len 0 m) = map_range-alike (slot y.pages) (slot x.pages) 0 m (λ i low high.
+      let same : map (slot y.pages) (range_with_len 0 m) ≡ map (slot x.pages) (range_with_len 0 m) = map_range-alike (slot y.pages) (slot x.pages) 0 m
+      (λ i low high.
       ap (λ (p : ℕ). map (λ j. slice_index c (512 * p + 8 * (i % 63) + j)) (range_with_len 0 8))
       (pages_agree y x n m fy fx (i / 63) (omega (arith, high, by, le)) (omega (arith, high, bx)))) in (
         more,
@@ -205,7 +260,8 @@ module _ (g : Geometry) (c : List ℕ) (ino : ℕ) where
         let next = parse_next s.log.items y.items (rest_of s.log s.m ++ longer.0) (rest_of y n) s.front.spelled fy.spelled (sym longer.1) lt in
         ⊎_elim
         (λ (whole : NextItem y.items (rest_of s.log s.m)). next_not_halted s.log s.m s.halt y.items fy.standing whole)
-        (λ (part : BeginsItem (rest_of s.log s.m)). part_not_halted s.log s.m s.halt (λ last. omega (arith, before, last_longest s.log y s.m n s.front fy last ends)) part)
+        (λ (part : BeginsItem (rest_of s.log s.m)). part_not_halted s.log s.m s.halt
+        (λ last. omega (arith, before, last_longest s.log y s.m n s.front fy last ends)) part)
         (whole_or_part y.items (rest_of s.log s.m) longer.0 next)
     | inr after ↦
         let longer = longer_slots y s.log n s.m fy s.front (ends_bound y.pages n ends) (ends_bound s.log.pages s.m s.ends) after in
@@ -230,7 +286,8 @@ module _ (g : Geometry) (c : List ℕ) (ino : ℕ) where
 
   data Found (place : ℕ) : Type 0 where
     found_item : (x : Log) (m : ℕ) → IsFront g c ino x m → Ends x.pages m → AtItem x m → count x ≡ place → Found place
-    found_page : (x : Log) → IsFront g c ino x place → EndsBeforeTail c ino x.pages place → NoNext x.pages → (rest_of x place ≡ []) ⊎ BeginsItem (rest_of x place) → Found place
+    found_page : (x : Log) → IsFront g c ino x place → EndsBeforeTail c ino x.pages place → NoNext x.pages → (rest_of x place ≡ []) ⊎ BeginsItem
+        (rest_of x place) → Found place
 
   at_place : (x : Log) (m place : ℕ) (P : List (List ℕ) → Type 0) → count x ≡ place → P (slots_between c x.pages place m) → P (rest_of x m)
   at_place x m place P e p = subst (λ (k : ℕ). P (slots_between c x.pages k m)) (sym e) p
@@ -242,7 +299,8 @@ module _ (g : Geometry) (c : List ℕ) (ino : ℕ) where
   find place (bad_page x front ends part none) = found_page x front ends none part
   find place (no_slot x front ends zero_slot e) =
       found_item x place front (inl ends) (by_tail ends (inr zero_slot) (inl (none_between x.pages (count x) place (omega (arith, e))))) e
-  find place (cut_off x m front ends e part lt) = found_item x m front (inl ends) (by_tail ends (inl (omega (arith, e, lt))) (inr (at_place x m place BeginsItem e part))) e
+  find place (cut_off x m front ends e part lt) = found_item x m front (inl ends)
+      (by_tail ends (inl (omega (arith, e, lt))) (inr (at_place x m place BeginsItem e part))) e
   find place (no_item x m front ends e lt no_part no_whole) =
       found_item x m front ends (by_nothing (omega (arith, e, lt))
       (at_place x m place (λ ss. BeginsItem ss → ⊥) e no_part)
@@ -257,11 +315,13 @@ module _ (g : Geometry) (c : List ℕ) (ino : ℕ) where
   item_stop : (x : Log) (m : ℕ) → IsFront g c ino x m → Ends x.pages m → AtItem x m → Stop
   item_stop x m front ends at = record { log = x; m = m; front = front; ends = ends; halt = halt_of x m at }
 
-  page_stop : (x : Log) (m : ℕ) → IsFront g c ino x m → EndsBeforeTail c ino x.pages m → NoNext x.pages → (rest_of x m ≡ []) ⊎ BeginsItem (rest_of x m) → Stop
+  page_stop : (x : Log) (m : ℕ) → IsFront g c ino x m → EndsBeforeTail c ino x.pages m → NoNext x.pages → (rest_of x m ≡ []) ⊎ BeginsItem
+      (rest_of x m) → Stop
   page_stop x m front ends none part = record { log = x; m = m; front = front; ends = inr ends; halt = ended (last_of_all ends none) part }
 
   -- not both a fault at a page and one at an item
-  module _ (x y : Log) (m n : ℕ) (fx : IsFront g c ino x m) (fy : IsFront g c ino y n) (before : EndsBeforeTail c ino x.pages m) (none : NoNext x.pages)
+  module _ (x y : Log) (m n : ℕ) (fx : IsFront g c ino x m) (fy : IsFront g c ino y n) (before : EndsBeforeTail c ino x.pages m)
+      (none : NoNext x.pages)
       (part : (rest_of x m ≡ []) ⊎ BeginsItem (rest_of x m)) (ends : Ends y.pages n) (same : count x ≡ count y) where
     shorter : n ≤ m
     shorter = last_longest x y m n fx fy (last_of_all before none) ends
@@ -274,7 +334,14 @@ module _ (g : Geometry) (c : List ℕ) (ino : ℕ) where
 
     page_or_item : AtItem y n → ⊥
     page_or_item (by_nothing lt no_part no_whole) = ⊎_elim
-        (λ (e : rest_of x m ≡ []). omega (arith, lt, ap length e, ap length goes_on.1, length-append (rest_of y n) goes_on.0, length-map-range_with_len (slot y.pages) (count y) (n - count y)))
+        (λ (e : rest_of x m ≡ []). omega (
+          arith,
+          lt,
+          ap length e,
+          ap length goes_on.1,
+          length-append (rest_of y n) goes_on.0,
+          length-map-range_with_len (slot y.pages) (count y) (n - count y),
+        ))
         (λ (p : BeginsItem (rest_of x m)). no_part (record {
           item = p.item;
           spelled = p.spelled;
@@ -297,7 +364,8 @@ module _ (g : Geometry) (c : List ℕ) (ino : ℕ) where
 
   found_one : (p q : ℕ) → Found p → Found q → p ≡ q
   unfolding item_stop page_stop
-  found_one p q (found_item x m fx ends at e) (found_item y n fy ends' at' e') = sym e ∙ stop_counts (item_stop x m fx ends at) (item_stop y n fy ends' at') ∙ e'
+  found_one p q (found_item x m fx ends at e) (found_item y n fy ends' at' e') = sym e ∙ stop_counts (item_stop x m fx ends at)
+      (item_stop y n fy ends' at') ∙ e'
   found_one p q (found_item x m fx ends at e) (found_page y fy ends' none part) =
       absurd (page_or_item y x q m fy fx ends' none part ends (stop_counts (page_stop y q fy ends' none part) (item_stop x m fx ends at)) at)
   found_one p q (found_page x fx ends none part) (found_item y n fy ends' at' e') =
@@ -332,7 +400,8 @@ module _ (g : Geometry) (c : List ℕ) (ino : ℕ) where
         chained = λ k lt. reads (footer_word x.pages k) (slice_index x.pages (k + 1)) (at_footer k lt refl refl);
         in_data = is.paged.in_data;
         apart = is.paged.apart;
-        before_tail = λ k lt e. let same = is.paged.apart k (length x.pages - 1) (omega (arith, lt)) (omega (arith, lt)) (e ∙ sym met) in omega (arith, lt, same);
+        before_tail = λ k lt e. let same = is.paged.apart k (length x.pages - 1) (omega (arith, lt)) (omega (arith, lt)) (e ∙ sym met) in
+            omega (arith, lt, same);
         filled = omega arith;
         slots = λ k j kl jl. reads (log_word x.pages k j) (spelled_word x k j) (at_slot k j kl jl refl refl);
         spelled = is.spelled;

@@ -10,12 +10,73 @@ use Rattle.dn_model.specs.Disk.{Disk, IsUsed, PointersSay, rows}
 use Rattle.dn_model.specs.Counts.{IsFree, IsNear}
 use Rattle.dn_model.specs.Valid.{IsLinked}
 use Rattle.dn_model.specs.Image.{StandsFor}
-use Rattle.dn_model.specs.Faults.{IsLeast, geometry_of, IsImage, HasGeometry, HasGate, IsBadInode, HasInodes, HasLogs, HasLinks, HasTable, HasPointers, IsDouble, HasFree, TableFault, FaultOf, not_an_image, wrong_version, bad_geometry, bad_journal, bad_inode, bad_log, bad_link, bad_table, bad_pointer, double_mapped, bad_count, crowded}
+use Rattle.dn_model.specs.Faults.{
+  IsLeast,
+  geometry_of,
+  IsImage,
+  HasGeometry,
+  HasGate,
+  IsBadInode,
+  HasInodes,
+  HasLogs,
+  HasLinks,
+  HasTable,
+  HasPointers,
+  IsDouble,
+  HasFree,
+  TableFault,
+  FaultOf,
+  not_an_image,
+  wrong_version,
+  bad_geometry,
+  bad_journal,
+  bad_inode,
+  bad_log,
+  bad_link,
+  bad_table,
+  bad_pointer,
+  double_mapped,
+  bad_count,
+  crowded,
+}
 use Rattle.dn_model.specs.declared.fault.ImageFault.{ImageFault}
-use Rattle.dn_model.specs.declared.fault.ImageFault.TheVariants.{NotAnImage, WrongVersion, BadGeometry, BadJournal, BadInode, BadLog, BadLink, BadTable, BadPointer, DoubleMapped, BadCount, Crowded}
+use Rattle.dn_model.specs.declared.fault.ImageFault.TheVariants.{
+  NotAnImage,
+  WrongVersion,
+  BadGeometry,
+  BadJournal,
+  BadInode,
+  BadLog,
+  BadLink,
+  BadTable,
+  BadPointer,
+  DoubleMapped,
+  BadCount,
+  Crowded,
+}
 use Rattle.law_unique.specs.FirstFaults.{HasOneFault, StandingHasNoFault}
 use Rattle.law_unique.proofs.Counted.{free_one}
-use Rattle.law_unique.proofs.Stages.{least_one, no_bad_inode, no_bad_log, bad_log_one, place_one, bad_link_one, no_bad_link, bad_table_one, no_bad_table, bad_pointer_one, no_bad_pointer, double_one, double-between, bad_count_one, no_bad_count, free-to, not_crowded, stands_pointers, stands_single}
+use Rattle.law_unique.proofs.Stages.{
+  least_one,
+  no_bad_inode,
+  no_bad_log,
+  bad_log_one,
+  place_one,
+  bad_link_one,
+  no_bad_link,
+  bad_table_one,
+  no_bad_table,
+  bad_pointer_one,
+  no_bad_pointer,
+  double_one,
+  double-between,
+  bad_count_one,
+  no_bad_count,
+  free-to,
+  not_crowded,
+  stands_pointers,
+  stands_single,
+}
 
 -- At one stage either its fault comes, or it is passed and a later one may come.
 abbrev Faults : Type 1
@@ -71,7 +132,8 @@ module _ (c : List ℕ) where
   PassCounts = (d : Disk) × HasPointers c d × ((p : ℕ) → IsDouble d p → ⊥) × All (IsNear d) (rows d)
 
   abbrev PassAll : Type 0
-  PassAll = (d : Disk) × HasPointers c d × ((p : ℕ) → IsDouble d p → ⊥) × All (IsNear d) (rows d) × ((p : ℕ) × (q : ℕ) × (p ≢ q) × IsFree d p × IsFree d q)
+  PassAll = (d : Disk) × HasPointers c d × ((p : ℕ) → IsDouble d p → ⊥) × All (IsNear d) (rows d) × ((p : ℕ) × (q : ℕ) × (p ≢ q) × IsFree d p × IsFree
+      d q)
 
   -- The faults, stage by stage.
   record AtLog (x : ImageFault) : Type 0 where
@@ -103,7 +165,8 @@ module _ (c : List ℕ) where
     pub page : ℕ
     pub table : HasTable c d
     pub reads : Reads (PointersSay d) r
-    pub least : IsLeast d.geometry.pages (λ p. (slots d.geometry < d.pointer p) ⊎ ((row : Row) × Contains (rows d) row × (row.page ≡ p) × (d.pointer p ≢ row.slot + 1))) page
+    pub least : IsLeast d.geometry.pages
+        (λ p. (slots d.geometry < d.pointer p) ⊎ ((row : Row) × Contains (rows d) row × (row.page ≡ p) × (d.pointer p ≢ row.slot + 1))) page
     pub is : x ≡ BadPointer page
 
   record AtDouble (x : ImageFault) : Type 0 where
@@ -221,12 +284,25 @@ module _ (c : List ℕ) where
       to6 _ d inodes (inl (record { d = d; ino = ino; place = place; inodes = inodes; used = used; fault = fault; least = least; is = refl }))
   staged x (bad_link d ino logs least) = to7 _ d logs (inl (record { d = d; ino = ino; logs = logs; least = least; is = refl }))
   staged x (bad_table d slot links fault) = to8 _ d links (inl (record { d = d; slot = slot; links = links; fault = fault; is = refl }))
-  staged x (bad_pointer d page table reads least) = to9 _ d table (inl (record { d = d; page = page; table = table; reads = reads; least = least; is = refl }))
-  staged x (double_mapped d page pointers least) = to10 _ d pointers (inl (record { d = d; page = page; pointers = pointers; least = least; is = refl }))
+  staged x (bad_pointer d page table reads least) = to9 _ d table
+      (inl (record { d = d; page = page; table = table; reads = reads; least = least; is = refl }))
+  staged x (double_mapped d page pointers least) = to10 _ d pointers
+      (inl (record { d = d; page = page; pointers = pointers; least = least; is = refl }))
   staged x (bad_count d before after row pointers single rows_are near far) =
-      to11 _ d pointers single (inl (record { d = d; before = before; after = after; row = row; pointers = pointers; rows_are = rows_are; near = near; far = far; is = refl }))
+      to11 _ d pointers single (inl (record {
+        d = d;
+        before = before;
+        after = after;
+        row = row;
+        pointers = pointers;
+        rows_are = rows_are;
+        near = near;
+        far = far;
+        is = refl;
+      }))
   staged x (crowded d free pointers single near has few) =
-      to11 _ d pointers single (inr ((d, pointers, single, near), record { d = d; free = free; pointers = pointers; has = has; few = few; is = refl }))
+      to11 _ d pointers single
+      (inr ((d, pointers, single, near), record { d = d; free = free; pointers = pointers; has = has; few = few; is = refl }))
 
   -- A fault and what is passed exclude one another.
   apart_image : Excludes AtImage (IsImage c)
@@ -263,12 +339,14 @@ module _ (c : List ℕ) where
   apart_count x a p = no_bad_count c a.d p.0 a.before a.row a.after a.pointers p.1 a.rows_are a.far p.3
 
   apart_room : Excludes AtRoom PassAll
-  apart_room x a p = let room = p.4 in not_crowded c p.0 a.free room.0 room.1 (free-to c a.d p.0 a.pointers p.1 a.free a.has) a.few room.2 room.3 room.4
+  apart_room x a p = let room = p.4 in not_crowded c p.0 a.free room.0 room.1 (free-to c a.d p.0 a.pointers p.1 a.free a.has) a.few room.2 room.3
+      room.4
 
   -- One fault of a stage.
   one_inode : HasOne AtInode
   one_inode x y a b =
-      let same = least_one (slice_index c 3) (slice_index c 3) (IsBadInode r) (IsBadInode r) a.0 b.0 refl a.1 b.1 (λ i lt bad. bad) (λ i lt bad. bad) in
+      let same = least_one (slice_index c 3) (slice_index c 3) (IsBadInode r) (IsBadInode r) a.0 b.0 refl a.1 b.1 (λ i lt bad. bad) (λ i lt bad. bad)
+      in
       a.2 ∙ ap BadInode same ∙ sym b.2
 
   one_log : HasOne AtLog
@@ -291,7 +369,8 @@ module _ (c : List ℕ) where
 
   one_count : HasOne AtCount
   one_count x y a b =
-      let row : a.row ≡ b.row = bad_count_one c a.d b.d a.before b.before a.row b.row a.after b.after a.pointers b.pointers a.rows_are b.rows_are a.near a.far b.near b.far in
+      let row : a.row ≡ b.row = bad_count_one c a.d b.d a.before b.before a.row b.row a.after b.after a.pointers b.pointers a.rows_are b.rows_are
+      a.near a.far b.near b.far in
       a.is ∙ ap (λ (z : Row). BadCount z.slot) row ∙ sym b.is
 
   one_room : HasOne AtRoom
@@ -325,7 +404,8 @@ module _ (c : List ℕ) where
   none_from1 : Excludes From1 PassAll
   none_from1 =
       stage_none AtImage (IsImage c) From2 apart_image PassAll (λ p. p.1.table.links.logs.inodes.gate.geometry.image)
-      (stage_none AtVersion IsVersion From3 apart_version PassAll (λ p. (p.1.table.links.logs.inodes.gate.geometry.image, p.1.table.links.logs.inodes.gate.geometry.version))
+      (stage_none AtVersion IsVersion From3 apart_version PassAll
+      (λ p. (p.1.table.links.logs.inodes.gate.geometry.image, p.1.table.links.logs.inodes.gate.geometry.version))
       (stage_none AtGeometry (HasGeometry c) From4 apart_geometry PassAll (λ p. p.1.table.links.logs.inodes.gate.geometry)
       (stage_none AtJournal (HasGate c) From5 apart_journal PassAll (λ p. p.1.table.links.logs.inodes.gate)
       (stage_none AtInode PassInodes From6 apart_inode PassAll (λ p. (p.0, p.1.table.links.logs.inodes))

@@ -42,7 +42,8 @@ module _ {X : Type 0} where
   map_range-alike f h a zero same = refl
   map_range-alike f h a (suc n) same =
       let one : f a ≡ h a = same a (omega arith) (omega arith) in
-      let rest : map f (range_with_len (a + 1) n) ≡ map h (range_with_len (a + 1) n) = map_range-alike f h (a + 1) n (λ i le lt. same i (omega arith) (omega arith)) in
+      let rest : map f (range_with_len (a + 1) n) ≡ map h (range_with_len (a + 1) n) = map_range-alike f h (a + 1) n
+      (λ i le lt. same i (omega arith) (omega arith)) in
       (λ i. one i ∷ rest i)
 
 -- one of these items begins the slots
@@ -57,12 +58,21 @@ more_next : (y : LogItem) (ys : List LogItem) (slots : List (List ℕ)) → Next
 more_next y ys slots n = record { item = n.item; listed = later y n.item ys n.listed; spelled = n.spelled; rest = n.rest; is = n.is }
 
 -- where fewer items come first in the same slots, the next of the others comes next
-pub parse_next : (xs ys : List LogItem) (t u : List (List ℕ)) → All IsSpelled xs → All IsSpelled ys → spelled xs ++ t ≡ spelled ys ++ u → length (spelled xs) < length (spelled ys) → NextItem ys t
+pub parse_next : (xs ys : List LogItem) (t u : List (List ℕ)) → All IsSpelled xs → All IsSpelled ys → spelled xs ++ t ≡ spelled ys ++ u
+    → length (spelled xs) < length (spelled ys) → NextItem ys t
 parse_next xs [] t u ax ay e lt = absurd (omega arith)
 parse_next [] (y ∷ ys) t u ax ay e lt =
-    record { item = y; listed = here y ys; spelled = All-head IsSpelled y ys ay; rest = spelled ys ++ u; is = e ∙ append_assoc (spelling y) (spelled ys) u }
+    record {
+      item = y;
+      listed = here y ys;
+      spelled = All-head IsSpelled y ys ay;
+      rest = spelled ys ++ u;
+      is = e ∙ append_assoc (spelling y)
+          (spelled ys) u;
+    }
 parse_next (x ∷ xs) (y ∷ ys) t u ax ay e lt =
     let one = spelling_one x y (spelled xs ++ t) (spelled ys ++ u) (All-head IsSpelled x xs ax) (All-head IsSpelled y ys ay)
     (sym (append_assoc (spelling x) (spelled xs) t) ∙ e ∙ append_assoc (spelling y) (spelled ys) u) in
     let same : length (spelling x) ≡ length (spelling y) = ap (λ (i : LogItem). length (spelling i)) one.item in
-    more_next y ys t (parse_next xs ys t u (All-tail IsSpelled x xs ax) (All-tail IsSpelled y ys ay) one.rest (omega (arith, lt, same, length-spelled-cons x xs, length-spelled-cons y ys)))
+    more_next y ys t (parse_next xs ys t u (All-tail IsSpelled x xs ax) (All-tail IsSpelled y ys ay) one.rest
+    (omega (arith, lt, same, length-spelled-cons x xs, length-spelled-cons y ys)))

@@ -1,5 +1,34 @@
 -- What two disks that are the same where they are read have in common.
-use Rattle.std.proofs.Common.{◌≡◌, ◌≢◌, inl, inr, ⊎_elim, ℕ, zero, suc, ◌/◌, ◌%◌, ◌^◌, ◌<◌, ◌≤◌, Bool, true, false, List, [], ◌∷◌, length, get_or, map, refl, sym, ◌∙◌, ap, subst, arith}
+use Rattle.std.proofs.Common.{
+  ◌≡◌,
+  ◌≢◌,
+  inl,
+  inr,
+  ⊎_elim,
+  ℕ,
+  zero,
+  suc,
+  ◌/◌,
+  ◌%◌,
+  ◌^◌,
+  ◌<◌,
+  ◌≤◌,
+  Bool,
+  true,
+  false,
+  List,
+  [],
+  ◌∷◌,
+  length,
+  get_or,
+  map,
+  refl,
+  sym,
+  ◌∙◌,
+  ap,
+  subst,
+  arith,
+}
 use Rattle.std.specs.Prelude.{if◌then◌else◌, ◌==◌, Option, Some, None, IsSome, IsNone, All, Contains}
 use Rattle.std.specs.Option.{option_map}
 use Rattle.std.specs.List.{range_with_len}
@@ -35,7 +64,8 @@ module _ (d e : Disk) (same : HasSameLogs d e) where
   pub mappings-same : (page : ℕ) → mappings d page ≡ mappings e page
   unfolding mappings
   mappings-same page =
-      total-same (λ ino. total 4096 (λ idx. hit page (maps d ino idx))) (λ ino. total 4096 (λ idx. hit page (maps e ino idx))) d.geometry.inodes (λ ino lt.
+      total-same (λ ino. total 4096 (λ idx. hit page (maps d ino idx))) (λ ino. total 4096 (λ idx. hit page (maps e ino idx))) d.geometry.inodes
+      (λ ino lt.
       total-same (λ idx. hit page (maps d ino idx)) (λ idx. hit page (maps e ino idx)) 4096 (λ idx _. ap (hit page) (maps-same d e same ino idx lt)))
       ∙ ap (λ (g : Geometry). total g.inodes (λ ino. total 4096 (λ idx. hit page (maps e ino idx)))) same.geometry
 
@@ -66,20 +96,30 @@ free-same d e same page free = record {
 }
 
 pub free_count-same : (d e : Disk) → HasSameLogs d e → (n : ℕ) → HasFree d n → HasFree e n
-free_count-same d e same n free =
-    (free.0, (λ page. ((λ at. free-same d e same page ((free.1 page).0 at)), (λ at. (free.1 page).1 (free-same e d (back d e same) page at)))), free.2, free.3)
+free_count-same d e same n free = (
+  free.0,
+  (λ page. ((λ at. free-same d e same page ((free.1 page).0 at)), (λ at. (free.1 page).1 (free-same e d (back d e same) page at)))),
+  free.2,
+  free.3,
+)
 
 pub exact-same : (d e : Disk) → HasSameLogs d e → rows d ≡ rows e → Exact d → Exact e
 exact-same d e same same_rows exact = record {
   counts = subst (All (λ row. (row.uc ≡ 0) × (row.rfc ≡ mappings e row.page) × (row.rfc ≢ 0))) same_rows (λ k row lt.
       let one = exact.counts k row lt in (one.0, one.1 ∙ mappings-same d e same (get_or (rows d) k row).page, one.2));
-  unshared = λ page none. subst (λ (n : ℕ). n ≤ 1) (mappings-same d e same page) (exact.unshared page (subst (λ (rs : List Row). IsNone (row_of rs page)) (sym same_rows) none));
+  unshared = λ page none. subst (λ (n : ℕ). n ≤ 1) (mappings-same d e same page)
+      (exact.unshared page (subst (λ (rs : List Row). IsNone (row_of rs page)) (sym same_rows) none));
 }
 
 -- With the same names.
 pub linked-same : (d e : Disk) → ((name : List ℕ) → named d name ≡ named e name) → (i : ℕ) (u : Use) → IsLinked d i u → IsLinked e i u
 linked-same d e same i Free linked = λ name at. linked name (same name ∙ at)
-linked-same d e same i Live linked = record { name = linked.name; leads = sym (same linked.name) ∙ linked.leads; alone = λ other at. linked.alone other (same other ∙ at) }
+linked-same d e same i Live linked = record {
+  name = linked.name;
+  leads = sym (same linked.name) ∙ linked.leads;
+  alone = λ other at. linked.alone
+      other (same other ∙ at);
+}
 linked-same d e same i (Dying cut) linked = λ name at. linked name (same name ∙ at)
 
 -- With the same bytes of pages that are read.
@@ -96,7 +136,17 @@ live_used d ino live = subst IsUsed (sym live) tt
 module _ (d e : Disk) (valid : IsValid d) (same : HasSameLogs d e) (same_rows : rows d ≡ rows e) (same_bytes : HasSameBytes d e) where
   mapped_read : (ino idx : ℕ) (m : Mapping) → ino < d.geometry.inodes → maps d ino idx ≡ Some m → IsRead d m.block
   mapped_read ino idx m lt at =
-      inl (record { ino = ino; idx = idx; maps_to = record { in_table = lt; in_file = maps-in_file d valid ino idx m lt at; by = m; is = at; block = refl } })
+      inl (record {
+        ino = ino;
+        idx = idx;
+        maps_to = record {
+          in_table = lt;
+          in_file = maps-in_file d valid ino idx m lt at;
+          by = m;
+          is = at;
+          block = refl;
+        };
+      })
 
   place_read : (ino idx : ℕ) (m : Mapping) → LivePlace d ino idx m → IsRead d m.block
   place_read ino idx m at = mapped_read ino idx m at.in_table at.maps
@@ -111,9 +161,11 @@ module _ (d e : Disk) (valid : IsValid d) (same : HasSameLogs d e) (same_rows : 
   pub bytes-same : (ino : ℕ) → ino < d.geometry.inodes → (d.inode ino).use_of ≡ Live → bytes d ino ≡ bytes e ino
   unfolding bytes
   bytes-same ino lt live =
-      map_range-same (λ j. mapped_byte d (j % 4096) (maps d ino (j / 4096))) (λ j. mapped_byte e (j % 4096) (maps e ino (j / 4096))) (size_of (d.inode ino).log)
+      map_range-same (λ j. mapped_byte d (j % 4096) (maps d ino (j / 4096))) (λ j. mapped_byte e (j % 4096) (maps e ino (j / 4096)))
+      (size_of (d.inode ino).log)
       (λ j _. mapped_byte-same ino (j / 4096) (j % 4096) lt (omega arith))
-      ∙ ap (λ (log : Log). map (λ j. mapped_byte e (j % 4096) (maps e ino (j / 4096))) (range_with_len 0 (size_of log))) (same.logs ino lt (live_used d ino live))
+      ∙ ap (λ (log : Log). map (λ j. mapped_byte e (j % 4096) (maps e ino (j / 4096))) (range_with_len 0 (size_of log)))
+      (same.logs ino lt (live_used d ino live))
 
   pub files-same : IsSameFiles (files d) (files e)
   files-same name = by_name (named d name) refl ∙ ap (option_map (bytes e)) (names-same d e same (root_in_table d valid) (root_used d valid) name)
@@ -169,7 +221,8 @@ module _ (d e : Disk) (valid : IsValid d) (same : HasSameLogs d e) (same_rows : 
   pub settled_to : Settled d → Settled e
   settled_to s = record {
     complete = λ ino idx m at. s.complete ino idx m (place-from ino idx m at);
-    done = λ ino idx m at. ⊎_elim (λ (alone : IsAlone m). inl alone) (λ (row : HasRow d m.block). inr (row-to m.block row)) (s.done ino idx m (place-from ino idx m at));
+    done = λ ino idx m at. ⊎_elim (λ (alone : IsAlone m). inl alone) (λ (row : HasRow d m.block). inr (row-to m.block row))
+        (s.done ino idx m (place-from ino idx m at));
     shared = λ i j idx jdx m n at at' e'.
         let here = place-from i idx m at in let there = place-from j jdx n at' in
         s.shared i j idx jdx m n here there (place_bytes i idx m here ∙ e' ∙ sym (place_bytes j jdx n there));
@@ -178,7 +231,8 @@ module _ (d e : Disk) (valid : IsValid d) (same : HasSameLogs d e) (same_rows : 
   pub settled_from : Settled e → Settled d
   settled_from s = record {
     complete = λ ino idx m at. s.complete ino idx m (place-to ino idx m at);
-    done = λ ino idx m at. ⊎_elim (λ (alone : IsAlone m). inl alone) (λ (row : HasRow e m.block). inr (row-from m.block row)) (s.done ino idx m (place-to ino idx m at));
+    done = λ ino idx m at. ⊎_elim (λ (alone : IsAlone m). inl alone) (λ (row : HasRow e m.block). inr (row-from m.block row))
+        (s.done ino idx m (place-to ino idx m at));
     shared = λ i j idx jdx m n at at' e'.
         s.shared i j idx jdx m n (place-to i idx m at) (place-to j jdx n at') (sym (place_bytes i idx m at) ∙ e' ∙ place_bytes j jdx n at');
   }

@@ -1,11 +1,49 @@
 -- Rows that are read from the direct slot on, one after another.
-use Rattle.std.proofs.Common.{◌≡◌, ◌≢◌, ⊎_elim, ℕ, zero, suc, ◌+◌, ◌<◌, ◌≤◌, List, [], ◌∷◌, ◌++◌, length, get_or, refl, sym, ◌∙◌, ap, subst, arith, append_assoc}
+use Rattle.std.proofs.Common.{
+  ◌≡◌,
+  ◌≢◌,
+  ⊎_elim,
+  ℕ,
+  zero,
+  suc,
+  ◌+◌,
+  ◌<◌,
+  ◌≤◌,
+  List,
+  [],
+  ◌∷◌,
+  ◌++◌,
+  length,
+  get_or,
+  refl,
+  sym,
+  ◌∙◌,
+  ap,
+  subst,
+  arith,
+  append_assoc,
+}
 use Rattle.std.specs.Prelude.{slice_index, slice_get, Some}
 use Rattle.std.proofs.lemmas.Option.{slice_get_within, slice_get-get_or}
 use Rattle.pm_device.specs.Reading.{Reads}
 use Rattle.pm_layout.specs.declared.Geometry.{Geometry}
 use Rattle.pm_layout.specs.Geometry.{directs, slots, slot_word}
-use Rattle.dn_model.specs.Table.{Row, RowsSay, at_field, at_next, at_later, ChainSays, at_direct_page, at_direct_next, at_row, row_word, first_slot, chained, direct_page_word, rows_from}
+use Rattle.dn_model.specs.Table.{
+  Row,
+  RowsSay,
+  at_field,
+  at_next,
+  at_later,
+  ChainSays,
+  at_direct_page,
+  at_direct_next,
+  at_row,
+  row_word,
+  first_slot,
+  chained,
+  direct_page_word,
+  rows_from,
+}
 use Rattle.dn_model.specs.Valid.{IsRow, AreApart}
 use Rattle.dn_model.specs.Faults.{RowStands, StartsAt, starts_direct, starts_chained}
 use Rattle.law_unique.specs.Images.{AreRows}
@@ -19,10 +57,12 @@ module _ {X : Type 0} where
 
   pub slice_get-behind : (xs ys : List X) (y : X) → slice_get (xs ++ y ∷ ys) (length xs) ≡ Some y
   slice_get-behind [] ys y = refl
-  slice_get-behind (x ∷ xs) ys y = let e : length (x ∷ xs) ≡ suc (length xs) = omega arith in ap (slice_get (x ∷ (xs ++ y ∷ ys))) e ∙ slice_get-behind xs ys y
+  slice_get-behind (x ∷ xs) ys y = let e : length (x ∷ xs) ≡ suc (length xs) = omega arith in ap (slice_get (x ∷ (xs ++ y ∷ ys))) e ∙ slice_get-behind
+      xs ys y
 
   -- lists that are the same as far as both go
-  pub front_rows : (xs ys : List X) → length xs ≤ length ys → ((k : ℕ) (x y : X) → slice_get xs k ≡ Some x → slice_get ys k ≡ Some y → x ≡ y) → (rest : List X) × (ys ≡ xs ++ rest)
+  pub front_rows : (xs ys : List X) → length xs ≤ length ys → ((k : ℕ) (x y : X) → slice_get xs k ≡ Some x → slice_get ys k ≡ Some y → x ≡ y)
+      → (rest : List X) × (ys ≡ xs ++ rest)
   front_rows [] ys le same = (ys, refl)
   front_rows (x ∷ xs) [] le same = absurd (omega arith)
   front_rows (x ∷ xs) (y ∷ ys) le same =
@@ -43,7 +83,8 @@ rows_from-split f d zero k =
     ap (rows_from f d) e ∙ ap (λ (j : ℕ). rows_from f j k) (sym z)
 rows_from-split f d (suc n) k =
     let e : suc n + k ≡ suc (n + k) = omega arith in let z : d + 1 + n ≡ d + suc n = omega arith in
-    ap (rows_from f d) e ∙ ap (λ (rs : List Row). f d ++ rs) (rows_from-split f (d + 1) n k ∙ ap (λ (j : ℕ). rows_from f (d + 1) n ++ rows_from f j k) z)
+    ap (rows_from f d) e ∙ ap (λ (rs : List Row). f d ++ rs) (rows_from-split f (d + 1) n k ∙ ap (λ (j : ℕ). rows_from f (d + 1) n ++ rows_from f j k)
+    z)
     ∙ sym (append_assoc (f d) (rows_from f (d + 1) n) (rows_from f (d + suc n) k))
 
 module _ (g : Geometry) (r : List ℕ) (prefix : ℕ) (direct : prefix < directs g) where
@@ -51,7 +92,8 @@ module _ (g : Geometry) (r : List ℕ) (prefix : ℕ) (direct : prefix < directs
     pub are : AreRows g prefix rows
     pub stand : (k : ℕ) (row : Row) → slice_get rows k ≡ Some row → RowStands g r row.slot row
     pub first : (row : Row) → slice_get rows 0 ≡ Some row → StartsAt g r prefix row.slot
-    pub linked : (k : ℕ) (row next : Row) → slice_get rows k ≡ Some row → slice_get rows (k + 1) ≡ Some next → slice_index r (slot_word g row.slot 5) ≡ next.slot
+    pub linked : (k : ℕ) (row next : Row) → slice_get rows k ≡ Some row → slice_get rows (k + 1) ≡ Some next
+        → slice_index r (slot_word g row.slot 5) ≡ next.slot
 
   -- the walk ends here: no row comes next
   pub record IsFull (rows : List Row) : Type 0 where
@@ -64,7 +106,8 @@ module _ (g : Geometry) (r : List ℕ) (prefix : ℕ) (direct : prefix < directs
   starts_one a b (starts_chained none e) (starts_direct some e') = absurd (some none)
   starts_one a b (starts_chained none e) (starts_chained none' e') = e ∙ sym e'
 
-  same_row : (xs ys : List Row) → Walk xs → Walk ys → (k : ℕ) (x y : Row) → slice_get xs k ≡ Some x → slice_get ys k ≡ Some y → x.slot ≡ y.slot → x ≡ y
+  same_row : (xs ys : List Row) → Walk xs → Walk ys → (k : ℕ) (x y : Row) → slice_get xs k ≡ Some x → slice_get ys k ≡ Some y → x.slot ≡ y.slot
+      → x ≡ y
   same_row xs ys wx wy k x y ex ey slot = row_one g prefix prefix k k x y (wx.are k x ex) (wy.are k y ey) slot (λ i lt.
       sym ((wx.stand k x ex).1 i lt) ∙ ap (λ (s : ℕ). slice_index r (slot_word g s i)) slot ∙ (wy.stand k y ey).1 i lt)
 
@@ -123,17 +166,21 @@ module _ (g : Geometry) (r : List ℕ) (prefix : ℕ) (direct : prefix < directs
       subst (λ (y : Row). RowStands g r y.slot y) same (refl, λ j lt. reads (slot_word g x.slot j) (row_word x j) (at_field j lt refl refl))
   rows_stand (x ∷ rows) reads (suc k) row e = rows_stand rows (λ a v says. reads a v (at_later says)) k row e
 
-  rows_linked : (rows : List Row) → Reads (RowsSay g rows) r → (k : ℕ) (row next : Row) → slice_get rows k ≡ Some row → slice_get rows (suc k) ≡ Some next → slice_index r (slot_word g row.slot 5) ≡ next.slot
+  rows_linked : (rows : List Row) → Reads (RowsSay g rows) r → (k : ℕ) (row next : Row) → slice_get rows k ≡ Some row → slice_get rows (suc k) ≡ Some
+      next → slice_index r (slot_word g row.slot 5) ≡ next.slot
   rows_linked [] reads k row next e f = cc
   rows_linked (x ∷ []) reads zero row next e f = cc
   rows_linked (x ∷ y ∷ rows) reads zero row next e f =
       let same : x ≡ row = cc in let same' : y ≡ next = cc in
-      ap (λ (z : Row). slice_index r (slot_word g z.slot 5)) (sym same) ∙ reads (slot_word g x.slot 5) y.slot (at_next refl refl) ∙ ap (λ (z : Row). z.slot) same'
+      ap (λ (z : Row). slice_index r (slot_word g z.slot 5)) (sym same) ∙ reads (slot_word g x.slot 5) y.slot (at_next refl refl) ∙ ap
+      (λ (z : Row). z.slot) same'
   rows_linked (x ∷ rows) reads (suc k) row next e f = rows_linked rows (λ a v says. reads a v (at_later says)) k row next e f
 
-  rows_last : (rows : List Row) → Reads (RowsSay g rows) r → (k : ℕ) (row : Row) → slice_get rows k ≡ Some row → length rows ≡ k + 1 → slice_index r (slot_word g row.slot 5) ≡ 0
+  rows_last : (rows : List Row) → Reads (RowsSay g rows) r → (k : ℕ) (row : Row) → slice_get rows k ≡ Some row → length rows ≡ k + 1
+      → slice_index r (slot_word g row.slot 5) ≡ 0
   rows_last [] reads k row e long = cc
-  rows_last (x ∷ []) reads zero row e long = let same : x ≡ row = cc in ap (λ (z : Row). slice_index r (slot_word g z.slot 5)) (sym same) ∙ reads (slot_word g x.slot 5) 0 (at_next refl refl)
+  rows_last (x ∷ []) reads zero row e long = let same : x ≡ row = cc in ap (λ (z : Row). slice_index r (slot_word g z.slot 5)) (sym same) ∙ reads
+      (slot_word g x.slot 5) 0 (at_next refl refl)
   rows_last (x ∷ y ∷ rows) reads zero row e long = absurd (omega (arith, long))
   rows_last (x ∷ rows) reads (suc k) row e long = rows_last rows (λ a v says. reads a v (at_later says)) k row e (omega (arith, long))
 
@@ -159,7 +206,8 @@ module _ (g : Geometry) (r : List ℕ) (prefix : ℕ) (direct : prefix < directs
 
         by_shape : Shape g prefix r direct rows → StartsAt g r prefix row.slot
         by_shape (at_own x xs is own page next is_row far) =
-            starts_direct (λ none. omega (arith, sym (page_is ∙ page) ∙ none, is_row.data_page.low, first_data_some g)) (ap (λ (z : Row). z.slot) (sym (head x xs is)) ∙ own)
+            starts_direct (λ none. omega (arith, sym (page_is ∙ page) ∙ none, is_row.data_page.low, first_data_some g))
+            (ap (λ (z : Row). z.slot) (sym (head x xs is)) ∙ own)
         by_shape (at_others page next far) = starts_chained (page_is ∙ page) (sym (next_is ∙ ap first_slot next ∙ first_is rows e))
 
     pub chain_walk : Walk rows

@@ -11,7 +11,8 @@ CountsMappings = (d : Disk) (page : ℕ) → (1 ≤ mappings d page) ↔ IsMappe
 
 -- so a page of the data area is free exactly if no log has it and no place is mapped to it
 abbrev pub FreeIsUnused : Type 0
-FreeIsUnused = (d : Disk) (page : ℕ) → IsFree d page ↔ (InData d.geometry page × (IsLogPage d page → ⊥) × (IsMapped d page → ⊥))
+FreeIsUnused = (d : Disk) (page : ℕ)
+    → IsFree d page ↔ (InData d.geometry page × (IsLogPage d page → ⊥) × (IsMapped d page → ⊥))
 
 -- one number of pages is free at most
 abbrev pub HasOneFreeCount : Type 0

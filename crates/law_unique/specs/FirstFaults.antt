@@ -14,17 +14,22 @@ use Rattle.law_unique.specs.Images.{AreRows}
 
 -- a log has its first fault at one place, and none where it may be read
 abbrev pub HasOneLogFault : Type 0
-HasOneLogFault = (g : Geometry) (c : List ℕ) (ino p q : ℕ) → LogFault g c ino p → LogFault g c ino q → p ≡ q
+HasOneLogFault = (g : Geometry) (c : List ℕ) (ino p q : ℕ) → LogFault g c ino p → LogFault g c ino q
+    → p ≡ q
 
 abbrev pub ReadLogsHaveNoFault : Type 0
-ReadLogsHaveNoFault = (g : Geometry) (c : List ℕ) (ino : ℕ) (log : Log) → IsLog g ino log → Reads (LogSays ino log) c → (p : ℕ) → LogFault g c ino p → ⊥
+ReadLogsHaveNoFault = (g : Geometry) (c : List ℕ) (ino : ℕ) (log : Log) → IsLog g ino log
+    → Reads (LogSays ino log) c → (p : ℕ) → LogFault g c ino p → ⊥
 
 -- and so has the table
 abbrev pub HasOneTableFault : Type 0
-HasOneTableFault = (g : Geometry) (r : List ℕ) (s t : ℕ) → TableFault g r s → TableFault g r t → s ≡ t
+HasOneTableFault = (g : Geometry) (r : List ℕ) (s t : ℕ) → TableFault g r s → TableFault g r t
+    → s ≡ t
 
 abbrev pub ReadTablesHaveNoFault : Type 0
-ReadTablesHaveNoFault = (g : Geometry) (r : List ℕ) (chain : ℕ → List Row) → ((q : ℕ) → q < directs g → AreRows g q (chain q)) → ((q : ℕ) → q < directs g → Reads (ChainSays g q (chain q)) r)
+ReadTablesHaveNoFault = (g : Geometry) (r : List ℕ) (chain : ℕ → List Row)
+    → ((q : ℕ) → q < directs g → AreRows g q (chain q))
+    → ((q : ℕ) → q < directs g → Reads (ChainSays g q (chain q)) r)
     → AreApart (rows_from chain 0 (directs g)) → (s : ℕ) → TableFault g r s → ⊥
 
 -- an image has one first fault at most

@@ -12,9 +12,11 @@ use Rattle.dn_model.specs.Valid.{IsLog, IsRow, IsValid}
 use Rattle.dn_model.specs.Image.{StandsFor, HasFiles}
 use Rattle.law_unique.specs.SameDisk.{IsSameDisk, MeansTheSame}
 
--- words hold one log of an inode at most: the tail and the footers tell its end, and no spelling begins with another
+-- words hold one log of an inode at most: the tail and the footers tell its end, and no spelling
+-- begins with another
 abbrev pub HasOneLog : Type 0
-HasOneLog = (g : Geometry) (ino : ℕ) (c : List ℕ) (x y : Log) → IsLog g ino x → IsLog g ino y → Reads (LogSays ino x) c → Reads (LogSays ino y) c → x ≡ y
+HasOneLog = (g : Geometry) (ino : ℕ) (c : List ℕ) (x y : Log) → IsLog g ino x → IsLog g ino y
+    → Reads (LogSays ino x) c → Reads (LogSays ino y) c → x ≡ y
 
 -- rows that may stand in the chain of this prefix
 abbrev pub AreRows : Geometry → ℕ → List Row → Type 0
@@ -22,7 +24,8 @@ AreRows g prefix rows = (k : ℕ) (row : Row) → slice_get rows k ≡ Some row 
 
 -- and one chain of a prefix
 abbrev pub HasOneChain : Type 0
-HasOneChain = (g : Geometry) (prefix : ℕ) (c : List ℕ) (xs ys : List Row) → prefix < directs g → AreRows g prefix xs → AreRows g prefix ys
+HasOneChain = (g : Geometry) (prefix : ℕ) (c : List ℕ) (xs ys : List Row) → prefix < directs g
+    → AreRows g prefix xs → AreRows g prefix ys
     → Reads (ChainSays g prefix xs) c → Reads (ChainSays g prefix ys) c → xs ≡ ys
 
 -- an image stands for one disk
@@ -47,16 +50,21 @@ SameDisksMeanTheSame = (d e : Disk) → IsValid d → IsSameDisk d e → MeansTh
 abbrev pub HasOneMap : Type 0
 HasOneMap = (c : List ℕ) (f g : Files) → HasFiles c f → HasFiles c g → IsSameFiles f g
 
--- where an image stands for a disk and both gates are closed, each image that has as many words, and the same words where the disk tells them, stands for it
+-- where an image stands for a disk and both gates are closed, each image that has as many words,
+-- and the same words where the disk tells them, stands for it
 abbrev pub IsKnownByWordsRead : Type 0
-IsKnownByWordsRead = (c c' : List ℕ) (d : Disk) → StandsFor c d → slice_index c gate_word ≡ 0 → length c' ≡ length c
+IsKnownByWordsRead = (c c' : List ℕ) (d : Disk) → StandsFor c d → slice_index c gate_word ≡ 0
+    → length c' ≡ length c
     → ((a v : ℕ) → DiskSays d a v → slice_index c' a ≡ slice_index c a) → StandsFor c' d
 
 -- the same with gates that may be open, of the words that rolling them back leaves
 abbrev pub IsKnownByWordsRolled : Type 0
-IsKnownByWordsRolled = (c c' : List ℕ) (d : Disk) → StandsFor c d → IsGate d.geometry.inodes c' → length c' ≡ length c
-    → ((a v : ℕ) → DiskSays d a v → slice_index (rolled c') a ≡ slice_index (rolled c) a) → StandsFor c' d
+IsKnownByWordsRolled = (c c' : List ℕ) (d : Disk) → StandsFor c d → IsGate d.geometry.inodes c'
+    → length c' ≡ length c
+    → ((a v : ℕ) → DiskSays d a v → slice_index (rolled c') a ≡ slice_index (rolled c) a)
+    → StandsFor c' d
 
 -- an image whose gate may be open stands for what it stands for once it is rolled back
 abbrev pub RollingKeeps : Type 0
-RollingKeeps = (c : List ℕ) (d : Disk) → IsGate d.geometry.inodes c → StandsFor c d ↔ StandsFor (rolled c) d
+RollingKeeps = (c : List ℕ) (d : Disk) → IsGate d.geometry.inodes c
+    → StandsFor c d ↔ StandsFor (rolled c) d

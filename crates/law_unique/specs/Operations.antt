@@ -31,9 +31,11 @@ pub record MeetsRefusal (f : Files) (op : Op) (reply : Reply) : Type 0 where
   pub not_granted : IsGranted f op → ⊥
   pub refusal : IsRefusal reply
 
--- a reply is that of an operation that nothing stands in the way of, or a refusal of one that something does
+-- a reply is that of an operation that nothing stands in the way of, or a refusal of one that
+-- something does
 abbrev pub IsGrantedOrRefused : Type 0
-IsGrantedOrRefused = (f : Files) (op : Op) (reply : Reply) → Replies f op reply → MeetsGrant f op reply ⊎ MeetsRefusal f op reply
+IsGrantedOrRefused = (f : Files) (op : Op) (reply : Reply) → Replies f op reply
+    → MeetsGrant f op reply ⊎ MeetsRefusal f op reply
 
 -- what is said of files stays at files with the same bytes at each name
 pub record IsSaidAlike (f g : Files) : Type 0 where
@@ -41,7 +43,8 @@ pub record IsSaidAlike (f g : Files) : Type 0 where
   pub grants : (op : Op) (reply : Reply) → Grants f op reply → Grants g op reply
   pub granted : (op : Op) → IsGranted f op → IsGranted g op
   pub after : (op : Op) → IsSameFiles (after_op f op) (after_op g op)
-  pub step_from : (op : Op) (reply : Reply) (new : Files) → Step f op reply new → Step g op reply new
+  pub step_from : (op : Op) (reply : Reply) (new : Files) → Step f op reply new
+      → Step g op reply new
   pub step_to : (old : Files) (op : Op) (reply : Reply) → Step old op reply f → Step old op reply g
   pub legal_from : (history : List Entry) (new : Files) → Legal f history new → Legal g history new
   pub legal_to : (old : Files) (history : List Entry) → Legal old history f → Legal old history g
@@ -51,21 +54,25 @@ IsOfFiles = (f g : Files) → IsSameFiles f g → IsSaidAlike f g
 
 -- a history has one end
 abbrev pub HasOneEnd : Type 0
-HasOneEnd = (old f g : Files) (history : List Entry) → Legal old history f → Legal old history g → IsSameFiles f g
+HasOneEnd = (old f g : Files) (history : List Entry) → Legal old history f → Legal old history g
+    → IsSameFiles f g
 
 abbrev pub IsLegalInParts : Type 0
-IsLegalInParts = (old new : Files) (front rest : List Entry) → Legal old (front ++ rest) new ↔ ((mid : Files) × Legal old front mid × Legal mid rest new)
+IsLegalInParts = (old new : Files) (front rest : List Entry) → Legal old (front ++ rest) new ↔
+    ((mid : Files) × Legal old front mid × Legal mid rest new)
 
 -- no name of the one is a name of the other
 abbrev pub AreApart : Op → Op → Type 0
 AreApart p q = (name : List ℕ) → Contains (names_of p) name → Contains (names_of q) name → ⊥
 
 abbrev pub Commute : Type 0
-Commute = (f : Files) (p q : Op) → AreApart p q → IsSameFiles (after_op (after_op f p) q) (after_op (after_op f q) p)
+Commute = (f : Files) (p q : Op) → AreApart p q → IsSameFiles (after_op (after_op f p) q)
+    (after_op (after_op f q) p)
 
 -- an operation that lists no files is answered the same before and after another
 abbrev pub IsAnsweredAlike : Type 0
-IsAnsweredAlike = (f : Files) (p q : Op) → AreApart p q → q ≢ ListAll → (reply : Reply) → Replies f q reply ↔ Replies (after_op f p) q reply
+IsAnsweredAlike = (f : Files) (p q : Op) → AreApart p q → q ≢ ListAll → (reply : Reply)
+    → Replies f q reply ↔ Replies (after_op f p) q reply
 
 -- nor does another stand in its way
 abbrev pub IsGrantedAlike : Type 0

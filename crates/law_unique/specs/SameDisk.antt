@@ -16,7 +16,8 @@ IsRead d page = IsMapped d page ⊎ IsSome (row_of (rows d) page)
 pub record HasSameLogs (d e : Disk) : Type 0 where
   pub geometry : d.geometry ≡ e.geometry
   pub uses : (ino : ℕ) → ino < d.geometry.inodes → (d.inode ino).use_of ≡ (e.inode ino).use_of
-  pub logs : (ino : ℕ) → ino < d.geometry.inodes → IsUsed (d.inode ino).use_of → (d.inode ino).log ≡ (e.inode ino).log
+  pub logs : (ino : ℕ) → ino < d.geometry.inodes → IsUsed (d.inode ino).use_of
+      → (d.inode ino).log ≡ (e.inode ino).log
 
 -- all that is read is the same
 pub record IsSameDisk (d e : Disk) : Type 0 where

@@ -39,7 +39,8 @@ after-below : (pages : List ℕ) (k idx size : ℕ) (m : Option Mapping) (items 
     → (x : Mapping) → mapped_after idx m (placed_from pages k items) ≡ Some x → idx < pages_of (size_after size items)
 after-below pages k idx size m [] here = here
 after-below pages k idx size m (Write first n block bytes flag mask ∷ items) here =
-    after-below pages (k + length (spelling (Write first n block bytes flag mask))) idx bytes (remapped idx m (record { slot = slot_name pages k; item = Write first n block bytes flag mask })) items
+    after-below pages (k + length (spelling (Write first n block bytes flag mask))) idx bytes
+    (remapped idx m (record { slot = slot_name pages k; item = Write first n block bytes flag mask })) items
     (λ x e. cut_below bytes idx _ x e)
 after-below pages k idx size m (Size bytes ∷ items) here =
     after-below pages (k + length (spelling (Size bytes))) idx bytes (remapped idx m (record { slot = slot_name pages k; item = Size bytes })) items
@@ -55,8 +56,10 @@ mapping-below log idx x e = after-below log.pages 0 idx 0 None log.items (λ y n
 size_after-small : (size : ℕ) (items : List LogItem) → size ≤ 16777216 → All IsSpelled items → size_after size items ≤ 16777216
 size_after-small size [] small spelled = small
 size_after-small size (Write first n block bytes flag mask ∷ items) small spelled =
-    size_after-small bytes items (All-head IsSpelled (Write first n block bytes flag mask) items spelled).3 (All-tail IsSpelled (Write first n block bytes flag mask) items spelled)
-size_after-small size (Size bytes ∷ items) small spelled = size_after-small bytes items (All-head IsSpelled (Size bytes) items spelled) (All-tail IsSpelled (Size bytes) items spelled)
+    size_after-small bytes items (All-head IsSpelled (Write first n block bytes flag mask) items spelled).3
+    (All-tail IsSpelled (Write first n block bytes flag mask) items spelled)
+size_after-small size (Size bytes ∷ items) small spelled = size_after-small bytes items (All-head IsSpelled (Size bytes) items spelled)
+    (All-tail IsSpelled (Size bytes) items spelled)
 size_after-small size (Add ino name ∷ items) small spelled = size_after-small size items small (All-tail IsSpelled (Add ino name) items spelled)
 size_after-small size (Forget name ∷ items) small spelled = size_after-small size items small (All-tail IsSpelled (Forget name) items spelled)
 
@@ -84,7 +87,8 @@ module _ (d : Disk) (valid : IsValid d) (ino idx : ℕ) (x : Mapping) (in_table 
   log_here = valid.logs ino in_table mapped_by_use.0
 
   pub maps-in_file : idx < 4096
-  maps-in_file = small idx (size_of (d.inode ino).log) (mapping-below (d.inode ino).log idx x mapped_by_use.1) (size-small (d.inode ino).log log_here.spelled)
+  maps-in_file = small idx (size_of (d.inode ino).log) (mapping-below (d.inode ino).log idx x mapped_by_use.1)
+      (size-small (d.inode ino).log log_here.spelled)
     where
       small : (i size : ℕ) → i < pages_of size → size ≤ 16777216 → i < 4096
       small i size lt le = omega arith

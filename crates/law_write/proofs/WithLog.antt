@@ -46,7 +46,8 @@ module _ (d : Disk) (ino : ℕ) (log : Log) (word : ℕ → ℕ → ℕ) where
   }
 
 -- the log grows
-abbrev pub with_log-grown : (d : Disk) (ino : ℕ) (fresh : List ℕ) (more : List LogItem) (word : ℕ → ℕ → ℕ) → IsGrown (d.inode ino).log ((with_log d ino (grown_log (d.inode ino).log fresh more) word).inode ino).log
+abbrev pub with_log-grown : (d : Disk) (ino : ℕ) (fresh : List ℕ) (more : List LogItem) (word : ℕ → ℕ → ℕ)
+    → IsGrown (d.inode ino).log ((with_log d ino (grown_log (d.inode ino).log fresh more) word).inode ino).log
 with_log-grown d ino fresh more word = record {
   fresh = fresh;
   more = more;

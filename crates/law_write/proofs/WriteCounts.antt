@@ -16,7 +16,8 @@ hit-le-one page None = omega arith
 hit-le-one page (Some m) = elim (m.block == page) as (λ b. (if b then 1 else 0) ≤ 1) [ true ↦ omega arith | false ↦ omega arith ]
 
 pub hit_cut : (page size idx : ℕ) (m : Option Mapping) → hit page (cut_to size idx m) ≤ hit page m
-hit_cut page size idx m = elim (nat_lt idx (pages_of size)) as (λ b. hit page (if b then m else None) ≤ hit page m) [ true ↦ omega arith | false ↦ omega arith ]
+hit_cut page size idx m = elim (nat_lt idx (pages_of size)) as (λ b. hit page (if b then m else None) ≤ hit page m)
+    [ true ↦ omega arith | false ↦ omega arith ]
 
 pub hit_other : (page : ℕ) (m : Mapping) → m.block ≢ page → hit page (Some m) ≡ 0
 hit_other page m ne = grind (arith, nat_tests)
@@ -90,12 +91,15 @@ module _ (ino : ℕ) (old new : Disk) (w : Writes ino old new) where
   unmapped page none idx lt = omega (arith, place-le old page ino idx w.in_table lt)
 
   -- a place whose own block isn't the page hits it no more than before
-  pub hit-written : (page idx : ℕ) → ((i : ℕ) → i < w.n → idx ≡ w.first + i → w.blocks i ≢ page) → hit page (maps new ino idx) ≤ hit page (maps old ino idx)
+  pub hit-written : (page idx : ℕ) → ((i : ℕ) → i < w.n → idx ≡ w.first + i → w.blocks i ≢ page) → hit page (maps new ino idx) ≤ hit page
+      (maps old ino idx)
   hit-written page idx ne = elim (own_or_other w.first w.n idx) [
     | inl own ↦
-        let none : hit page (maps new ino idx) ≡ 0 = ap (λ (j : ℕ). hit page (maps new ino j)) own.2 ∙ hit_new page (w.blocks own.0) (maps new ino (w.first + own.0)) (w.own own.0 own.1) (ne own.0 own.1 own.2) in
+        let none : hit page (maps new ino idx) ≡ 0 = ap (λ (j : ℕ). hit page (maps new ino j)) own.2 ∙ hit_new page (w.blocks own.0)
+        (maps new ino (w.first + own.0)) (w.own own.0 own.1) (ne own.0 own.1 own.2) in
         omega (arith, none)
-    | inr out ↦ subst (λ (m : Option Mapping). hit page m ≤ hit page (maps old ino idx)) (sym (w.other idx out)) (hit_cut page w.size idx (maps old ino idx))
+    | inr out ↦ subst (λ (m : Option Mapping). hit page m ≤ hit page (maps old ino idx)) (sym (w.other idx out))
+        (hit_cut page w.size idx (maps old ino idx))
   ]
 
   -- a page that isn't the event's is mapped no more often than before
@@ -106,7 +110,8 @@ module _ (ino : ℕ) (old new : Disk) (w : Writes ino old new) where
   -- a page of the event that wasn't mapped is mapped once at most
   pub mappings-written_own : (page k : ℕ) → k < w.n → page ≡ w.blocks k → mappings old page ≡ 0 → mappings new page ≤ 1
   mappings-written_own page k below is none =
-      let one : places new page ino ≤ hit page (maps new ino (w.first + k)) = total-one (λ idx. hit page (maps new ino idx)) 4096 (w.first + k) (λ idx lt ne.
+      let one : places new page ino ≤ hit page (maps new ino (w.first + k)) = total-one (λ idx. hit page (maps new ino idx)) 4096 (w.first + k)
+      (λ idx lt ne.
       zero_below _ _ _ (hit-written page idx (λ i small at same. ne (elsewhere idx i small at same))) (omega arith) (unmapped page none idx lt)) in
       one_after _ _ _ _ _ (mappings-written page) none one (hit-le-one page (maps new ino (w.first + k)))
     where

@@ -44,7 +44,8 @@ module _ (ino : ℕ) (old new : Disk) (w : Writes ino old new) (ok : WritesWell 
   decide page mapped = ⊎_elim
       (λ (own : (i : ℕ) × (i < w.n) × (page ≡ w.blocks i)).
       let unused : IsUnused old page = subst (IsUnused old) (sym own.2) (ok.blocks own.0 own.1) in
-      inr (λ read. ⊎_elim (not_mapped old page unused) (λ (row : IsSome (row_of (rows old) page)). no_row (row_of (rows old) page) row unused.no_row) read))
+      inr (λ read. ⊎_elim (not_mapped old page unused) (λ (row : IsSome (row_of (rows old) page)). no_row (row_of (rows old) page) row unused.no_row)
+      read))
       (λ (was : IsMapped old page). inl (inl was)) (mapped_cases ino old new w page mapped)
     where
       no_row : (r : Option Row) → IsSome r → IsNone r → ⊥
@@ -55,7 +56,8 @@ module _ (ino : ℕ) (old new : Disk) (w : Writes ino old new) (ok : WritesWell 
   in_data page read = subst (λ (g : Geometry). InData g page) w.relogs.geometry (read_in_data new (written_valid ino old new w ok) page read)
 
   -- the disk of after says other things at the tail and of fresh words alone
-  pub written_differs : DiffersAt (DiskSays old) (DiskSays new) (Fresh ino old new) (inode_word ino 2) (tail_at (new.inode ino).log.pages (count (new.inode ino).log))
+  pub written_differs : DiffersAt (DiskSays old) (DiskSays new) (Fresh ino old new) (inode_word ino 2)
+      (tail_at (new.inode ino).log.pages (count (new.inode ino).log))
   written_differs = relogged_differs ino old new w.relogs w.grown w.in_table
       (λ i lt u. (ok.valid.logs i lt u).paged) ok.paged' (subst IsUsed (sym w.live) tt) in_data decide
 
@@ -92,18 +94,22 @@ module _ (ino : ℕ) (old new : Disk) (w : Writes ino old new) (ok : WritesWell 
         let long : length c ≡ 512 * old.geometry.pages = length-left t.past t.now m c agree left ∙ size in
         ⊎_elim (λ before. inl (stands_for_read old c ok.valid before long))
         (λ after. inr (stands_for_read new c (written_valid ino old new w ok) after (long ∙ ap (λ g. 512 * g.pages) (sym w.relogs.geometry))))
-        (reads_old_or_new (DiskSays old) (DiskSays new) (Fresh ino old new) who _ _ s c (written_differs ino old new w ok) stands ready (leaves.each m c late left));
+        (reads_old_or_new (DiskSays old) (DiskSays new) (Fresh ino old new) who _ _ s c (written_differs ino old new w ok) stands ready
+        (leaves.each m c late left));
   }
 
 -- once it has moved
 module _ (ino : ℕ) (old new : Disk) (w : Writes ino old new) (ok : WritesWell ino old new w)
-    (who : ℕ) (s t : State) (size : length s.now ≡ 512 * old.geometry.pages) (stands : Stands (DiskSays old) s) (ready : IsReady who (Fresh ino old new) s)
-    (done : IsDone who (inode_word ino 2) (tail_at (new.inode ino).log.pages (count (new.inode ino).log)) s t) (only : StoresOnly (λ a. a ≡ inode_word ino 2) s t) where
+    (who : ℕ) (s t : State) (size : length s.now ≡ 512 * old.geometry.pages) (stands : Stands (DiskSays old) s)
+    (ready : IsReady who (Fresh ino old new) s)
+    (done : IsDone who (inode_word ino 2) (tail_at (new.inode ino).log.pages (count (new.inode ino).log)) s t)
+    (only : StoresOnly (λ a. a ≡ inode_word ino 2) s t) where
   tail_inside : inode_word ino 2 < length s.now
   tail_inside =
       let low = inode_word_low old.geometry ino 2 w.in_table (omega arith) in
       omega (arith, low, ok.valid.accepted.room, size)
 
   pub written_stands : Stands (DiskSays new) t
-  written_stands = stands_new (DiskSays old) (DiskSays new) (Fresh ino old new) who (inode_word ino 2) (tail_at (new.inode ino).log.pages (count (new.inode ino).log)) s t
+  written_stands = stands_new (DiskSays old) (DiskSays new) (Fresh ino old new) who (inode_word ino 2)
+      (tail_at (new.inode ino).log.pages (count (new.inode ino).log)) s t
       (written_differs ino old new w ok) stands ready tail_inside done only

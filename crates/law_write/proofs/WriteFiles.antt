@@ -1,5 +1,29 @@
 -- The files after Write items came: the one whose log got them, and no other, is another.
-use Rattle.std.proofs.Common.{◌≡◌, ◌≢◌, inl, inr, ℕ, zero, ◌/◌, ◌%◌, ◌^◌, ◌<◌, ◌≤◌, Bool, true, false, List, [], ◌∷◌, refl, sym, ◌∙◌, ap, subst, arith}
+use Rattle.std.proofs.Common.{
+  ◌≡◌,
+  ◌≢◌,
+  inl,
+  inr,
+  ℕ,
+  zero,
+  ◌/◌,
+  ◌%◌,
+  ◌^◌,
+  ◌<◌,
+  ◌≤◌,
+  Bool,
+  true,
+  false,
+  List,
+  [],
+  ◌∷◌,
+  refl,
+  sym,
+  ◌∙◌,
+  ap,
+  subst,
+  arith,
+}
 use Rattle.std.specs.Prelude.{if◌then◌else◌, ◌==◌, slice_index, Option, Some, None, All}
 use Rattle.std.specs.Option.{option_map}
 use Rattle.std.proofs.lemmas.Bool.{cases_eq, and_parts, and_from}
@@ -42,13 +66,16 @@ same_name-self (x ∷ xs) = and_from (x == x) (same_name xs xs) (itself x) (same
 abbrev IsFileNumber : Geometry → ℕ → Type 0
 IsFileNumber g i = (1 ≤ i) × (i < g.inodes)
 
-after-in_table : (g : Geometry) (name : List ℕ) (found : Option ℕ) (items : List LogItem) → All (MayStand g zero) items → ((i : ℕ) → found ≡ Some i → IsFileNumber g i)
+after-in_table : (g : Geometry) (name : List ℕ) (found : Option ℕ) (items : List LogItem) → All (MayStand g zero) items
+    → ((i : ℕ) → found ≡ Some i → IsFileNumber g i)
     → (i : ℕ) → named_after name found items ≡ Some i → IsFileNumber g i
 after-in_table g name found [] standing before = before
-after-in_table g name found (Write first n block size flag mask ∷ items) standing before = absurd (All-head (MayStand g zero) (Write first n block size flag mask) items standing)
+after-in_table g name found (Write first n block size flag mask ∷ items) standing before = absurd
+    (All-head (MayStand g zero) (Write first n block size flag mask) items standing)
 after-in_table g name found (Size size ∷ items) standing before = absurd (All-head (MayStand g zero) (Size size) items standing)
 after-in_table g name found (Add ino new ∷ items) standing before =
-    after-in_table g name (if same_name new name then Some ino else found) items (All-tail (MayStand g zero) (Add ino new) items standing) (by_test (same_name new name))
+    after-in_table g name (if same_name new name then Some ino else found) items (All-tail (MayStand g zero) (Add ino new) items standing)
+    (by_test (same_name new name))
   where
     one : (j i : ℕ) → Some j ≡ Some i → j ≡ i
     one j i e = cc
@@ -57,7 +84,8 @@ after-in_table g name found (Add ino new ∷ items) standing before =
     by_test true i e = subst (IsFileNumber g) (one ino i e) (All-head (MayStand g zero) (Add ino new) items standing)
     by_test false i e = before i e
 after-in_table g name found (Forget old ∷ items) standing before =
-    after-in_table g name (if same_name old name then None else found) items (All-tail (MayStand g zero) (Forget old) items standing) (by_test (same_name old name))
+    after-in_table g name (if same_name old name then None else found) items (All-tail (MayStand g zero) (Forget old) items standing)
+    (by_test (same_name old name))
   where
     by_test : (b : Bool) (i : ℕ) → (if b then None else found) ≡ Some i → IsFileNumber g i
     by_test true i e = cc
@@ -67,10 +95,12 @@ after-in_table g name found (Forget old ∷ items) standing before =
 pub named-in_table : (d : Disk) → IsValid d → (name : List ℕ) (i : ℕ) → named d name ≡ Some i → IsFileNumber d.geometry i
 unfolding named
 named-in_table d valid name i e =
-    after-in_table d.geometry name None (d.inode 0).log.items (valid.logs 0 (omega (arith, valid.accepted.inodes)) (subst IsUsed (sym valid.root) tt)).standing (λ j none. cc) i e
+    after-in_table d.geometry name None (d.inode 0).log.items (valid.logs 0 (omega (arith, valid.accepted.inodes))
+    (subst IsUsed (sym valid.root) tt)).standing (λ j none. cc) i e
 
 -- a name that leads to a live inode is the only one
-pub one_name : (d : Disk) → IsValid d → (ino : ℕ) → IsFileNumber d.geometry ino → (d.inode ino).use_of ≡ Live → (name other : List ℕ) → named d name ≡ Some ino → named d other ≡ Some ino → other ≡ name
+pub one_name : (d : Disk) → IsValid d → (ino : ℕ) → IsFileNumber d.geometry ino → (d.inode ino).use_of ≡ Live → (name other : List ℕ)
+    → named d name ≡ Some ino → named d other ≡ Some ino → other ≡ name
 one_name d valid ino file live name other e e' =
     let linked : HasOneName d ino = subst (IsLinked d ino) live (valid.links ino file.0 file.1) in
     linked.alone other e' ∙ sym (linked.alone name e)
@@ -83,19 +113,27 @@ module _ (ino : ℕ) (old new : Disk) (w : Writes ino old new) (ok : WritesWell 
       by_map : (m : Option Mapping) → maps old i idx ≡ m → mapped_byte new k m ≡ mapped_byte old k m
       by_map None e = refl
       by_map (Some m) e =
-          let to : MapsTo old i idx m.block = record { in_table = in_table; in_file = maps-in_file old ok.valid i idx m in_table e; by = m; is = e; block = refl } in
+          let to : MapsTo old i idx m.block = record {
+            in_table = in_table;
+            in_file = maps-in_file old ok.valid i idx m in_table e;
+            by = m;
+            is = e;
+            block = refl;
+          } in
           ap (λ (v : ℕ). v / 256 ^ (k % 8) % 256) (w.relogs.word m.block (k / 8) (inl (record { ino = i; idx = idx; maps_to = to })))
 
   -- the other files keep their bytes
   pub bytes-others : (i : ℕ) → i ≢ ino → i < old.geometry.inodes → bytes new i ≡ bytes old i
-  bytes-others i ne in_table = same_number_lists (bytes new i) (bytes old i) (length-bytes new i ∙ same_size ∙ sym (length-bytes old i)) (λ j lt. byte j (omega (arith, lt, length-bytes new i)))
+  bytes-others i ne in_table = same_number_lists (bytes new i) (bytes old i) (length-bytes new i ∙ same_size ∙ sym (length-bytes old i))
+      (λ j lt. byte j (omega (arith, lt, length-bytes new i)))
     where
       same_size : size_of (new.inode i).log ≡ size_of (old.inode i).log
       same_size = ap (λ (n : Inode). size_of n.log) (w.relogs.others i ne)
 
       byte : (j : ℕ) → j < size_of (new.inode i).log → slice_index (bytes new i) j ≡ slice_index (bytes old i) j
       byte j lt =
-          byte_at new i j lt ∙ ap (mapped_byte new (j % 4096)) (maps_others ino old new w i (j / 4096) ne) ∙ mapped_byte-same i (j / 4096) (j % 4096) in_table
+          byte_at new i j lt ∙ ap (mapped_byte new (j % 4096)) (maps_others ino old new w i (j / 4096) ne) ∙ mapped_byte-same i (j / 4096) (j % 4096)
+          in_table
           ∙ sym (byte_at old i j (omega (arith, lt, same_size)))
 
   -- the files are those after the operation
@@ -117,7 +155,8 @@ module _ (ino : ℕ) (old new : Disk) (w : Writes ino old new) (ok : WritesWell 
       ]
         where
           both : other ≡ name → ⊥
-          both same = let self : same_name name name ≡ true = same_name-self name in let differs : same_name name name ≡ false = ap (same_name name) (sym same) ∙ t in cc
+          both same = let self : same_name name name ≡ true = same_name-self name in let differs : same_name name name ≡ false = ap (same_name name)
+              (sym same) ∙ t in cc
 
       by_test : (t : Bool) → same_name name other ≡ t
           → option_map (bytes new) (named old other) ≡ (if t then Some (written (bytes_or_none (files old name)) at (b ∷ text)) else files old other)

@@ -16,7 +16,18 @@ use Rattle.law_write.specs.Writing.{Writes, WritesWell, IsOverwritten}
 use Rattle.law_write.proofs.Counting.{total-lt, total-some, terms-le}
 use Rattle.law_write.proofs.MappedPlaces.{mapping-below, uncut, maps-in_file}
 use Rattle.law_write.proofs.Unread.{read_in_data}
-use Rattle.law_write.proofs.WriteCounts.{hit_here, hit_other, places, place-le, places-le, own_or_other, maps_old, mappings-written, mappings-written_other, hit-written}
+use Rattle.law_write.proofs.WriteCounts.{
+  hit_here,
+  hit_other,
+  places,
+  place-le,
+  places-le,
+  own_or_other,
+  maps_old,
+  mappings-written,
+  mappings-written_other,
+  hit-written,
+}
 use Rattle.law_write.proofs.WriteValid.{use_kept, was_used, log_page_cases, not_mapped, written_valid}
 
 -- a mapping that hits the page is there, with this block
@@ -28,12 +39,14 @@ hit_some page (Some x) some = elim (cases_eq x.block page) [
 ]
 
 -- two places of a file on a page without a row are one place
-pub places_apart : (d : Disk) → IsValid d → (ino i j : ℕ) (x y : Mapping) → ino < d.geometry.inodes → maps d ino i ≡ Some x → maps d ino j ≡ Some y → i ≢ j
+pub places_apart : (d : Disk) → IsValid d → (ino i j : ℕ) (x y : Mapping) → ino < d.geometry.inodes → maps d ino i ≡ Some x → maps d ino j ≡ Some y
+    → i ≢ j
     → IsNone (row_of (rows d) x.block) → x.block ≢ y.block
 places_apart d valid ino i j x y in_table at_i at_j ne none same =
     let one : hit x.block (maps d ino i) ≡ 1 = ap (hit x.block) at_i ∙ hit_here x.block x refl in
     let two : hit x.block (maps d ino j) ≡ 1 = ap (hit x.block) at_j ∙ hit_here x.block y (sym same) in
-    let both = terms-le (λ idx. hit x.block (maps d ino idx)) 4096 i j (maps-in_file d valid ino i x in_table at_i) (maps-in_file d valid ino j y in_table at_j) ne in
+    let both = terms-le (λ idx. hit x.block (maps d ino idx)) 4096 i j (maps-in_file d valid ino i x in_table at_i)
+    (maps-in_file d valid ino j y in_table at_j) ne in
     too_many _ _ _ _ one two both (places-le d x.block ino in_table) (valid.single.unshared x.block none)
   where
     too_many : (a b c e : ℕ) → a ≡ 1 → b ≡ 1 → a + b ≤ c → c ≤ e → e ≤ 1 → ⊥
@@ -91,11 +104,19 @@ module _ (ino : ℕ) (old new : Disk) (w : Writes ino old new) (ok : WritesWell 
       let here = w.own i lt in
       let in_table : ino < new.geometry.inodes = in_new_table ino old new w ino w.in_table in
       let one : hit (w.blocks i) (maps new ino (w.first + i)) ≡ 1 = ap (hit (w.blocks i)) here.is ∙ hit_here (w.blocks i) here.by here.page in
-      omega (arith, one, place-le new (w.blocks i) ino (w.first + i) in_table (maps-in_file new (written_valid ino old new w ok) ino (w.first + i) here.by in_table here.is), free.unmapped)
+      omega (
+        arith,
+        one,
+        place-le new (w.blocks i) ino (w.first + i) in_table (maps-in_file new (written_valid ino old new w ok) ino (w.first + i)
+            here.by in_table here.is),
+        free.unmapped,
+      )
 
   -- a place of the old file that the event leaves alone is where it was, if the size doesn't fall
-  other_stays : size_of (old.inode ino).log ≤ w.size → (idx : ℕ) (x : Mapping) → maps old ino idx ≡ Some x → (idx < w.first) ⊎ (w.first + w.n ≤ idx) → maps new ino idx ≡ Some x
-  other_stays grows idx x was out = w.other idx out ∙ uncut w.size idx (maps old ino idx) (inside idx _ _ (mapping-below (old.inode ino).log idx x (sym (maps_old ino old new w idx) ∙ was)) grows) ∙ was
+  other_stays : size_of (old.inode ino).log ≤ w.size → (idx : ℕ) (x : Mapping) → maps old ino idx ≡ Some x → (idx < w.first) ⊎ (w.first + w.n ≤ idx)
+      → maps new ino idx ≡ Some x
+  other_stays grows idx x was out = w.other idx out ∙ uncut w.size idx (maps old ino idx)
+      (inside idx _ _ (mapping-below (old.inode ino).log idx x (sym (maps_old ino old new w idx) ∙ was)) grows) ∙ was
     where
       inside : (i less more : ℕ) → i < pages_of less → less ≤ more → i < pages_of more
       inside i less more lt le = omega arith
@@ -109,10 +130,18 @@ module _ (ino : ℕ) (old new : Disk) (w : Writes ino old new) (ok : WritesWell 
       unmapped = none;
     })
     | inr some ↦
-        let found = total-some (λ idx. hit page (maps old ino idx)) 4096 (here _ _ _ _ (mappings-written ino old new w page) free.unmapped (places-le new page ino in_table) some) in
+        let found = total-some (λ idx. hit page (maps old ino idx)) 4096 (here _ _ _ _ (mappings-written ino old new w page) free.unmapped
+        (places-le new page ino in_table) some) in
         let x = hit_some page (maps old ino found.0) found.2 in
         inr (⊎_elim
-        (λ (own : (i : ℕ) × (i < w.n) × (found.0 ≡ w.first + i)). record { i = own.0; below = own.1; by = x.0; was = ap (maps old ino) (sym own.2) ∙ x.1; block = x.2 })
+        (λ (own : (i : ℕ) × (i < w.n) × (found.0 ≡ w.first + i)). record {
+          i = own.0;
+          below = own.1;
+          by = x.0;
+          was = ap (maps old ino) (sym own.2) ∙
+              x.1;
+          block = x.2;
+        })
         (λ (out : (found.0 < w.first) ⊎ (w.first + w.n ≤ found.0)). absurd (still found.0 found.1 x.0 x.2 (other_stays grows found.0 x.0 x.1 out)))
         (own_or_other w.first w.n found.0))
   ]
@@ -120,7 +149,8 @@ module _ (ino : ℕ) (old new : Disk) (w : Writes ino old new) (ok : WritesWell 
       in_table : ino < new.geometry.inodes
       in_table = in_new_table ino old new w ino w.in_table
 
-      here : (mapped_new places_old mapped_old places_new : ℕ) → mapped_new + places_old ≡ mapped_old + places_new → mapped_new ≡ 0 → places_new ≤ mapped_new → mapped_old ≢ 0 → 1 ≤ places_old
+      here : (mapped_new places_old mapped_old places_new : ℕ) → mapped_new + places_old ≡ mapped_old + places_new → mapped_new ≡ 0
+          → places_new ≤ mapped_new → mapped_old ≢ 0 → 1 ≤ places_old
       here mapped_new places_old mapped_old places_new e none le some = omega arith
 
       still : (idx : ℕ) → idx < 4096 → (x : Mapping) → x.block ≡ page → maps new ino idx ≡ Some x → ⊥
@@ -142,7 +172,13 @@ module _ (ino : ℕ) (old new : Disk) (w : Writes ino old new) (ok : WritesWell 
   }
     where
       at_place : MapsTo old ino (w.first + over.i) page
-      at_place = record { in_table = w.in_table; in_file = maps-in_file old ok.valid ino (w.first + over.i) over.by w.in_table over.was; by = over.by; is = over.was; block = over.block }
+      at_place = record {
+        in_table = w.in_table;
+        in_file = maps-in_file old ok.valid ino (w.first + over.i) over.by w.in_table over.was;
+        by = over.by;
+        is = over.was;
+        block = over.block;
+      }
 
       mapped : IsMapped old page
       mapped = record { ino = ino; idx = w.first + over.i; maps_to = at_place }
@@ -154,9 +190,11 @@ module _ (ino : ℕ) (old new : Disk) (w : Writes ino old new) (ok : WritesWell 
       fewer =
           let before : hit page (maps old ino (w.first + over.i)) ≡ 1 = ap (hit page) over.was ∙ hit_here page over.by over.block in
           let here = w.own over.i over.below in
-          let after : hit page (maps new ino (w.first + over.i)) ≡ 0 = ap (hit page) here.is ∙ hit_other page here.by (λ e. no_block over.i over.below (sym here.page ∙ e)) in
+          let after : hit page (maps new ino (w.first + over.i)) ≡ 0 = ap (hit page) here.is ∙ hit_other page here.by
+          (λ e. no_block over.i over.below (sym here.page ∙ e)) in
           total-lt (λ idx. hit page (maps old ino idx)) (λ idx. hit page (maps new ino idx)) 4096 (w.first + over.i) at_place.in_file
           (λ idx lt. hit-written ino old new w page idx (λ i below e. no_block i below)) (omega (arith, before, after))
 
-      gone : (mapped_new places_old mapped_old places_new : ℕ) → mapped_new + places_old ≡ mapped_old + places_new → places_new < places_old → mapped_old ≤ 1 → mapped_new ≡ 0
+      gone : (mapped_new places_old mapped_old places_new : ℕ) → mapped_new + places_old ≡ mapped_old + places_new → places_new < places_old
+          → mapped_old ≤ 1 → mapped_new ≡ 0
       gone mapped_new places_old mapped_old places_new e lt few = omega arith

@@ -1,5 +1,38 @@
--- After a write the image still has what every image of this program has: zeros past the end, the prints of its rows, and marks that tell what the daemon did.
-use Rattle.std.proofs.Common.{◌≡◌, ◌⊎◌, inl, inr, ⊎_elim, ℕ, zero, suc, ◌+◌, ◌*◌, ◌/◌, ◌%◌, ◌^◌, ◌<◌, ◌≤◌, max, Bool, true, false, List, [], ◌∷◌, length, get_or, map, refl, sym, ◌∙◌, ap, subst, arith}
+-- After a write the image still has what every image of this program has: zeros past the end, the prints of its rows, and marks that tell what the
+-- daemon did.
+use Rattle.std.proofs.Common.{
+  ◌≡◌,
+  ◌⊎◌,
+  inl,
+  inr,
+  ⊎_elim,
+  ℕ,
+  zero,
+  suc,
+  ◌+◌,
+  ◌*◌,
+  ◌/◌,
+  ◌%◌,
+  ◌^◌,
+  ◌<◌,
+  ◌≤◌,
+  max,
+  Bool,
+  true,
+  false,
+  List,
+  [],
+  ◌∷◌,
+  length,
+  get_or,
+  map,
+  refl,
+  sym,
+  ◌∙◌,
+  ap,
+  subst,
+  arith,
+}
 use Rattle.std.specs.Prelude.{if◌then◌else◌, ◌==◌, Some, IsSome, All}
 use Rattle.std.specs.List.{range_with_len}
 use Rattle.std.proofs.lemmas.Bool.{cases_eq}
@@ -64,7 +97,8 @@ module _ (ino : ℕ) (old new : Disk) (w : Writes ino old new) (ok : WritesWell 
       | inr out ↦ inr (record {
         in_table = below_old ino old new w i place.in_table;
         live = sym (use_kept ino old new w i) ∙ place.live;
-        maps = ap (λ (j : ℕ). maps old j idx) e ∙ cut_some w.size idx (maps old ino idx) m (sym (w.other idx out) ∙ ap (λ (j : ℕ). maps new j idx) (sym e) ∙ place.maps);
+        maps = ap (λ (j : ℕ). maps old j idx) e ∙ cut_some w.size idx (maps old ino idx) m (sym (w.other idx out) ∙ ap (λ (j : ℕ). maps new j idx)
+            (sym e) ∙ place.maps);
       })
     ]
     | inr ne ↦ inr (record {
@@ -78,10 +112,17 @@ module _ (ino : ℕ) (old new : Disk) (w : Writes ino old new) (ok : WritesWell 
   live_read i idx m place = inl (record {
     ino = i;
     idx = idx;
-    maps_to = record { in_table = place.in_table; in_file = maps-in_file old ok.valid i idx m place.in_table place.maps; by = m; is = place.maps; block = refl };
+    maps_to = record {
+      in_table = place.in_table;
+      in_file = maps-in_file old ok.valid i idx m place.in_table place.maps;
+      by = m;
+      is = place.maps;
+      block = refl;
+    };
   })
 
-module _ (print : Print) (ino : ℕ) (old new : Disk) (w : Writes ino old new) (ok : WritesWell ino old new w) (at : ℕ) (text : List ℕ) (is : WritesBytes ino old new w at text) (own : IsOwn print old) where
+module _ (print : Print) (ino : ℕ) (old new : Disk) (w : Writes ino old new) (ok : WritesWell ino old new w) (at : ℕ) (text : List ℕ)
+    (is : WritesBytes ino old new w at text) (own : IsOwn print old) where
   grows : size_of (old.inode ino).log ≤ w.size
   grows = bound (size_of (old.inode ino).log) (length (bytes old ino)) (at + length text) w.size (length-bytes old ino) is.size
     where
@@ -98,28 +139,33 @@ module _ (print : Print) (ino : ℕ) (old new : Disk) (w : Writes ino old new) (
   sizes : (i : ℕ) → size_of (old.inode i).log ≤ size_of (new.inode i).log
   sizes i = elim (cases_eq i ino) [
     | inl e ↦ subst (λ (j : ℕ). size_of (old.inode j).log ≤ size_of (new.inode j).log) (sym e) (omega (arith, w.last_size, grows))
-    | inr ne ↦ let same : size_of (new.inode i).log ≡ size_of (old.inode i).log = ap (λ (n : Inode). size_of n.log) (w.relogs.others i ne) in omega (arith, same)
+    | inr ne ↦ let same : size_of (new.inode i).log ≡ size_of (old.inode i).log = ap (λ (n : Inode). size_of n.log) (w.relogs.others i ne) in
+        omega (arith, same)
   ]
 
   -- a new page holds zeros past the end
   own_zeros : (idx k j : ℕ) → j < w.n → idx ≡ w.first + j → w.size ≤ 4096 * idx + k → k < 4096 → byte_of new (w.blocks j) k ≡ 0
   own_zeros idx k j below at_place past small =
       let high : w.size ≤ 4096 * (w.first + j) + k = omega arith in
-      is.outside j k below small (λ low less. omega (arith, high, less, text_inside)) ∙ get_or_past (bytes old ino) (4096 * (w.first + j) + k) 0 (omega (arith, high, grows, length-bytes old ino))
+      is.outside j k below small (λ low less. omega (arith, high, less, text_inside)) ∙ get_or_past (bytes old ino) (4096 * (w.first + j) + k) 0
+      (omega (arith, high, grows, length-bytes old ino))
 
   zeros : (i idx k : ℕ) (m : Mapping) → LivePlace new i idx m → size_of (new.inode i).log ≤ 4096 * idx + k → k < 4096 → byte_of new m.block k ≡ 0
   zeros i idx k m place past small = ⊎_elim
       (λ (mine : (i ≡ ino) × ((j : ℕ) × (j < w.n) × (idx ≡ w.first + j) × (m.block ≡ w.blocks j) × (m.flag ≡ Needed))).
       let long : size_of (new.inode i).log ≡ w.size = ap (λ (j : ℕ). size_of (new.inode j).log) mine.0 ∙ w.last_size in
       ap (λ (page : ℕ). byte_of new page k) mine.1.3 ∙ own_zeros idx k mine.1.0 mine.1.1 mine.1.2 (omega (arith, long, past)) small)
-      (λ (was : LivePlace old i idx m). byte-same ino old new w ok m.block k (live_read ino old new w ok i idx m was) ∙ own.zeros i idx k m was (omega (arith, sizes i, past)) small)
+      (λ (was : LivePlace old i idx m). byte-same ino old new w ok m.block k (live_read ino old new w ok i idx m was) ∙ own.zeros i idx k m was
+      (omega (arith, sizes i, past)) small)
       (live_cases ino old new w ok i idx m place)
 
   complete : (i idx : ℕ) (m : Mapping) → LivePlace new i idx m → m.flag ≡ Complete → IsAlone m ⊎ HasRow new m.block
   complete i idx m place done = ⊎_elim
-      (λ (mine : (i ≡ ino) × ((j : ℕ) × (j < w.n) × (idx ≡ w.first + j) × (m.block ≡ w.blocks j) × (m.flag ≡ Needed))). absurd (not_complete m.flag mine.1.4 done))
+      (λ (mine : (i ≡ ino) × ((j : ℕ) × (j < w.n) × (idx ≡ w.first + j) × (m.block ≡ w.blocks j) × (m.flag ≡ Needed))). absurd
+      (not_complete m.flag mine.1.4 done))
       (λ (was : LivePlace old i idx m). ⊎_elim (λ alone. inl alone)
-      (λ (row : HasRow old m.block). inr (subst (λ (rs : List Row). IsSome (row_of rs m.block)) (sym (rows_kept ino old new w)) row)) (own.complete i idx m was done))
+      (λ (row : HasRow old m.block). inr (subst (λ (rs : List Row). IsSome (row_of rs m.block)) (sym (rows_kept ino old new w)) row))
+      (own.complete i idx m was done))
       (live_cases ino old new w ok i idx m place)
 
   pub own-written : IsOwn print new

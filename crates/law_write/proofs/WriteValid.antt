@@ -31,7 +31,8 @@ block_or_not blocks page zero = inr (λ i lt. absurd (omega arith))
 block_or_not blocks page (suc n) = elim (cases_eq page (blocks n)) [
   | inl e ↦ inl (n, omega arith, e)
   | inr ne ↦ ⊎_elim (λ found. inl (found.0, omega (arith, found.1), found.2))
-      (λ none. inr (λ i lt. ⊎_elim (λ (e : i ≡ n). subst (λ (k : ℕ). blocks k ≢ page) (sym e) (λ same. ne (sym same))) (λ (other : i ≢ n). none i (omega arith)) (cases_eq i n)))
+      (λ none. inr (λ i lt. ⊎_elim (λ (e : i ≡ n). subst (λ (k : ℕ). blocks k ≢ page) (sym e) (λ same. ne (sym same)))
+      (λ (other : i ≢ n). none i (omega arith)) (cases_eq i n)))
       (block_or_not blocks page n)
 ]
 
@@ -71,9 +72,29 @@ module _ (ino : ℕ) (old new : Disk) (w : Writes ino old new) where
       let to = m.maps_to in elim (cases_eq m.ino ino) [
         | inl e ↦
             ⊎_elim (λ own. inl (own.0, own.1, sym to.block ∙ own.2))
-            (λ was. inr (record { ino = ino; idx = m.idx; maps_to = record { in_table = w.in_table; in_file = to.in_file; by = to.by; is = was; block = to.block } }))
+            (λ was. inr (record {
+              ino = ino;
+              idx = m.idx;
+              maps_to = record {
+                in_table = w.in_table;
+                in_file = to.in_file;
+                by = to.by;
+                is = was;
+                block = to.block;
+              };
+            }))
             (own_cases m.idx to.by (ap (λ (i : ℕ). maps new i m.idx) (sym e) ∙ to.is))
-        | inr ne ↦ inr (record { ino = m.ino; idx = m.idx; maps_to = record { in_table = below_old m.ino to.in_table; in_file = to.in_file; by = to.by; is = sym (maps_others ino old new w m.ino m.idx ne) ∙ to.is; block = to.block } })
+        | inr ne ↦ inr (record {
+          ino = m.ino;
+          idx = m.idx;
+          maps_to = record {
+            in_table = below_old m.ino to.in_table;
+            in_file = to.in_file;
+            by = to.by;
+            is = sym (maps_others ino old new w m.ino m.idx ne) ∙ to.is;
+            block = to.block;
+          };
+        })
       ]
 
   -- a log page was one before, or is fresh
@@ -82,8 +103,14 @@ module _ (ino : ℕ) (old new : Disk) (w : Writes ino old new) where
     | inl e ↦
         let there : Contains ((old.inode ino).log.pages ++ w.grown.fresh) page =
         subst (λ (ps : List ℕ). Contains ps page) w.grown.pages (subst (λ (i : ℕ). Contains (new.inode i).log.pages page) e p.listed) in
-        ⊎_elim (λ was. inl (record { ino = ino; in_table = w.in_table; used = was_used; listed = was })) (λ fresh. inr fresh) (Contains-append_cases (old.inode ino).log.pages w.grown.fresh page there)
-    | inr ne ↦ inl (record { ino = p.ino; in_table = below_old p.ino p.in_table; used = subst IsUsed (use_kept p.ino) p.used; listed = subst (λ (n : Inode). Contains n.log.pages page) (w.relogs.others p.ino ne) p.listed })
+        ⊎_elim (λ was. inl (record { ino = ino; in_table = w.in_table; used = was_used; listed = was })) (λ fresh. inr fresh)
+        (Contains-append_cases (old.inode ino).log.pages w.grown.fresh page there)
+    | inr ne ↦ inl (record {
+      ino = p.ino;
+      in_table = below_old p.ino p.in_table;
+      used = subst IsUsed (use_kept p.ino) p.used;
+      listed = subst (λ (n : Inode). Contains n.log.pages page) (w.relogs.others p.ino ne) p.listed;
+    })
   ]
 
 module _ (ino : ℕ) (old new : Disk) (w : Writes ino old new) (ok : WritesWell ino old new w) where
@@ -111,19 +138,28 @@ module _ (ino : ℕ) (old new : Disk) (w : Writes ino old new) (ok : WritesWell 
 
   no_row : (page : ℕ) → IsLogPage new page → IsNone (row_of (rows new) page)
   no_row page p = subst (λ (rs : List Row). IsNone (row_of rs page)) (sym rows_same)
-      (⊎_elim (λ (was : IsLogPage old page). ok.valid.single.log_no_row page was) (λ (fresh : Contains w.grown.fresh page). (ok.fresh page fresh).no_row) (log_page_cases ino old new w page p))
+      (⊎_elim (λ (was : IsLogPage old page). ok.valid.single.log_no_row page was)
+      (λ (fresh : Contains w.grown.fresh page). (ok.fresh page fresh).no_row) (log_page_cases ino old new w page p))
 
   unshared : (page : ℕ) → IsNone (row_of (rows new) page) → mappings new page ≤ 1
   unshared page none = elim (block_or_not w.blocks page w.n) [
-    | inl found ↦ mappings-written_own ino old new w page found.0 found.1 found.2 (subst (λ (p : ℕ). mappings old p ≡ 0) (sym found.2) (ok.blocks found.0 found.1).free.unmapped)
-    | inr other ↦ omega (arith, mappings-written_other ino old new w page other, ok.valid.single.unshared page (subst (λ (rs : List Row). IsNone (row_of rs page)) rows_same none))
+    | inl found ↦ mappings-written_own ino old new w page found.0 found.1 found.2 (subst (λ (p : ℕ). mappings old p ≡ 0) (sym found.2)
+        (ok.blocks found.0 found.1).free.unmapped)
+    | inr other ↦ omega (
+      arith,
+      mappings-written_other ino old new w page other,
+      ok.valid.single.unshared page
+          (subst (λ (rs : List Row). IsNone (row_of rs page)) rows_same none),
+    )
   ]
 
   -- a page of this inode's log that another log has is no page of two logs before, nor fresh
-  one_log_here : (j page : ℕ) → j ≢ ino → j < old.geometry.inodes → IsUsed (old.inode j).use_of → Contains (new.inode ino).log.pages page → Contains (old.inode j).log.pages page → ⊥
+  one_log_here : (j page : ℕ) → j ≢ ino → j < old.geometry.inodes → IsUsed (old.inode j).use_of → Contains (new.inode ino).log.pages page
+      → Contains (old.inode j).log.pages page → ⊥
   one_log_here j page ne lt use_j here there = ⊎_elim
       (λ (was : Contains (old.inode ino).log.pages page). ne (sym (ok.valid.single.one_log ino j page w.in_table lt used use_j was there)))
-      (λ (fresh : Contains w.grown.fresh page). (ok.fresh page fresh).free.in_no_log (record { ino = j; in_table = lt; used = use_j; listed = there }))
+      (λ (fresh : Contains w.grown.fresh page). (ok.fresh page fresh).free.in_no_log
+      (record { ino = j; in_table = lt; used = use_j; listed = there }))
       (Contains-append_cases (old.inode ino).log.pages w.grown.fresh page (subst (λ (ps : List ℕ). Contains ps page) w.grown.pages here))
 
   one_log : (i j page : ℕ) → i < new.geometry.inodes → j < new.geometry.inodes → IsUsed (new.inode i).use_of → IsUsed (new.inode j).use_of
@@ -131,11 +167,14 @@ module _ (ino : ℕ) (old new : Disk) (w : Writes ino old new) (ok : WritesWell 
   one_log i j page il jl ui uj ci cj = elim (cases_eq i ino) [
     | inl ei ↦ elim (cases_eq j ino) [
       | inl ej ↦ ei ∙ sym ej
-      | inr nj ↦ absurd (one_log_here j page nj (below j jl) (subst IsUsed (use_same j) uj) (subst (λ (k : ℕ). Contains (new.inode k).log.pages page) ei ci) (moved j nj cj))
+      | inr nj ↦ absurd (one_log_here j page nj (below j jl) (subst IsUsed (use_same j) uj) (subst (λ (k : ℕ). Contains (new.inode k).log.pages page)
+          ei ci) (moved j nj cj))
     ]
     | inr ni ↦ elim (cases_eq j ino) [
-      | inl ej ↦ absurd (one_log_here i page ni (below i il) (subst IsUsed (use_same i) ui) (subst (λ (k : ℕ). Contains (new.inode k).log.pages page) ej cj) (moved i ni ci))
-      | inr nj ↦ ok.valid.single.one_log i j page (below i il) (below j jl) (subst IsUsed (use_same i) ui) (subst IsUsed (use_same j) uj) (moved i ni ci) (moved j nj cj)
+      | inl ej ↦ absurd (one_log_here i page ni (below i il) (subst IsUsed (use_same i) ui) (subst (λ (k : ℕ). Contains (new.inode k).log.pages page)
+          ej cj) (moved i ni ci))
+      | inr nj ↦ ok.valid.single.one_log i j page (below i il) (below j jl) (subst IsUsed (use_same i) ui) (subst IsUsed (use_same j) uj)
+          (moved i ni ci) (moved j nj cj)
     ]
   ]
     where
@@ -148,7 +187,8 @@ module _ (ino : ℕ) (old new : Disk) (w : Writes ino old new) (ok : WritesWell 
       record {
         paged = ok.paged';
         spelled = subst (All IsSpelled) (sym w.grown.items) (All-append IsSpelled (old.inode ino).log.items w.grown.more before.spelled ok.spelled);
-        standing = subst (All (MayStand old.geometry ino)) (sym w.grown.items) (All-append (MayStand old.geometry ino) (old.inode ino).log.items w.grown.more before.standing ok.standing);
+        standing = subst (All (MayStand old.geometry ino)) (sym w.grown.items) (All-append (MayStand old.geometry ino) (old.inode ino).log.items
+            w.grown.more before.standing ok.standing);
       }
 
   logs : (i : ℕ) → i < old.geometry.inodes → IsUsed (old.inode i).use_of → IsLog old.geometry i (new.inode i).log
@@ -163,7 +203,12 @@ module _ (ino : ℕ) (old new : Disk) (w : Writes ino old new) (ok : WritesWell 
   named_same name = ap (λ (n : Inode). named_after name None n.log.items) (w.relogs.others 0 (λ e. omega (arith, e, ok.file)))
 
   linked : (i : ℕ) (u : Use) → IsLinked old i u → IsLinked new i u
-  linked i Live one = record { name = one.name; leads = named_same one.name ∙ one.leads; alone = λ other e. one.alone other (sym (named_same other) ∙ e) }
+  linked i Live one = record {
+    name = one.name;
+    leads = named_same one.name ∙ one.leads;
+    alone = λ other e. one.alone other
+        (sym (named_same other) ∙ e);
+  }
   linked i Free none = λ name e. none name (sym (named_same name) ∙ e)
   linked i (Dying c) none = λ name e. none name (sym (named_same name) ∙ e)
 
@@ -177,9 +222,12 @@ module _ (ino : ℕ) (old new : Disk) (w : Writes ino old new) (ok : WritesWell 
     cuts = λ i lt. subst IsCut (sym (use_same i)) (ok.valid.cuts i (below i lt));
     logs = λ i lt u. at_old_geometry (λ g. IsLog g i (new.inode i).log) (logs i (below i lt) (subst IsUsed (use_same i) u));
     links = λ i some lt. subst (IsLinked new i) (sym (use_same i)) (linked i (old.inode i).use_of (ok.valid.links i some (below i lt)));
-    table = λ p k row lt is. at_old_geometry (λ g. IsRow g p k row) (ok.valid.table p k row (subst (λ (g : Geometry). p < directs g) w.relogs.geometry lt) (subst (λ (rs : List Row). slice_get rs k ≡ Some row) (w.relogs.chain p) is));
+    table = λ p k row lt is. at_old_geometry (λ g. IsRow g p k row)
+        (ok.valid.table p k row (subst (λ (g : Geometry). p < directs g) w.relogs.geometry lt) (subst (λ (rs : List Row). slice_get rs k ≡ Some row)
+        (w.relogs.chain p) is));
     rows_apart = subst AreApart (sym rows_same) ok.valid.rows_apart;
-    pointers = λ page lt. at_old_geometry (λ g. new.pointer page ≤ slots g) (subst (λ (n : ℕ). n ≤ slots old.geometry) (sym (w.relogs.pointer page)) (ok.valid.pointers page (subst (λ (g : Geometry). page < g.pages) w.relogs.geometry lt)));
+    pointers = λ page lt. at_old_geometry (λ g. new.pointer page ≤ slots g) (subst (λ (n : ℕ). n ≤ slots old.geometry) (sym (w.relogs.pointer page))
+        (ok.valid.pointers page (subst (λ (g : Geometry). page < g.pages) w.relogs.geometry lt)));
     leads = subst (All (λ row. new.pointer row.page ≡ row.slot + 1)) (sym rows_same) (λ k d lt. w.relogs.pointer _ ∙ ok.valid.leads k d lt);
     single = record { one_log = one_log; log_unmapped = log_unmapped; log_no_row = no_row; unshared = unshared };
     near = ok.near;

@@ -1,4 +1,5 @@
--- What a commit writes is cut into runs: consecutive places of the file on consecutive pages. Each run is one Write item.
+-- What a commit writes is cut into runs: consecutive places of the file on consecutive pages. Each
+-- run is one Write item.
 use Rattle.std.specs.Prelude.{◌≡◌, ℕ, ◌+◌, ◌-◌, ◌≤◌, if◌then◌else◌, nat_lt, List, [], ◌∷◌, map}
 use Rattle.log_entry.specs.declared.item.Flag.TheVariants.{Needed}
 use Rattle.log_entry.specs.declared.item.LogItem.{LogItem}
@@ -25,9 +26,11 @@ places_in (run ∷ runs) = run.count + places_in runs
 -- the page of the i-th of these places
 abbrev pub block_at : List Run → ℕ → ℕ
 block_at [] i = 0
-block_at (run ∷ runs) i = if nat_lt i run.count then run.block + i else block_at runs (i - run.count)
+block_at (run ∷ runs) i = if nat_lt i run.count then run.block + i else block_at runs
+    (i - run.count)
 
 -- the runs follow each other from this place on, and an item can tell each
 abbrev pub IsChained : ℕ → List Run → Type 0
 IsChained first [] = Unit {0}
-IsChained first (run ∷ runs) = (run.first ≡ first) × (1 ≤ run.count) × (run.count ≤ 17) × IsChained (first + run.count) runs
+IsChained first (run ∷ runs) = (run.first ≡ first) × (1 ≤ run.count) × (run.count ≤ 17) × IsChained
+    (first + run.count) runs

@@ -20,7 +20,8 @@ high_byte b x i lt =
     ∙ ap (λ y. y / 256 ^ i) (drop_byte b x lt)
 
 -- a byte of a name from the number of some of its bytes
-pub byte_of-le_number : (name : List ℕ) (at c i : ℕ) → ((j : ℕ) → slice_index name j < 256) → i < c → byte_of (le_number name at c) i ≡ slice_index name (at + i)
+pub byte_of-le_number : (name : List ℕ) (at c i : ℕ) → ((j : ℕ) → slice_index name j < 256) → i < c → byte_of (le_number name at c) i ≡ slice_index
+    name (at + i)
 byte_of-le_number name at zero i small lt = absurd (omega arith)
 byte_of-le_number name at (suc c) zero small lt =
     let z : at + 0 ≡ at = omega arith in rw z (low_byte (slice_index name at) (le_number name (at + 1) c) (small at))
@@ -30,20 +31,25 @@ byte_of-le_number name at (suc c) (suc i) small lt =
     ∙ byte_of-le_number name (at + 1) c i small (omega arith)
     ∙ ap (λ j. slice_index name j) z
 
-pub number_same : (n b : List ℕ) (at c : ℕ) → ((j : ℕ) → j < c → slice_index n (at + j) ≡ slice_index b (at + j)) → le_number n at c ≡ le_number b at c
+pub number_same : (n b : List ℕ) (at c : ℕ) → ((j : ℕ) → j < c → slice_index n (at + j) ≡ slice_index b (at + j)) → le_number n at c ≡ le_number b at
+    c
 number_same n b at zero same = refl
 number_same n b at (suc c) same =
-    let here : slice_index n at ≡ slice_index b at = subst (λ (j : ℕ). slice_index n j ≡ slice_index b j) (let z : at + 0 ≡ at = omega arith in z) (same 0 (omega arith)) in
+    let here : slice_index n at ≡ slice_index b at = subst (λ (j : ℕ). slice_index n j ≡ slice_index b j) (let z : at + 0 ≡ at = omega arith in z)
+    (same 0 (omega arith)) in
     let after = number_same n b (at + 1) c
-    (λ j lt. subst (λ (i : ℕ). slice_index n i ≡ slice_index b i) (let z : at + suc j ≡ at + 1 + j = omega arith in z) (same (suc j) (omega arith))) in
+    (λ j lt. subst (λ (i : ℕ). slice_index n i ≡ slice_index b i) (let z : at + suc j ≡ at + 1 + j = omega arith in z) (same (suc j) (omega arith)))
+    in
     omega (arith, here, after)
 
-pub words_same : (n b : List ℕ) (word c : ℕ) → ((j : ℕ) → j < 8 * c → slice_index n (8 * word + j) ≡ slice_index b (8 * word + j)) → name_words n word c ≡ name_words b word c
+pub words_same : (n b : List ℕ) (word c : ℕ) → ((j : ℕ) → j < 8 * c → slice_index n (8 * word + j) ≡ slice_index b (8 * word + j))
+    → name_words n word c ≡ name_words b word c
 words_same n b word c same =
     filled_words b word c (name_words n word c) (length-name_words n word c)
     (λ k lt. get_or-name_words n word c k lt
     ∙ number_same n b (8 * (word + k)) 8 (λ j lj.
-    subst (λ (i : ℕ). slice_index n i ≡ slice_index b i) (let z : 8 * word + (8 * k + j) ≡ 8 * (word + k) + j = omega arith in z) (same (8 * k + j) (omega arith))))
+    subst (λ (i : ℕ). slice_index n i ≡ slice_index b i) (let z : 8 * word + (8 * k + j) ≡ 8 * (word + k) + j = omega arith in z)
+    (same (8 * k + j) (omega arith))))
 
 powers : (i : ℕ) → 2 ^ (8 * i) ≡ 256 ^ i
 powers zero = refl

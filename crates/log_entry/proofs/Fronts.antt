@@ -1,6 +1,36 @@
 -- What slots begin with, from an item whose slots agree with them.
-use Rattle.std.proofs.Common.{◌≡◌, ℕ, ◌<◌, ◌≤◌, List, [], ◌++◌, length, get_or, take, drop, refl, sym, ◌∙◌, ap, arith, lit≤, length-append, append_assoc, append-nil}
-use Rattle.std.proofs.lemmas.List.{same_lists, take-append-drop, length-take-le, length-drop, get_or-take, get_or_append_left, get_or_default, nil_from_length}
+use Rattle.std.proofs.Common.{
+  ◌≡◌,
+  ℕ,
+  ◌<◌,
+  ◌≤◌,
+  List,
+  [],
+  ◌++◌,
+  length,
+  get_or,
+  take,
+  drop,
+  refl,
+  sym,
+  ◌∙◌,
+  ap,
+  arith,
+  lit≤,
+  length-append,
+  append_assoc,
+  append-nil,
+}
+use Rattle.std.proofs.lemmas.List.{
+  same_lists,
+  take-append-drop,
+  length-take-le,
+  length-drop,
+  get_or-take,
+  get_or_append_left,
+  get_or_default,
+  nil_from_length,
+}
 use Rattle.log_entry.specs.Spelling.{spelling, IsSpelled}
 use Rattle.log_entry.specs.Reading.{Agrees}
 use Rattle.log_entry.specs.Fronts.{BeginsItem, BeginsWith, BeginsNothing, IsFrontOf}
@@ -22,10 +52,16 @@ front_of xs ys same le =
 turned : (xs ys : List (List ℕ)) → Agrees xs ys → Agrees ys xs
 turned xs ys same = λ k lx ly. sym (same k ly lx)
 
-pub whole : (item : LogItem) (slots : List (List ℕ)) → IsSpelled item → Agrees slots (spelling item) → length (spelling item) ≤ length slots → BeginsWith item slots
-whole item slots spelled same le = record { spelled = spelled; rest = drop (length (spelling item)) slots; is = front_of slots (spelling item) same le }
+pub whole : (item : LogItem) (slots : List (List ℕ)) → IsSpelled item → Agrees slots (spelling item) → length (spelling item) ≤ length slots
+    → BeginsWith item slots
+whole item slots spelled same le = record {
+  spelled = spelled;
+  rest = drop (length (spelling item)) slots;
+  is = front_of slots (spelling item) same le;
+}
 
-pub part : (item : LogItem) (slots : List (List ℕ)) → IsSpelled item → Agrees slots (spelling item) → length slots < length (spelling item) → BeginsItem slots
+pub part : (item : LogItem) (slots : List (List ℕ)) → IsSpelled item → Agrees slots (spelling item) → length slots < length (spelling item)
+    → BeginsItem slots
 part item slots spelled same lt = record {
   item = item;
   spelled = spelled;

@@ -16,7 +16,8 @@ use Rattle.log_entry.specs.declared.item.LogItem.TheVariants.{Write, Size, Add, 
 pub kind : LogItem → ℕ
 kind item = slice_index (get_or (spelling item) 0 []) 0
 
-pub head_same : (item : LogItem) (slots : List (List ℕ)) → 0 < length slots → Agrees slots (spelling item) → get_or slots 0 [] ≡ get_or (spelling item) 0 []
+pub head_same : (item : LogItem) (slots : List (List ℕ)) → 0 < length slots → Agrees slots (spelling item)
+    → get_or slots 0 [] ≡ get_or (spelling item) 0 []
 head_same item slots some same = same 0 some (omega (arith, spelling_some item))
 
 pub spelling-add : (ino : ℕ) (name : List ℕ) → spelling (Add ino name) ≡ name_slots 3 ino name
@@ -56,7 +57,8 @@ pub record NameFits (item : LogItem) (slots : List (List ℕ)) : Type 0 where
   pub legal : IsLegal (name_bytes slots)
   pub same : Agrees slots (spelling item)
 
-pub add_fits : (item : LogItem) (slots : List (List ℕ)) → 0 < length slots → slice_index (get_or slots 0 []) 0 ≡ 3 → IsSpelled item → Agrees slots (spelling item)
+pub add_fits : (item : LogItem) (slots : List (List ℕ)) → 0 < length slots → slice_index (get_or slots 0 []) 0 ≡ 3 → IsSpelled item
+    → Agrees slots (spelling item)
     → NameFits (Add (slice_index (get_or slots 0 []) 1) (name_bytes slots)) slots
 unfolding spelling
 add_fits (Add ino name) slots some k legal same =
@@ -70,7 +72,8 @@ add_fits (Write first count block size flag mask) slots some k legal same =
 add_fits (Size size) slots some k legal same = absurd (omega (arith, k, ap (λ h. slice_index h 0) (head_same (Size size) slots some same)))
 add_fits (Forget name) slots some k legal same = absurd (omega (arith, k, ap (λ h. slice_index h 0) (head_same (Forget name) slots some same)))
 
-pub forget_fits : (item : LogItem) (slots : List (List ℕ)) → 0 < length slots → slice_index (get_or slots 0 []) 0 ≡ 4 → IsSpelled item → Agrees slots (spelling item)
+pub forget_fits : (item : LogItem) (slots : List (List ℕ)) → 0 < length slots → slice_index (get_or slots 0 []) 0 ≡ 4 → IsSpelled item
+    → Agrees slots (spelling item)
     → NameFits (Forget (name_bytes slots)) slots
 unfolding spelling
 forget_fits (Forget name) slots some k legal same = record {
@@ -90,12 +93,14 @@ some_kind (Size size) head e = let k = ap (λ h. slice_index h 0) e in (omega (a
 some_kind (Add ino name) head e = let k = ap (λ h. slice_index h 0) e in (omega (arith, k), omega (arith, k))
 some_kind (Forget name) head e = let k = ap (λ h. slice_index h 0) e in (omega (arith, k), omega (arith, k))
 
-pub write_is : (item : LogItem) (head : List ℕ) → head ≡ get_or (spelling item) 0 [] → slice_index head 0 ≡ 1 → (flag : Flag) → flag_number flag ≡ slice_index head 5
+pub write_is : (item : LogItem) (head : List ℕ) → head ≡ get_or (spelling item) 0 [] → slice_index head 0 ≡ 1 → (flag : Flag)
+    → flag_number flag ≡ slice_index head 5
     → item ≡ Write (slice_index head 1) (slice_index head 2) (slice_index head 3) (slice_index head 4) flag (slice_index head 6)
 write_is item head e k flag number =
     let w = write_head item head e k in
     let same : w.flag ≡ flag = flag_one w.flag flag (w.number ∙ sym number) in
-    subst (λ (f : Flag). item ≡ Write (slice_index head 1) (slice_index head 2) (slice_index head 3) (slice_index head 4) f (slice_index head 6)) same w.is
+    subst (λ (f : Flag). item ≡ Write (slice_index head 1) (slice_index head 2) (slice_index head 3) (slice_index head 4) f (slice_index head 6)) same
+    w.is
 
 -- a test that holds and failed
 pub refused : (answer : Bool) → IsTrue answer → answer ≡ false → ⊥
@@ -108,7 +113,8 @@ unnamed item slots none fits = record { spelled = tt; only = λ other good same.
 
 -- the item of the name that begins in slots
 pub named : (make : List ℕ → LogItem) (name : List ℕ) (slots : List (List ℕ)) → name ≡ name_bytes slots → IsSpelled (make name)
-    → ((other : LogItem) → IsSpelled other → Agrees slots (spelling other) → NameFits (make (name_bytes slots)) slots) → IsCandidate (Some (make name)) slots
+    → ((other : LogItem) → IsSpelled other → Agrees slots (spelling other) → NameFits (make (name_bytes slots)) slots)
+    → IsCandidate (Some (make name)) slots
 named make name slots is spelled fits = record {
   spelled = spelled;
   only = λ other good same. subst (λ (n : List ℕ). Agrees slots (spelling (make n))) (sym is) (fits other good same).same;
@@ -119,7 +125,8 @@ pub from_head : (found : Option LogItem) (slots : List (List ℕ)) → 0 < lengt
     → ((item : LogItem) → IsSpelled item → get_or slots 0 [] ≡ get_or (spelling item) 0 [] → found ≡ Some item) → IsCandidate found slots
 from_head found slots some spelled only = record {
   spelled = spelled;
-  only = λ item good same. subst (λ (f : Option LogItem). IsSomeAnd f (λ one. Agrees slots (spelling one))) (sym (only item good (head_same item slots some same))) same;
+  only = λ item good same. subst (λ (f : Option LogItem). IsSomeAnd f (λ one. Agrees slots (spelling one)))
+      (sym (only item good (head_same item slots some same))) same;
 }
 
 pub no_kind : (slots : List (List ℕ)) → 0 < length slots → (slice_index (get_or slots 0 []) 0 ≢ 1) → (slice_index (get_or slots 0 []) 0 ≢ 2)
@@ -131,8 +138,10 @@ no_kind slots some one two three four = record {
       absurd (omega (arith, k.0, k.1));
 }
 
-pub candidate_spelled : (found : Option LogItem) (item : LogItem) (slots : List (List ℕ)) → IsCandidate found slots → found ≡ Some item → IsSpelled item
-candidate_spelled found item slots one is = let spelled : IfSome (Some item) IsSpelled = subst (λ (f : Option LogItem). IfSome f IsSpelled) is one.spelled in spelled
+pub candidate_spelled : (found : Option LogItem) (item : LogItem) (slots : List (List ℕ)) → IsCandidate found slots → found ≡ Some item
+    → IsSpelled item
+candidate_spelled found item slots one is = let spelled : IfSome (Some item) IsSpelled = subst (λ (f : Option LogItem). IfSome f IsSpelled) is
+    one.spelled in spelled
 
 -- where the candidate doesn't agree, no item does
 pub none_agrees : (found : Option LogItem) (item : LogItem) (slots : List (List ℕ)) → IsCandidate found slots → found ≡ Some item

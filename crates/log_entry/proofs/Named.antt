@@ -1,5 +1,32 @@
 -- The name that begins in slots is one that they may spell, if they may spell any.
-use Rattle.std.proofs.Common.{◌≡◌, inl, inr, ℕ, zero, suc, ◌+◌, ◌-◌, ◌*◌, ◌/◌, ◌%◌, ◌<◌, ◌≤◌, List, [], ◌∷◌, length, get_or, refl, sym, ◌∙◌, ap, subst, arith, lit<, lit≤}
+use Rattle.std.proofs.Common.{
+  ◌≡◌,
+  inl,
+  inr,
+  ℕ,
+  zero,
+  suc,
+  ◌+◌,
+  ◌-◌,
+  ◌*◌,
+  ◌/◌,
+  ◌%◌,
+  ◌<◌,
+  ◌≤◌,
+  List,
+  [],
+  ◌∷◌,
+  length,
+  get_or,
+  refl,
+  sym,
+  ◌∙◌,
+  ap,
+  subst,
+  arith,
+  lit<,
+  lit≤,
+}
 use Rattle.std.specs.Prelude.{slice_index}
 use Rattle.std.proofs.lemmas.Bool.{cases_lt}
 use Rattle.std.proofs.lemmas.Bool.Decides.{nat_tests}
@@ -39,7 +66,8 @@ legal_length slots legal =
 fits_more : (k l : ℕ) → k < l → 40 ≤ k → (k + 16) / 56 < 1 + (l - 40 + 55) / 56
 fits_more k l lt high = omega arith
 
-module _ (kind ino : ℕ) (n : List ℕ) (slots : List (List ℕ)) (legal : IsLegal n) (some : 0 < length slots) (same : Agrees slots (name_slots kind ino n)) where
+module _ (kind ino : ℕ) (n : List ℕ) (slots : List (List ℕ)) (legal : IsLegal n) (some : 0 < length slots)
+    (same : Agrees slots (name_slots kind ino n)) where
   small : (j : ℕ) → slice_index n j < 256
   small j = byte_below n j legal.bytes
 
@@ -66,7 +94,8 @@ module _ (kind ino : ℕ) (n : List ℕ) (slots : List (List ℕ)) (legal : IsLe
         let j = (k + 16) % 56 / 8 in
         let fits : s < 1 + more_count n = fits_more k (length n) lt high in
         let z : 7 * s - 2 + j ≡ k / 8 = omega arith in
-        ap (λ h. slice_index h (1 + j)) (same s inside (omega (arith, length-name_slots kind ino n)) ∙ name_slots-more kind ino n s (omega arith) fits)
+        ap (λ h. slice_index h (1 + j)) (same s inside (omega (arith, length-name_slots kind ino n)) ∙ name_slots-more kind ino n s (omega arith)
+        fits)
         ∙ after_one 5 (name_words n (7 * s - 2) 7) j
         ∙ get_or-name_words n (7 * s - 2) 7 j (omega arith)
         ∙ ap (λ w. le_number n (8 * w) 8) z
@@ -113,9 +142,11 @@ module _ (kind ino : ℕ) (n : List ℕ) (slots : List (List ℕ)) (legal : IsLe
     not_dots = λ e. legal.not_dots (sym (short_same (omega (arith, long, ap length e))) ∙ e);
   }
 
-  slot_same : (k : ℕ) → k < length slots → k < 1 + more_count n → get_or (name_slots kind ino n) k [] ≡ get_or (name_slots kind ino (name_bytes slots)) k []
+  slot_same : (k : ℕ) → k < length slots → k < 1 + more_count n → get_or (name_slots kind ino n) k [] ≡ get_or
+      (name_slots kind ino (name_bytes slots)) k []
   slot_same zero inside lt =
-      let words : name_words n 0 5 ≡ name_words (name_bytes slots) 0 5 = words_same n (name_bytes slots) 0 5 (λ j lj. read_same (8 * 0 + j) (omega arith)) in
+      let words : name_words n 0 5 ≡ name_words (name_bytes slots) 0 5 = words_same n (name_bytes slots) 0 5
+      (λ j lj. read_same (8 * 0 + j) (omega arith)) in
       ap (λ l. kind ∷ ino ∷ l ∷ name_words n 0 5) (sym long) ∙ ap (λ ws. kind ∷ ino ∷ length (name_bytes slots) ∷ ws) words
   slot_same (suc i) inside lt =
       name_slots-more kind ino n (suc i) (omega arith) lt
@@ -124,5 +155,6 @@ module _ (kind ino : ℕ) (n : List ℕ) (slots : List (List ℕ)) (legal : IsLe
 
   pub read_agrees : Agrees slots (name_slots kind ino (name_bytes slots))
   read_agrees k inside lt =
-      let count : length (name_slots kind ino (name_bytes slots)) ≡ 1 + (length n - 40 + 55) / 56 = length-name_slots kind ino (name_bytes slots) ∙ ap (λ l. 1 + (l - 40 + 55) / 56) long in
+      let count : length (name_slots kind ino (name_bytes slots)) ≡ 1 + (length n - 40 + 55) / 56 = length-name_slots kind ino (name_bytes slots) ∙ ap
+      (λ l. 1 + (l - 40 + 55) / 56) long in
       same k inside (omega (arith, count, length-name_slots kind ino n)) ∙ slot_same k inside (omega (arith, count))

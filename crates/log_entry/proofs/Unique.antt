@@ -1,5 +1,31 @@
 -- No spelling begins with another, and one spelling stands for one item.
-use Rattle.std.proofs.Common.{◌≡◌, inl, inr, ℕ, zero, suc, ◌+◌, ◌-◌, ◌*◌, ◌/◌, ◌%◌, ◌<◌, List, [], ◌∷◌, ◌++◌, length, get_or, refl, sym, ◌∙◌, ap, subst, arith, zero-add}
+use Rattle.std.proofs.Common.{
+  ◌≡◌,
+  inl,
+  inr,
+  ℕ,
+  zero,
+  suc,
+  ◌+◌,
+  ◌-◌,
+  ◌*◌,
+  ◌/◌,
+  ◌%◌,
+  ◌<◌,
+  List,
+  [],
+  ◌∷◌,
+  ◌++◌,
+  length,
+  get_or,
+  refl,
+  sym,
+  ◌∙◌,
+  ap,
+  subst,
+  arith,
+  zero-add,
+}
 use Rattle.std.specs.Prelude.{slice_index, All}
 use Rattle.std.proofs.lemmas.Bool.{cases_lt}
 use Rattle.std.proofs.lemmas.List.{get_or_past}
@@ -37,7 +63,8 @@ rest_one : (b d x y : ℕ) → b < 256 → d < 256 → b + 256 * x ≡ d + 256 *
 rest_one b d x y bl dl e = omega arith
 
 -- a number of bytes gives its bytes back
-bytes_one : (n m : List ℕ) (at c i : ℕ) → All IsNameByte n → All IsNameByte m → le_number n at c ≡ le_number m at c → i < c → slice_index n (at + i) ≡ slice_index m (at + i)
+bytes_one : (n m : List ℕ) (at c i : ℕ) → All IsNameByte n → All IsNameByte m → le_number n at c ≡ le_number m at c → i < c
+    → slice_index n (at + i) ≡ slice_index m (at + i)
 bytes_one n m at zero i alln allm e lt = absurd (omega arith)
 bytes_one n m at (suc c) zero alln allm e lt =
     let bn = byte_below n at alln in let bm = byte_below m at allm in
@@ -67,7 +94,8 @@ more_one n m w (suc k) r s e =
     record {
       words = λ i lt. elim (cases_lt i 7) [
         | inl low ↦ words_one n m w 7 i here low
-        | inr high ↦ let z : w + 7 + (i - 7) ≡ w + i = omega arith in subst (λ (j : ℕ). le_number n (8 * j) 8 ≡ le_number m (8 * j) 8) z (more.words (i - 7) (omega arith))
+        | inr high ↦ let z : w + 7 + (i - 7) ≡ w + i = omega arith in subst (λ (j : ℕ). le_number n (8 * j) 8 ≡ le_number m (8 * j) 8) z
+            (more.words (i - 7) (omega arith))
       ];
       rest = more.rest;
     }
@@ -84,7 +112,8 @@ module _ (n m : List ℕ) (legal_n : IsLegal n) (legal_m : IsLegal m) (r s : Lis
   word_one : (w : ℕ) → w < 5 + 7 * more_count n → le_number n (8 * w) 8 ≡ le_number m (8 * w) 8
   word_one w lt = elim (cases_lt w 5) [
     | inl low ↦ let z : 0 + w ≡ w = zero-add w in subst (λ (j : ℕ). le_number n (8 * j) 8 ≡ le_number m (8 * j) 8) z (words_one n m 0 5 w head low)
-    | inr high ↦ let z : 5 + (w - 5) ≡ w = omega arith in subst (λ (j : ℕ). le_number n (8 * j) 8 ≡ le_number m (8 * j) 8) z (more.words (w - 5) (omega arith))
+    | inr high ↦ let z : 5 + (w - 5) ≡ w = omega arith in subst (λ (j : ℕ). le_number n (8 * j) 8 ≡ le_number m (8 * j) 8) z
+        (more.words (w - 5) (omega arith))
   ]
 
   enough : (j l : ℕ) → j < l → j / 8 < 5 + 7 * ((l - 40 + 55) / 56)

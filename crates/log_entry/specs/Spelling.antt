@@ -1,5 +1,22 @@
 -- How items of a log are spelled: each takes one or more slots of eight words.
-use Rattle.std.specs.Prelude.{ℕ, zero, suc, ◌+◌, ◌-◌, ◌*◌, ◌/◌, ◌^◌, ◌<◌, ◌≤◌, List, [], ◌∷◌, length, map, slice_index}
+use Rattle.std.specs.Prelude.{
+  ℕ,
+  zero,
+  suc,
+  ◌+◌,
+  ◌-◌,
+  ◌*◌,
+  ◌/◌,
+  ◌^◌,
+  ◌<◌,
+  ◌≤◌,
+  List,
+  [],
+  ◌∷◌,
+  length,
+  map,
+  slice_index,
+}
 use Rattle.std.specs.List.{range_with_len, flat_map}
 use Rattle.log_entry.specs.Name.{IsLegal}
 use Rattle.log_entry.specs.declared.item.Flag.{Flag}
@@ -32,14 +49,18 @@ more_count name = (length name - 40 + 55) / 56
 
 -- the slots of an item of this kind that has a name
 abbrev pub name_slots : ℕ → ℕ → List ℕ → List (List ℕ)
-name_slots kind ino name = (kind ∷ ino ∷ length name ∷ name_words name 0 5) ∷ more_slots name 5 (more_count name)
+name_slots kind ino name = (kind ∷ ino ∷ length name ∷ name_words name 0 5) ∷ more_slots name 5
+    (more_count name)
 
 -- the slots of an item
 unfoldable pub spelling : LogItem → List (List ℕ)
-spelling (Write first count block size flag mask) = (1 ∷ first ∷ count ∷ block ∷ size ∷ flag_number flag ∷ mask ∷ 0 ∷ []) ∷ []
+spelling (Write first count block size flag mask) = (1 ∷ first ∷ count ∷ block ∷ size ∷ flag_number
+    flag ∷ mask ∷ 0 ∷ []) ∷ []
 spelling (Size size) = (2 ∷ size ∷ 0 ∷ 0 ∷ 0 ∷ 0 ∷ 0 ∷ 0 ∷ []) ∷ []
-spelling (Add ino name) = (3 ∷ ino ∷ length name ∷ name_words name 0 5) ∷ more_slots name 5 (more_count name)
-spelling (Forget name) = (4 ∷ 0 ∷ length name ∷ name_words name 0 5) ∷ more_slots name 5 (more_count name)
+spelling (Add ino name) = (3 ∷ ino ∷ length name ∷ name_words name 0 5) ∷ more_slots name 5
+    (more_count name)
+spelling (Forget name) = (4 ∷ 0 ∷ length name ∷ name_words name 0 5) ∷ more_slots name 5
+    (more_count name)
 
 -- the slots of items, one after the other
 abbrev pub spelled : List LogItem → List (List ℕ)
@@ -52,7 +73,8 @@ pages_of size = (size + 4095) / 4096
 -- the ranges in which an item is spelled
 abbrev pub IsSpelled : LogItem → Type 0
 IsSpelled (Write first count block size flag mask) =
-    (1 ≤ count) × (count ≤ 17) × (first + count ≤ pages_of size) × (size ≤ 16777216) × (mask < 2 ^ count)
+    (1 ≤ count) × (count ≤ 17) × (first + count ≤ pages_of size) × (size ≤ 16777216) ×
+    (mask < 2 ^ count)
 IsSpelled (Size size) = size ≤ 16777216
 IsSpelled (Add ino name) = IsLegal name
 IsSpelled (Forget name) = IsLegal name

@@ -3,16 +3,26 @@ ghost use Rattle.std.specs.Prelude.{◌≡◌, ◌≢◌, ◌+◌, ◌*◌, ◌^
 ghost use Rattle.log_entry.specs.Spelling.{flag_number, pages_of, IsSpelled};
 
 use crate::name::{Name, is_legal};
+use pm_layout::PAGE_BYTES;
 use std::alloc::AllocError;
 
-/// The bytes of a page.
-const PAGE_BYTES: u64 = 4096;
+/// The most pages that a file has.
+pub const FILE_PAGES: u64 = 4096;
 
-/// The most bytes that a file has.
-pub const LARGEST_SIZE: u64 = 16_777_216;
+/// The most bytes that a file has: those of as many pages.
+pub const MOST_SIZE: u64 = 16_777_216;
 
-/// The most pages that one Write has.
-pub const MOST_PAGES: u64 = 17;
+/// The most pages of one Write: those that 65,536 bytes touch, the most that are written at once.
+pub const MOST_COUNT: u64 = 17;
+
+/// The words of a slot of a log.
+pub const SLOT_WORDS: u64 = 8;
+
+/// The slots of a page of a log. The words of one more are its footer.
+pub const LOG_SLOTS: u64 = 63;
+
+/// The word of a page of a log that names the page after it.
+pub const FOOTER: u64 = 504;
 
 /// How far the daemon that shares equal pages is with the pages of a Write, as in DeNova (IPDPS 2022).
 #[derive(Clone, Copy, Debug, PartialEq, Eq)]
@@ -135,8 +145,8 @@ pub fn is_spelled(item: &LogItem) -> bool
             size,
             mask,
             ..
-        } => *size <= LARGEST_SIZE && is_run(*first, *count, *size) && is_mask(*mask, *count),
-        LogItem::Size { size } => *size <= LARGEST_SIZE,
+        } => *size <= MOST_SIZE && is_run(*first, *count, *size) && is_mask(*mask, *count),
+        LogItem::Size { size } => *size <= MOST_SIZE,
         LogItem::Add { name, .. } => is_legal(name.bytes()),
         LogItem::Forget { name } => is_legal(name.bytes()),
     }
@@ -147,7 +157,7 @@ fn is_run(first: u64, count: u64, size: u64) -> bool
     ensures { IsTrue result ↔ (1 ≤ count) × (count ≤ 17) × (first + count ≤ pages_of size) }
 {
     1 <= count
-        && count <= MOST_PAGES
+        && count <= MOST_COUNT
         && count <= size.div_ceil(PAGE_BYTES)
         && first <= size.div_ceil(PAGE_BYTES) - count
 }

@@ -7,7 +7,7 @@ use std::marker::Model;
 use thiserror::Error;
 
 /// The most bytes that a name has.
-pub const LONGEST_NAME: usize = 255;
+pub const MOST_NAME: usize = 255;
 
 /// Why bytes were not taken as a name.
 #[derive(Clone, Copy, Debug, PartialEq, Eq, Error)]
@@ -103,7 +103,7 @@ pub fn is_legal(bytes: &[u8]) -> bool
     ensures { IsTrue result ↔ IsLegal bytes.now }
 {
     !bytes.is_empty()
-        && bytes.len() <= LONGEST_NAME
+        && bytes.len() <= MOST_NAME
         && bytes != b".".as_slice()
         && bytes != b"..".as_slice()
         && bytes.iter().all(|byte| is_name_byte(*byte))

@@ -8,7 +8,7 @@ ghost use Rattle.log_entry.specs.Reading.{Agrees, byte_of, name_byte, name_bytes
 ghost use Rattle.log_entry.specs.declared.item.LogItem.{LogItem};
 
 use crate::item::{Flag, LogItem, is_spelled};
-use crate::name::{LONGEST_NAME, Name};
+use crate::name::{MOST_NAME, Name};
 use crate::write::{ADD, FORGET, SIZE, WRITE, slot_of, slots_of};
 use std::alloc::{AllocError, Global};
 
@@ -55,7 +55,8 @@ pub fn read_front(alloc: Global, slots: &[[u64; 8]]) -> Result<Front, AllocError
 pub fn read_item(alloc: Global, slots: &[[u64; 8]]) -> Result<Option<(LogItem, u64)>, AllocError>
     ensures item { IfOk result (λ found. IfSome found (λ read. BeginsWith read.0 slots.now)) }
     ensures slots { IfOk result (λ found. IfSome found (λ read. read.1 ≡ length (spelling read.0))) }
-    ensures none { IfOk result (λ found. IfNone found ((item : LogItem) → BeginsWith item slots.now → ⊥)) }
+    ensures none { IfOk result (λ found. IfNone found ((item : LogItem) → BeginsWith item slots.now
+        → ⊥)) }
 {
     match read_front(alloc, slots)? {
         Front::Whole { item, slots } => Ok(Some((item, slots))),
@@ -83,7 +84,8 @@ fn candidate(alloc: Global, slots: &[[u64; 8]]) -> Result<Option<LogItem>, Alloc
 fn read_write(head: &[u64; 8]) -> Option<LogItem>
     requires { slice_index head.now 0 ≡ 1 }
     ensures spelled { IfSome result IsSpelled }
-    ensures only { (item : LogItem) → IsSpelled item → head.now ≡ slice_index_or (spelling item) 0 [] → result ≡ Some item }
+    ensures only { (item : LogItem) → IsSpelled item → head.now ≡ slice_index_or (spelling item) 0
+        [] → result ≡ Some item }
 {
     let item = LogItem::Write {
         first: head[1],
@@ -100,7 +102,8 @@ fn read_write(head: &[u64; 8]) -> Option<LogItem>
 fn read_size(head: &[u64; 8]) -> Option<LogItem>
     requires { slice_index head.now 0 ≡ 2 }
     ensures spelled { IfSome result IsSpelled }
-    ensures only { (item : LogItem) → IsSpelled item → head.now ≡ slice_index_or (spelling item) 0 [] → result ≡ Some item }
+    ensures only { (item : LogItem) → IsSpelled item → head.now ≡ slice_index_or (spelling item) 0
+        [] → result ≡ Some item }
 {
     let item = LogItem::Size { size: head[1] };
     if is_spelled(&item) { Some(item) } else { None }
@@ -141,7 +144,7 @@ fn read_name(alloc: Global, slots: &[[u64; 8]]) -> Result<Option<Name>, AllocErr
     ensures none { IfOk result (λ found. IfNone found (IsLegal (name_bytes slots.now) → ⊥)) }
 {
     let length = slots[0][2];
-    if length > LONGEST_NAME as u64 {
+    if length > MOST_NAME as u64 {
         return Ok(None);
     }
     let bytes = read_bytes(alloc, slots, length)?;
@@ -151,7 +154,8 @@ fn read_name(alloc: Global, slots: &[[u64; 8]]) -> Result<Option<Name>, AllocErr
 // The first bytes of the name that begins in the slots.
 fn read_bytes(alloc: Global, slots: &[[u64; 8]], length: u64) -> Result<Vec<u8>, AllocError>
     requires { length ≤ 255 }
-    ensures { IfOk result (λ bytes. bytes.items ≡ map (name_byte slots.now) (range_with_len 0 length)) }
+    ensures { IfOk result (λ bytes. bytes.items ≡ map (name_byte slots.now)
+        (range_with_len 0 length)) }
 {
     (0..length).map(|k| name_byte(slots, k)).collect(alloc)
 }

@@ -1,5 +1,39 @@
 -- What is read of a log is a log without a fault, or shows its first fault.
-use Rattle.std.proofs.Common.{◌≡◌, ◌≢◌, ◌⊎◌, inl, inr, ⊎_elim, ℕ, zero, suc, ◌+◌, ◌-◌, ◌*◌, ◌/◌, ◌%◌, ◌<◌, ◌≤◌, Bool, true, false, List, [], ◌∷◌, length, get_or, map, drop, refl, sym, ◌∙◌, ap, subst, arith, length-append}
+use Rattle.std.proofs.Common.{
+  ◌≡◌,
+  ◌≢◌,
+  ◌⊎◌,
+  inl,
+  inr,
+  ⊎_elim,
+  ℕ,
+  zero,
+  suc,
+  ◌+◌,
+  ◌-◌,
+  ◌*◌,
+  ◌/◌,
+  ◌%◌,
+  ◌<◌,
+  ◌≤◌,
+  Bool,
+  true,
+  false,
+  List,
+  [],
+  ◌∷◌,
+  length,
+  get_or,
+  map,
+  drop,
+  refl,
+  sym,
+  ◌∙◌,
+  ap,
+  subst,
+  arith,
+  length-append,
+}
 use Rattle.std.specs.Prelude.{slice_index, Contains, Option, Some, None, IfSome, IfNone, nat_eq, if◌then◌else◌}
 use Rattle.std.proofs.lemmas.Bool.Decides.{nat_tests}
 use Rattle.std.proofs.lemmas.List.{same_lists, get_or_append_left, get_or-drop, length-drop}
@@ -11,7 +45,19 @@ use Rattle.log_entry.specs.Spelling.{spelled}
 use Rattle.log_entry.specs.Fronts.{BeginsItem, BeginsWith, BeginsNothing}
 use Rattle.log_entry.specs.declared.item.LogItem.{LogItem}
 use Rattle.dn_model.specs.Log.{Log, LogSays, at_tail, at_head, at_footer, at_slot, count, tail_at, log_word, spelled_word}
-use Rattle.dn_model.specs.LogFault.{LogFault, bad_page, no_slot, cut_off, no_item, misplaced, IsFront, EndsAtTail, EndsBeforeTail, slots_between, page_after}
+use Rattle.dn_model.specs.LogFault.{
+  LogFault,
+  bad_page,
+  no_slot,
+  cut_off,
+  no_item,
+  misplaced,
+  IsFront,
+  EndsAtTail,
+  EndsBeforeTail,
+  slots_between,
+  page_after,
+}
 use Rattle.dn_model.specs.Valid.{MayStand}
 use Rattle.log_walk.specs.Way.{IsPart, IsWhole, IsStopped, EndsSo, next_page}
 use Rattle.log_walk.specs.Slots.{slot_at, first_slots}
@@ -32,7 +78,8 @@ word_listed c pages k j lt = get_or-map-range_with_len (λ (i : ℕ). slice_inde
 pub slots_left : (c pages : List ℕ) (n m : ℕ) → drop n (first_slots c pages m) ≡ slots_between c pages n m
 slots_left c pages n m =
     same_lists (drop n (first_slots c pages m)) (slots_between c pages n m)
-    (length-drop n (first_slots c pages m) ∙ ap (λ (l : ℕ). l - n) (length-map-range_with_len (slot_at c pages) 0 m) ∙ sym (length-map-range_with_len (slot_at c pages) n (m - n)))
+    (length-drop n (first_slots c pages m) ∙ ap (λ (l : ℕ). l - n) (length-map-range_with_len (slot_at c pages) 0 m) ∙ sym
+    (length-map-range_with_len (slot_at c pages) n (m - n)))
     (λ k d lt.
     let near : k < m - n = omega (arith, lt, length-drop n (first_slots c pages m), length-map-range_with_len (slot_at c pages) 0 m) in
     get_or-drop n (first_slots c pages m) k d
@@ -116,23 +163,28 @@ module _ (g : Geometry) (c : List ℕ) (ino head tail : ℕ) (pages : List ℕ) 
   stopped_page stopped = subst (λ (p : ℕ). InData g p → Contains pages p) (next_is pages) stopped.stops
 
   -- an item that isn't one, or may not stand there
-  bad_item : EndsAtTail c ino pages m ⊎ EndsBeforeTail c ino pages m → IsBad g ino (drop n (first_slots c pages m)) → 0 < length (drop n (first_slots c pages m)) → LogFault g c ino n
+  bad_item : EndsAtTail c ino pages m ⊎ EndsBeforeTail c ino pages m → IsBad g ino (drop n (first_slots c pages m))
+      → 0 < length (drop n (first_slots c pages m)) → LogFault g c ino n
   bad_item ends bad more =
       let bad_there : IsBad g ino (slots_between c pages n m) = subst (IsBad g ino) left_is bad in
       ⊎_elim
-      (λ (nothing : BeginsNothing (slots_between c pages n m)). no_item log m is_front ends count_is (omega (arith, more, left_long)) nothing.no_part nothing.no_whole)
-      (λ (item : (item : LogItem) × BeginsWith item (slots_between c pages n m) × (MayStand g ino item → ⊥)). misplaced log m item.0 is_front ends count_is item.1 item.2)
+      (λ (nothing : BeginsNothing (slots_between c pages n m)). no_item log m is_front ends count_is (omega (arith, more, left_long)) nothing.no_part
+      nothing.no_whole)
+      (λ (item : (item : LogItem) × BeginsWith item (slots_between c pages n m) × (MayStand g ino item → ⊥)). misplaced log m item.0 is_front ends
+      count_is item.1 item.2)
       bad_there
 
   -- the tail, by its page and its slot
-  tail_place : (l t k : ℕ) → l ≡ k → 0 < l → l ≡ 63 * (length pages - 1) + t % 64 → t % 64 ≢ 0 → 0 < length pages → slice_index pages (length pages - 1) ≡ t / 64 → t ≡ tail_at pages k
+  tail_place : (l t k : ℕ) → l ≡ k → 0 < l → l ≡ 63 * (length pages - 1) + t % 64 → t % 64 ≢ 0 → 0 < length pages
+      → slice_index pages (length pages - 1) ≡ t / 64 → t ≡ tail_at pages k
   tail_place l t zero e more long not_zero there ends = absurd (omega arith)
   tail_place l t (suc k) e more long not_zero there ends =
       let page : k / 63 ≡ length pages - 1 = omega (arith, e, long, not_zero) in
       let place : k % 63 + 1 ≡ t % 64 = omega (arith, e, long, not_zero) in
       omega (arith, ap (slice_index pages) page, ends, place)
 
-  whole_log : IsWhole (tail / 64) pages → m ≡ slots_before (length pages) true tail → drop n (first_slots c pages m) ≡ [] → tail % 64 ≢ 0 → HasWholeLog g c ino pages items
+  whole_log : IsWhole (tail / 64) pages → m ≡ slots_before (length pages) true tail → drop n (first_slots c pages m) ≡ [] → tail % 64 ≢ 0
+      → HasWholeLog g c ino pages items
   whole_log whole long all not_zero =
       let full : n ≡ m = omega (arith, within, ap length all, left_long) in
       let fits : length pages ≡ (count log + 62) / 63 = omega (arith, count_is, full, long, not_zero, whole.some) in
@@ -156,7 +208,8 @@ module _ (g : Geometry) (c : List ℕ) (ino head tail : ℕ) (pages : List ℕ) 
       reads full a v (at_footer k lt place value) = ap (slice_index c) place ∙ part.chained k lt ∙ sym value
       reads full a v (at_slot k j lt word place value) = ap (slice_index c) place ∙ filled_slot k j lt word ∙ sym value
 
-  by_slot : (b : Bool) → nat_eq (tail % 64) 0 ≡ b → IsWhole (tail / 64) pages → m ≡ slots_before (length pages) true tail → drop n (first_slots c pages m) ≡ []
+  by_slot : (b : Bool) → nat_eq (tail % 64) 0 ≡ b → IsWhole (tail / 64) pages → m ≡ slots_before (length pages) true tail
+      → drop n (first_slots c pages m) ≡ []
       → Outcome g c ino pages items (if b then Some m else None)
   by_slot true test whole long all =
       let at_zero : tail % 64 ≡ 0 = grind (arith, nat_tests) in
@@ -164,18 +217,21 @@ module _ (g : Geometry) (c : List ℕ) (ino head tail : ℕ) (pages : List ℕ) 
       no_slot log is_front (at_tail_end whole long) (ap (λ (t : ℕ). t % 64) (sym tail_is) ∙ at_zero) full
   by_slot false test whole long all = let not_zero : tail % 64 ≢ 0 = grind (arith, nat_tests) in whole_log whole long all not_zero
 
-  pub outcome : (end : End) (whole : Bool) → EndsSo g c head (tail / 64) pages whole → m ≡ slots_before (length pages) whole tail → IsEnd g ino (drop n (first_slots c pages m)) end
+  pub outcome : (end : End) (whole : Bool) → EndsSo g c head (tail / 64) pages whole → m ≡ slots_before (length pages) whole tail
+      → IsEnd g ino (drop n (first_slots c pages m)) end
       → Outcome g c ino pages items (fault_place end whole (tail % 64) n m)
   outcome Bad true ends long bad = bad_item (inl (at_tail_end ends long)) bad.0 bad.1
   outcome Bad false ends long bad = bad_item (inr (before_tail_end ends long)) bad.0 bad.1
   outcome Cut true ends long cut =
       cut_off log m is_front (at_tail_end ends long) count_is (subst BeginsItem left_is cut.0) (omega (arith, cut.1, left_long))
-  outcome Cut false ends long cut = bad_page log is_front (before_tail_end ends long) (inr (subst BeginsItem left_from_count cut.0)) (stopped_page ends)
+  outcome Cut false ends long cut = bad_page log is_front (before_tail_end ends long) (inr (subst BeginsItem left_from_count cut.0))
+      (stopped_page ends)
   outcome Filled false ends long all = bad_page log is_front (before_tail_end ends long) (inl (sym left_from_count ∙ all)) (stopped_page ends)
   outcome Filled true ends long all = by_slot (nat_eq (tail % 64) 0) refl ends long all
 
 -- the slots to be read are there
-pub slots_within : (g : Geometry) (c : List ℕ) (head last tail : ℕ) (pages : List ℕ) (whole : Bool) → EndsSo g c head last pages whole → slots_before (length pages) whole tail ≤ 63 * length pages
+pub slots_within : (g : Geometry) (c : List ℕ) (head last tail : ℕ) (pages : List ℕ) (whole : Bool) → EndsSo g c head last pages whole
+    → slots_before (length pages) whole tail ≤ 63 * length pages
 slots_within g c head last tail pages true ends = omega (arith, ends.some)
 slots_within g c head last tail pages false ends = omega arith
 

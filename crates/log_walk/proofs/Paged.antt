@@ -1,5 +1,34 @@
 -- A walk along the pages of a log.
-use Rattle.std.proofs.Common.{◌≡◌, ◌≢◌, ◌⊎◌, inl, inr, ⊎_elim, ℕ, ◌+◌, ◌-◌, ◌*◌, ◌<◌, ◌≤◌, true, false, eqb, get_or, List, [], ◌∷◌, ◌++◌, length, refl, sym, ◌∙◌, ap, subst, arith, length-append}
+use Rattle.std.proofs.Common.{
+  ◌≡◌,
+  ◌≢◌,
+  ◌⊎◌,
+  inl,
+  inr,
+  ⊎_elim,
+  ℕ,
+  ◌+◌,
+  ◌-◌,
+  ◌*◌,
+  ◌<◌,
+  ◌≤◌,
+  true,
+  false,
+  eqb,
+  get_or,
+  List,
+  [],
+  ◌∷◌,
+  ◌++◌,
+  length,
+  refl,
+  sym,
+  ◌∙◌,
+  ap,
+  subst,
+  arith,
+  length-append,
+}
 use Rattle.std.specs.Prelude.{slice_index, Contains}
 use Rattle.std.proofs.lemmas.Bool.{cases_lt, cases_eq}
 use Rattle.std.proofs.lemmas.List.{get_or_append_left, get_or_at, get_or_default}
@@ -25,9 +54,16 @@ pub record OnWay (g : Geometry) (c : List ℕ) (head last : ℕ) (pages : List �
   pub met_there : (q : ℕ) → Contains met.free q → Contains pages q
   pub there_met : (q : ℕ) → Contains pages q → Contains met.free q
 
-pub starts_way : (g : Geometry) (c : List ℕ) (head last : ℕ) (met : FreePages) → met ≡ record { pages = g.pages; free = [] } → OnWay g c head last [] head met
+pub starts_way : (g : Geometry) (c : List ℕ) (head last : ℕ) (met : FreePages) → met ≡ record { pages = g.pages; free = [] }
+    → OnWay g c head last [] head met
 starts_way g c head last met is = record {
-  part = record { in_data = λ k lt. absurd (omega arith); apart = λ j k jl. absurd (omega arith); starts = λ some. absurd (omega arith); chained = λ k lt. absurd (omega arith); not_last = λ k lt. absurd (omega arith) };
+  part = record {
+    in_data = λ k lt. absurd (omega arith);
+    apart = λ j k jl. absurd (omega arith);
+    starts = λ some. absurd (omega arith);
+    chained = λ k lt. absurd (omega arith);
+    not_last = λ k lt. absurd (omega arith);
+  };
   ahead = λ k lt. absurd (omega arith);
   next_first = λ none. refl;
   next = λ k e. absurd (omega arith);
@@ -47,12 +83,14 @@ few_pages g c head last all part = length-le_from_distinct_below all g.pages (Is
     unequal a b ne = grind (arith, nat_tests)
 
     differ : (i j d : ℕ) → i < j → j < length all → eqb (get_or all i d) (get_or all j d) ≡ false
-    differ i j d lt jl = unequal _ _ (λ e. let same : i ≡ j = part.apart i j (omega arith) jl (sym (value i d (omega arith)) ∙ e ∙ value j d jl) in omega arith)
+    differ i j d lt jl = unequal _ _ (λ e. let same : i ≡ j = part.apart i j (omega arith) jl (sym (value i d (omega arith)) ∙ e ∙ value j d jl) in
+        omega arith)
 
     within : (q : ℕ) → list_any (eqb q) all ≡ true → q < g.pages
     within q any = elim (cases_lt q g.pages) [
       | inl low ↦ low
-      | inr high ↦ absurd (false≢true (sym (list_any_none (eqb q) all (λ k d lt. unequal q _ (λ e. omega (arith, high, e, value k d lt, (part.in_data k lt).high)))) ∙ any))
+      | inr high ↦ absurd (false≢true
+          (sym (list_any_none (eqb q) all (λ k d lt. unequal q _ (λ e. omega (arith, high, e, value k d lt, (part.in_data k lt).high)))) ∙ any))
     ]
 
 module _ (g : Geometry) (c : List ℕ) (head last page : ℕ) (pages : List ℕ) (met : FreePages) (way : OnWay g c head last pages page met) where
@@ -69,10 +107,20 @@ module _ (g : Geometry) (c : List ℕ) (head last page : ℕ) (pages : List ℕ)
   new_at k e = get_or_at pages page [] 0 k e
 
   old_there : (q : ℕ) → Contains pages q → Contains grown q
-  old_there q at = (at.0, omega (arith, long_grown, at.1), get_or_default grown at.0 q 0 (omega (arith, long_grown, at.1)) ∙ old_at at.0 at.1 ∙ sym (get_or_default pages at.0 q 0 at.1) ∙ at.2)
+  old_there q at = (
+    at.0,
+    omega (arith, long_grown, at.1),
+    get_or_default grown at.0 q 0 (omega (arith, long_grown, at.1)) ∙ old_at at.0 at.1 ∙ sym
+        (get_or_default pages at.0 q 0 at.1) ∙ at.2,
+  )
 
   new_there : (q : ℕ) → q ≡ page → Contains grown q
-  new_there q e = (length pages, omega (arith, long_grown), get_or_default grown (length pages) q 0 (omega (arith, long_grown)) ∙ new_at (length pages) refl ∙ sym e)
+  new_there q e = (
+    length pages,
+    omega (arith, long_grown),
+    get_or_default grown (length pages) q 0 (omega (arith, long_grown)) ∙ new_at
+        (length pages) refl ∙ sym e,
+  )
 
   only_there : (q : ℕ) → q ≢ page → Contains grown q → Contains pages q
   only_there q ne at = elim (cases_lt at.0 (length pages)) [
@@ -94,7 +142,8 @@ module _ (g : Geometry) (c : List ℕ) (head last page : ℕ) (pages : List ℕ)
     ];
     chained = λ k lt. elim (cases_lt (k + 1) (length pages)) [
       | inl low ↦ ap (λ (p : ℕ). slice_index c (512 * p + 504)) (old_at k (omega arith)) ∙ way.part.chained k low ∙ sym (old_at (k + 1) low)
-      | inr high ↦ ap (λ (p : ℕ). slice_index c (512 * p + 504)) (old_at k (omega (arith, long_grown))) ∙ way.next k (omega (arith, long_grown)) ∙ sym (new_at (k + 1) (omega (arith, long_grown)))
+      | inr high ↦ ap (λ (p : ℕ). slice_index c (512 * p + 504)) (old_at k (omega (arith, long_grown))) ∙ way.next k (omega (arith, long_grown)) ∙ sym
+          (new_at (k + 1) (omega (arith, long_grown)))
     ];
     not_last = λ k lt e. way.ahead k (omega (arith, long_grown)) (sym (old_at k (omega (arith, long_grown))) ∙ e);
   }
@@ -114,7 +163,8 @@ module _ (g : Geometry) (c : List ℕ) (head last page : ℕ) (pages : List ℕ)
         ]
       ]
 
-  pub way_on : InData g page → (Contains met.free page → ⊥) → page ≢ last → (met' : FreePages) → GivesBack page met met' → OnWay g c head last grown (slice_index c (512 * page + 504)) met'
+  pub way_on : InData g page → (Contains met.free page → ⊥) → page ≢ last → (met' : FreePages) → GivesBack page met met'
+      → OnWay g c head last grown (slice_index c (512 * page + 504)) met'
   way_on in_data fresh ne met' gives = record {
     part = part_grown in_data fresh;
     ahead = λ k lt. elim (cases_lt k (length pages)) [
@@ -152,7 +202,8 @@ module _ (g : Geometry) (c : List ℕ) (head last page : ℕ) (pages : List ℕ)
     ends = record { not_met = way.ahead; stops = λ in_data. by_next (next_page c head pages) (is_next pages way.next_first way.next) in_data };
   }
     where
-      is_next : (ps : List ℕ) → (length ps ≡ 0 → head ≡ page) → ((k : ℕ) → k + 1 ≡ length ps → slice_index c (footer_word ps k) ≡ page) → next_page c head ps ≡ page
+      is_next : (ps : List ℕ) → (length ps ≡ 0 → head ≡ page) → ((k : ℕ) → k + 1 ≡ length ps → slice_index c (footer_word ps k) ≡ page)
+          → next_page c head ps ≡ page
       is_next [] first later = first refl
       is_next (p ∷ ps) first later = later (length ps) (omega arith)
 

@@ -22,22 +22,26 @@ seen p = record { slot = p.slot; item = p.item }
 
 -- they spell no item, nor its beginning, or they spell one that may not stand in this log
 abbrev pub IsBad : Geometry → ℕ → List (List ℕ) → Type 0
-IsBad g ino ss = BeginsNothing ss ⊎ ((item : LogItem) × BeginsWith item ss × (MayStand g ino item → ⊥))
+IsBad g ino ss = BeginsNothing ss ⊎ ((item : LogItem) × BeginsWith item ss × (MayStand g ino item
+    → ⊥))
 
 abbrev pub IsNext : Geometry → ℕ → List (List ℕ) → Next → Type 0
-IsNext g ino ss (Item item slots) = BeginsWith item ss × (slots ≡ length (spelling item)) × MayStand g ino item
+IsNext g ino ss (Item item slots) = BeginsWith item ss × (slots ≡ length (spelling item)) × MayStand
+    g ino item
 IsNext g ino ss NextCut = BeginsItem ss
 IsNext g ino ss NextBad = IsBad g ino ss
 
 -- these items, which may stand in this log, take the first n slots
-pub record Fill (g : Geometry) (ino : ℕ) (slots : List (List ℕ)) (items : List LogItem) (n : ℕ) : Type 0 where
+pub record Fill (g : Geometry) (ino : ℕ) (slots : List (List ℕ)) (items : List LogItem) (n : ℕ) :
+    Type 0 where
   pub are_spelled : All IsSpelled items
   pub standing : All (MayStand g ino) items
   pub front : slots ≡ spelled items ++ drop n slots
   pub long : n ≡ length (spelled items)
 
 -- and each is at its place in these pages
-pub record AreFront (g : Geometry) (ino : ℕ) (pages : List ℕ) (slots : List (List ℕ)) (items : List PlacedItem) (n : ℕ) : Type 0 where
+pub record AreFront (g : Geometry) (ino : ℕ) (pages : List ℕ) (slots : List (List ℕ))
+    (items : List PlacedItem) (n : ℕ) : Type 0 where
   pub fill : Fill g ino slots (map item_of items) n
   pub places : map seen items ≡ placed_from pages 0 (map item_of items)
 
@@ -47,6 +51,7 @@ IsEnd g ino rest Filled = rest ≡ []
 IsEnd g ino rest Cut = BeginsItem rest × (0 < length rest)
 IsEnd g ino rest Bad = IsBad g ino rest × (0 < length rest)
 
-pub record AreRead (g : Geometry) (ino : ℕ) (pages : List ℕ) (slots : List (List ℕ)) (read : Items) : Type 0 where
+pub record AreRead (g : Geometry) (ino : ℕ) (pages : List ℕ) (slots : List (List ℕ)) (read : Items)
+    : Type 0 where
   pub front : AreFront g ino pages slots read.items.items read.taken
   pub end : IsEnd g ino (drop read.taken slots) read.end

@@ -13,12 +13,15 @@ pub record ReadsAs (g : Geometry) (c : List ℕ) (ino : ℕ) (log : Log) : Type 
 
 -- one log at most
 abbrev pub HasOneLog : Type 0
-HasOneLog = (g : Geometry) (c : List ℕ) (ino : ℕ) (x y : Log) → ReadsAs g c ino x → ReadsAs g c ino y → x ≡ y
+HasOneLog = (g : Geometry) (c : List ℕ) (ino : ℕ) (x y : Log) → ReadsAs g c ino x
+    → ReadsAs g c ino y → x ≡ y
 
 -- one fault at most
 abbrev pub HasOneFault : Type 0
-HasOneFault = (g : Geometry) (c : List ℕ) (ino p q : ℕ) → LogFault g c ino p → LogFault g c ino q → p ≡ q
+HasOneFault = (g : Geometry) (c : List ℕ) (ino p q : ℕ) → LogFault g c ino p → LogFault g c ino q
+    → p ≡ q
 
 -- not both
 abbrev pub HasLogOrFault : Type 0
-HasLogOrFault = (g : Geometry) (c : List ℕ) (ino place : ℕ) (log : Log) → ReadsAs g c ino log → LogFault g c ino place → ⊥
+HasLogOrFault = (g : Geometry) (c : List ℕ) (ino place : ℕ) (log : Log) → ReadsAs g c ino log
+    → LogFault g c ino place → ⊥

@@ -1,5 +1,22 @@
 -- What a walk along a log answers.
-use Rattle.std.specs.Prelude.{◌≡◌, ℕ, ◌+◌, ◌-◌, ◌*◌, ◌%◌, Bool, true, false, List, map, Option, Some, None, nat_eq, if◌then◌else◌}
+use Rattle.std.specs.Prelude.{
+  ◌≡◌,
+  ℕ,
+  ◌+◌,
+  ◌-◌,
+  ◌*◌,
+  ◌%◌,
+  Bool,
+  true,
+  false,
+  List,
+  map,
+  Option,
+  Some,
+  None,
+  nat_eq,
+  if◌then◌else◌,
+}
 use Rattle.pm_device.specs.Reading.{Reads}
 use Rattle.pm_layout.specs.declared.Geometry.{Geometry}
 use Rattle.dn_model.specs.Log.{Log, LogSays, placed}
@@ -20,7 +37,8 @@ pub record HasLog (g : Geometry) (c : List ℕ) (ino : ℕ) (items : List Placed
   pub items_are : map seen items ≡ placed log
 
 -- and these are its pages
-pub record HasWholeLog (g : Geometry) (c : List ℕ) (ino : ℕ) (pages : List ℕ) (items : List PlacedItem) : Type 0 where
+pub record HasWholeLog (g : Geometry) (c : List ℕ) (ino : ℕ) (pages : List ℕ)
+    (items : List PlacedItem) : Type 0 where
   pub log : Log
   pub reads : Reads (LogSays ino log) c
   pub valid : IsLog g ino log
@@ -36,7 +54,8 @@ abbrev pub slots_before : ℕ → Bool → ℕ → ℕ
 slots_before pages true tail = 63 * (pages - 1) + tail % 64
 slots_before pages false tail = 63 * pages
 
--- The place of the fault, by the end of the items, whether the tail's page was met, and the tail's slot: after the
+-- The place of the fault, by the end of the items, whether the tail's page was met, and the tail's
+-- slot: after the
 -- slots that the items take, or after all.
 abbrev pub fault_place : End → Bool → ℕ → ℕ → ℕ → Option ℕ
 fault_place Bad whole slot taken all = Some taken

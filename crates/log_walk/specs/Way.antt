@@ -1,5 +1,22 @@
 -- The pages of a log, from its head on.
-use Rattle.std.specs.Prelude.{◌≡◌, ◌≢◌, ℕ, ◌+◌, ◌-◌, ◌<◌, ◌≤◌, Bool, true, false, List, [], ◌∷◌, length, slice_index, Contains}
+use Rattle.std.specs.Prelude.{
+  ◌≡◌,
+  ◌≢◌,
+  ℕ,
+  ◌+◌,
+  ◌-◌,
+  ◌<◌,
+  ◌≤◌,
+  Bool,
+  true,
+  false,
+  List,
+  [],
+  ◌∷◌,
+  length,
+  slice_index,
+  Contains,
+}
 use Rattle.pm_layout.specs.declared.Geometry.{Geometry}
 use Rattle.pm_layout.specs.Geometry.{InData}
 use Rattle.dn_model.specs.Log.{footer_word}
@@ -7,9 +24,11 @@ use Rattle.dn_model.specs.Log.{footer_word}
 -- pages that follow one another from the head on, none before the end of them the last one
 pub record IsPart (g : Geometry) (c : List ℕ) (head last : ℕ) (pages : List ℕ) : Type 0 where
   pub in_data : (k : ℕ) → k < length pages → InData g (slice_index pages k)
-  pub apart : (j k : ℕ) → j < length pages → k < length pages → slice_index pages j ≡ slice_index pages k → j ≡ k
+  pub apart : (j k : ℕ) → j < length pages → k < length pages → slice_index pages j ≡ slice_index
+      pages k → j ≡ k
   pub starts : 0 < length pages → head ≡ slice_index pages 0
-  pub chained : (k : ℕ) → k + 1 < length pages → slice_index c (footer_word pages k) ≡ slice_index pages (k + 1)
+  pub chained : (k : ℕ) → k + 1 < length pages → slice_index c (footer_word pages k) ≡ slice_index
+      pages (k + 1)
   pub not_last : (k : ℕ) → k + 1 < length pages → slice_index pages k ≢ last
 
 -- the page that comes after these
@@ -32,7 +51,8 @@ EndsSo g c head last pages true = IsWhole last pages
 EndsSo g c head last pages false = IsStopped g c head last pages
 
 -- all the pages that there are
-pub record IsWay (g : Geometry) (c : List ℕ) (head last : ℕ) (pages : List ℕ) (whole : Bool) : Type 0 where
+pub record IsWay (g : Geometry) (c : List ℕ) (head last : ℕ) (pages : List ℕ) (whole : Bool) : Type
+    0 where
   pub part : IsPart g c head last pages
   pub few : length pages ≤ g.pages
   pub ends : EndsSo g c head last pages whole

@@ -6,8 +6,7 @@ ghost use Rattle.dn_model.specs.Log.{slot_name};
 ghost use Rattle.dn_model.specs.Valid.{MayStand};
 ghost use Rattle.log_walk.specs.Items.{IsNext, AreRead};
 
-use crate::slots::PAGE_SLOTS;
-use log_entry::{Front, LogItem, read_front};
+use log_entry::{Front, LOG_SLOTS, LogItem, read_front};
 use pm_layout::Geometry;
 use std::alloc::{AllocError, Global};
 
@@ -107,7 +106,7 @@ fn name_of(pages: &[u64], k: usize) -> u64
     requires inside { k < 63 * length pages.now }
     ensures { result ≡ slot_name pages.now k }
 {
-    let slots = PAGE_SLOTS as usize;
+    let slots = LOG_SLOTS as usize;
     pages[k / slots] * 64 + (k % slots) as u64
 }
 

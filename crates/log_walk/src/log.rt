@@ -6,16 +6,12 @@ ghost use Rattle.log_walk.specs.Walk.{HasLog, HasWholeLog, IsFaultOf, fault_plac
 
 use crate::items::{End, Items, Placed, read_items};
 use crate::pages::{Way, read_pages};
-use crate::slots::{PAGE_SLOTS, read_slots};
+use crate::slots::read_slots;
+use log_entry::LOG_SLOTS;
 use pm_device::Pm;
-use pm_layout::Geometry;
+use pm_layout::{Geometry, HEAD, TAIL};
 use std::alloc::{AllocError, Global};
 use thiserror::Error;
-
-// Fields of an inode.
-const HEAD: u64 = 1;
-
-const TAIL: u64 = 2;
 
 /// Why a log can't be read.
 #[derive(Clone, Copy, Debug, PartialEq, Eq, Error)]
@@ -47,9 +43,9 @@ fn slots_before(way: &Way, tail: u64) -> u64
 {
     let pages = way.pages.len() as u64;
     if way.whole {
-        PAGE_SLOTS * pages.saturating_sub(1) + tail % 64
+        LOG_SLOTS * pages.saturating_sub(1) + tail % 64
     } else {
-        PAGE_SLOTS * pages
+        LOG_SLOTS * pages
     }
 }
 
@@ -79,8 +75,11 @@ fn read_log<D: Pm>(
     requires ino { ino < g.now.inodes }
     requires tail { tail ≡ slice_index (D.state device.now).now (inode_word ino 2) }
     requires some { 0 < tail }
-    ensures log { IfOk result (λ read. IfNone read.1 (HasWholeLog g.now (D.state device.now).now ino read.0.pages.items read.0.items.items)) }
-    ensures fault { IfOk result (λ read. IfSome read.1 (λ place. LogFault g.now (D.state device.now).now ino place)) }
+    ensures log { IfOk result
+        (λ read. IfNone read.1 (HasWholeLog g.now (D.state device.now).now ino read.0.pages.items
+        read.0.items.items)) }
+    ensures fault { IfOk result
+        (λ read. IfSome read.1 (λ place. LogFault g.now (D.state device.now).now ino place)) }
 {
     let head = device.load(g.inode_word(ino, HEAD));
     let way = read_pages(alloc, device, g, head, tail / 64)?;
@@ -111,7 +110,8 @@ pub fn walk_log<D: Pm>(
     requires accepted { IsAccepted g.now }
     requires size { length (D.state device.now).now ≡ 512 * g.now.pages }
     requires ino { ino < g.now.inodes }
-    ensures log { IfOk result (λ read. HasWholeLog g.now (D.state device.now).now ino read.pages.items read.items.items) }
+    ensures log { IfOk result (λ read. HasWholeLog g.now (D.state device.now).now ino
+        read.pages.items read.items.items) }
     ensures fault { IfErr result (λ fault. IsFaultOf g.now (D.state device.now).now ino fault) }
 {
     let tail = device.load(g.inode_word(ino, TAIL));

@@ -3,13 +3,11 @@ ghost use Rattle.std.specs.Prelude.{◌≡◌, ◌+◌, ◌*◌, ◌<◌, ◌≤
 ghost use Rattle.pm_layout.specs.Geometry.{IsAccepted, InData, first_data};
 ghost use Rattle.log_walk.specs.Way.{IsWay};
 
+use log_entry::FOOTER;
 use page_alloc::FreeSet;
 use pm_device::Pm;
 use pm_layout::{Geometry, PAGE_WORDS};
 use std::alloc::{AllocError, Global};
-
-// The word of a log page that names the next one.
-const FOOTER: u64 = 504;
 
 /// The pages of a log from its head on, as far as there are any.
 #[derive(Debug, Drop)]
@@ -44,7 +42,8 @@ pub fn read_pages<D: Pm>(
 ) -> Result<Way, AllocError>
     requires accepted { IsAccepted g.now }
     requires size { length (D.state device.now).now ≡ 512 * g.now.pages }
-    ensures { IfOk result (λ way. IsWay g.now (D.state device.now).now head last way.pages.items way.whole) }
+    ensures { IfOk result (λ way. IsWay g.now (D.state device.now).now head last way.pages.items
+        way.whole) }
 {
     let first = g.first_data();
     let mut met = FreeSet::none(alloc, g.pages)?;

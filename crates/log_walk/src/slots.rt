@@ -3,12 +3,10 @@ ghost use Rattle.std.specs.Prelude.{◌≡◌, ◌+◌, ◌*◌, ◌<◌, ◌≤
 ghost use Rattle.pm_layout.specs.Geometry.{IsAccepted};
 ghost use Rattle.log_walk.specs.Slots.{slot_at, first_slots};
 
+use log_entry::{LOG_SLOTS, SLOT_WORDS};
 use pm_device::Pm;
 use pm_layout::{Geometry, PAGE_WORDS};
 use std::alloc::{AllocError, Global};
-
-/// The slots of a log page.
-pub const PAGE_SLOTS: u64 = 63;
 
 // Slot k of these pages.
 fn read_slot<D: Pm>(device: &D, g: &Geometry, pages: &[u64], k: u64) -> [u64; 8]
@@ -18,8 +16,8 @@ fn read_slot<D: Pm>(device: &D, g: &Geometry, pages: &[u64], k: u64) -> [u64; 8]
     requires inside { k < 63 * length pages.now }
     ensures { result ≡ slot_at (D.state device.now).now pages.now k }
 {
-    let page = pages[(k / PAGE_SLOTS) as usize];
-    let at = PAGE_WORDS * page + 8 * (k % PAGE_SLOTS);
+    let page = pages[(k / LOG_SLOTS) as usize];
+    let at = PAGE_WORDS * page + SLOT_WORDS * (k % LOG_SLOTS);
     let mut slot = [0; 8];
     for (j, word) in slot.iter_mut().enumerate() {
         *word = device.load(at + j as u64);
@@ -42,7 +40,8 @@ pub fn read_slots<D: Pm>(
     requires size { length (D.state device.now).now ≡ 512 * g.now.pages }
     requires pages { All (λ page. page < g.now.pages) pages.now }
     requires inside { count ≤ 63 * length pages.now }
-    ensures { IfOk result (λ slots. slots.items ≡ first_slots (D.state device.now).now pages.now count) }
+    ensures { IfOk result (λ slots. slots.items ≡ first_slots (D.state device.now).now pages.now
+        count) }
 {
     let mut slots = Vec::new(alloc);
     for k in 0..count {

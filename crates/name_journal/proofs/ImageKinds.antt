@@ -38,7 +38,8 @@ NewSays who changes s a v = NewValues changes (length changes) a v ⊎ KeptSays 
 abbrev pub DoneSays : ℕ → List Change → State → ℕ → ℕ → Type 0
 DoneSays who changes s a v = GateSays 0 a v ⊎ NewSays who changes s a v
 
-module _ (inodes who : ℕ) (changes : List Change) (s : State) (agree : Agree s.now s.past) (long : 1024 ≤ length s.now) (few : length changes ≤ 4) (are : AreChanges inodes changes)
+module _ (inodes who : ℕ) (changes : List Change) (s : State) (agree : Agree s.now s.past) (long : 1024 ≤ length s.now) (few : length changes ≤ 4)
+    (are : AreChanges inodes changes)
     (table : (i : ℕ) → i < length changes → address changes i < length s.now) where
   high : (i : ℕ) → i < length changes → 1024 ≤ address changes i
   high i lt = journaled_low inodes (address changes i) (are.journaled i lt)
@@ -56,7 +57,12 @@ module _ (inodes who : ℕ) (changes : List Change) (s : State) (agree : Agree s
     -- a closed gate is let through, and the image is its own rolled one
     module _ (shut : slice_index c gate_word ≡ 0) where
       shut_gate : IsGate inodes c
-      shut_gate = record { few = omega (arith, shut); addresses = λ i lt. absurd (omega (arith, lt, shut)); apart = λ i j lt lt' e. absurd (omega (arith, lt, shut)) }
+      shut_gate = record {
+        few = omega (arith, shut);
+        addresses = λ i lt. absurd (omega (arith, lt, shut));
+        apart = λ i j lt lt' e. absurd
+            (omega (arith, lt, shut));
+      }
 
       shut_other : (a : ℕ) → a ≢ gate_word → slice_index (rolled c) a ≡ slice_index c a
       shut_other a ne = rolled_other c a ne (λ i lt. absurd (omega (arith, lt, shut)))
@@ -65,7 +71,8 @@ module _ (inodes who : ℕ) (changes : List Change) (s : State) (agree : Agree s
       all_or_none_closed old = record {
         gate = shut_gate;
         closed = rolled_gate c (omega (arith, long, image.size));
-        named = inl (λ i lt. subst (MayLeave s (address changes i)) (sym (shut_other (address changes i) (not_gate i lt))) (old (address changes i) (not_in_page i lt) (table i lt)));
+        named = inl (λ i lt. subst (MayLeave s (address changes i)) (sym (shut_other (address changes i) (not_gate i lt)))
+            (old (address changes i) (not_in_page i lt) (table i lt)));
         others = λ a out lt. subst (MayLeave s a) (sym (shut_other a (gate_touched a out))) (old a (λ h. out (inr h)) lt);
       }
 
@@ -74,8 +81,10 @@ module _ (inodes who : ℕ) (changes : List Change) (s : State) (agree : Agree s
         gate = shut_gate;
         closed = rolled_gate c (omega (arith, long, image.size));
         named = inr (record {
-          values = λ i lt. shut_other (address changes i) (not_gate i lt) ∙ reads (address changes i) (new_value changes i) (inl (record { i = i; lt = lt; place = refl; value = refl }));
-          flushed = λ a lt flushed out. shut_other a (gate_touched a out) ∙ reads a (slice_index s.now a) (inr (record { within = lt; flushed = flushed; out = out; value = refl }));
+          values = λ i lt. shut_other (address changes i) (not_gate i lt) ∙ reads (address changes i) (new_value changes i)
+              (inl (record { i = i; lt = lt; place = refl; value = refl }));
+          flushed = λ a lt flushed out. shut_other a (gate_touched a out) ∙ reads a (slice_index s.now a)
+              (inr (record { within = lt; flushed = flushed; out = out; value = refl }));
         });
         others = λ a out lt. subst (MayLeave s a) (sym (shut_other a (gate_touched a out))) (old a out lt);
       }
@@ -94,16 +103,20 @@ module _ (inodes who : ℕ) (changes : List Change) (s : State) (agree : Agree s
       open_gate : IsGate inodes c
       open_gate = record {
         few = omega (arith, count, few);
-        addresses = λ i lt. let lt' : i < length changes = omega (arith, lt, count) in subst (IsJournaled inodes) (sym (at_pair i lt')) (are.journaled i lt');
-        apart = λ i j lt lt' e. let li : i < length changes = omega (arith, lt, count) in let lj : j < length changes = omega (arith, lt', count) in are.apart i j li lj (sym (at_pair i li) ∙ e ∙ at_pair j lj);
+        addresses = λ i lt. let lt' : i < length changes = omega (arith, lt, count) in subst (IsJournaled inodes) (sym (at_pair i lt'))
+            (are.journaled i lt');
+        apart = λ i j lt lt' e. let li : i < length changes = omega (arith, lt, count) in let lj : j < length changes = omega (arith, lt', count) in
+            are.apart i j li lj (sym (at_pair i li) ∙ e ∙ at_pair j lj);
       }
 
       named_old : (i : ℕ) → i < length changes → slice_index (rolled c) (address changes i) ≡ slice_index s.now (address changes i)
       named_old i lt = subst (λ (a : ℕ). slice_index (rolled c) a ≡ slice_index s.now (address changes i)) (at_pair i lt)
-          (rolled_pair c i (omega (arith, lt, count)) (λ e. not_gate i lt (sym (at_pair i lt) ∙ e)) (omega (arith, at_pair i lt, table i lt, image.size)) open_gate.apart ∙ old_of i lt)
+          (rolled_pair c i (omega (arith, lt, count)) (λ e. not_gate i lt (sym (at_pair i lt) ∙ e))
+          (omega (arith, at_pair i lt, table i lt, image.size)) open_gate.apart ∙ old_of i lt)
 
       open_other : (a : ℕ) → (IsTouched changes a → ⊥) → slice_index (rolled c) a ≡ slice_index c a
-      open_other a out = rolled_other c a (gate_touched a out) (λ i lt e. let li : i < length changes = omega (arith, lt, count) in out (inl (record { i = i; lt = li; is = e ∙ at_pair i li })))
+      open_other a out = rolled_other c a (gate_touched a out) (λ i lt e. let li : i < length changes = omega (arith, lt, count) in
+          out (inl (record { i = i; lt = li; is = e ∙ at_pair i li })))
 
       pub all_or_none_open : IsOldBut (IsTouched changes) s c → AllOrNone inodes who changes s c
       all_or_none_open old = record {

@@ -19,7 +19,18 @@ use Rattle.name_journal.specs.Pairs.{PairsOf, of_address, of_old, IsInPairs}
 use Rattle.name_journal.specs.AllOrNone.{AllOrNone, IsAllDone}
 use Rattle.name_journal.proofs.Opened.{changes_inside}
 use Rattle.name_journal.proofs.Told.{leaves_only-image, leaves_only-both, stores_leave}
-use Rattle.name_journal.proofs.ImageKinds.{GateSays, OpenSays, KeptSays, NewSays, DoneSays, not_in_page, not_gate, all_or_none_closed, all_or_none_open, all_or_none_done}
+use Rattle.name_journal.proofs.ImageKinds.{
+  GateSays,
+  OpenSays,
+  KeptSays,
+  NewSays,
+  DoneSays,
+  not_in_page,
+  not_gate,
+  all_or_none_closed,
+  all_or_none_open,
+  all_or_none_done,
+}
 
 abbrev AtGate : ℕ → Type 0
 AtGate a = a ≡ gate_word
@@ -65,7 +76,8 @@ module _ (inodes who : ℕ) (changes : List Change) (s t u : State) (is : Stores
   ShutOrOpen c = Reads (GateSays 0) c ⊎ Reads (OpenSays changes s.now) c
 
   opens : DiffersAt (GateSays 0) (OpenSays changes s.now) (PairsOf changes s.now) gate_word (length changes)
-  opens a v told = ⊎_elim (λ (gate : GateSays (length changes) a v). inl gate) (λ (pair : PairsOf changes s.now a v). inr (pair_not_gate a v pair, inr pair)) told
+  opens a v told = ⊎_elim (λ (gate : GateSays (length changes) a v). inl gate)
+      (λ (pair : PairsOf changes s.now a v). inr (pair_not_gate a v pair, inr pair)) told
     where
       pair_not_gate : (a v : ℕ) → PairsOf changes s.now a v → a ≢ gate_word
       pair_not_gate a v (of_address i lt place value) e = omega (arith, place, e)
@@ -78,25 +90,31 @@ module _ (inodes who : ℕ) (changes : List Change) (s t u : State) (is : Stores
 
     shut_or_open : LeavesOnly s u ShutOrOpen
     shut_or_open = leaves_only-then s t u ShutOrOpen
-        (leaves_only-weaken s t (Reads (GateSays 0)) ShutOrOpen (λ c reads. inl reads) (leaves_only-stores (IsInPairs changes) s t (GateSays 0) is.only gate_apart closed_s))
+        (leaves_only-weaken s t (Reads (GateSays 0)) ShutOrOpen (λ c reads. inl reads) (leaves_only-stores (IsInPairs changes) s t (GateSays 0)
+        is.only gate_apart closed_s))
         (leaves_only-weaken t u (IsCommitted who gate_word (length changes) t) ShutOrOpen
-        (λ c committed. reads_old_or_new (GateSays 0) (OpenSays changes s.now) (PairsOf changes s.now) who gate_word (length changes) t c opens closed_t is.ready committed) moment_u)
+        (λ c committed. reads_old_or_new (GateSays 0) (OpenSays changes s.now) (PairsOf changes s.now) who gate_word (length changes) t c opens
+        closed_t is.ready committed) moment_u)
 
     -- while the pairs are stored and the gate is opened
     pub leaves_opening : LeavesOnly s u (AllOrNone inodes who changes s)
     leaves_opening = leaves_only-image s u (λ c. ShutOrOpen c × IsOldBut (IsInPage 1) s c) (AllOrNone inodes who changes s) is.agree
         (λ c image both. ⊎_elim
-        (λ (reads : Reads (GateSays 0) c). all_or_none_closed inodes who changes s is.agree is.long is.few is.are is.table c image (reads gate_word 0 (refl, refl)) both.1)
-        (λ (reads : Reads (OpenSays changes s.now) c). all_or_none_open inodes who changes s is.agree is.long is.few is.are is.table c image reads (λ a out lt. both.1 a (λ h. out (inr h)) lt))
+        (λ (reads : Reads (GateSays 0) c). all_or_none_closed inodes who changes s is.agree is.long is.few is.are is.table c image
+        (reads gate_word 0 (refl, refl)) both.1)
+        (λ (reads : Reads (OpenSays changes s.now) c). all_or_none_open inodes who changes s is.agree is.long is.few is.are is.table c image reads
+        (λ a out lt. both.1 a (λ h. out (inr h)) lt))
         both.0)
         (leaves_only-both s u ShutOrOpen (IsOldBut (IsInPage 1) s) shut_or_open (stores_leave (IsInPage 1) s u page_u))
 
     pub only_opening : StoresOnly (IsTouched changes) s u
     only_opening = stores_only-weaken (IsInPage 1) (IsTouched changes) s u (λ a h. inr h) page_u
 
-    module _ (done_u : IsDone who gate_word (length changes) t u) (v x : State) (values : StoresOnly (IsNamed changes) u v) (ready_v : IsReady who (NewValues changes (length changes)) v) where
+    module _ (done_u : IsDone who gate_word (length changes) t u) (v x : State) (values : StoresOnly (IsNamed changes) u v)
+        (ready_v : IsReady who (NewValues changes (length changes)) v) where
       open_u : Stands (OpenSays changes s.now) u
-      open_u = stands_new (GateSays 0) (OpenSays changes s.now) (PairsOf changes s.now) who gate_word (length changes) t u opens closed_t is.ready (omega (arith, is.long, is.only.words)) done_u only_u
+      open_u = stands_new (GateSays 0) (OpenSays changes s.now) (PairsOf changes s.now) who gate_word (length changes) t u opens closed_t is.ready
+          (omega (arith, is.long, is.only.words)) done_u only_u
 
       named_high : (a : ℕ) → IsNamed changes a → IsInPage 1 a → ⊥
       named_high a named h = not_in_page inodes who changes s is.agree is.long is.few is.are is.table named.i named.lt (subst (IsInPage 1) named.is h)
@@ -105,7 +123,8 @@ module _ (inodes who : ℕ) (changes : List Change) (s t u : State) (is : Stores
       gate_not_named named = named_high gate_word named (omega arith, omega arith)
 
       open_apart : (a w : ℕ) → OpenSays changes s.now a w → IsNamed changes a → ⊥
-      open_apart a w told named = ⊎_elim (λ (gate : GateSays (length changes) a w). gate_not_named (subst (IsNamed changes) gate.0 named)) (λ (pair : PairsOf changes s.now a w). named_high a named (in_page a w pair)) told
+      open_apart a w told named = ⊎_elim (λ (gate : GateSays (length changes) a w). gate_not_named (subst (IsNamed changes) gate.0 named))
+          (λ (pair : PairsOf changes s.now a w). named_high a named (in_page a w pair)) told
         where
           in_page : (a w : ℕ) → PairsOf changes s.now a w → IsInPage 1 a
           in_page a w (of_address i lt place value) = (omega (arith, place), omega (arith, place, lt, is.few))
@@ -123,7 +142,8 @@ module _ (inodes who : ℕ) (changes : List Change) (s t u : State) (is : Stores
       kept_not_page a w kept h = kept.out (inr h)
 
       kept_t : IsReady who (KeptSays who changes s) t
-      kept_t = ready-stores Anyone (IsInPairs changes) who s t (KeptSays who changes s) is.only is.keeps tt (λ a w kept h. kept_not_page a w kept (pairs_in_page a h))
+      kept_t = ready-stores Anyone (IsInPairs changes) who s t (KeptSays who changes s) is.only is.keeps tt
+          (λ a w kept h. kept_not_page a w kept (pairs_in_page a h))
           (record { within = λ a w kept. kept.within; reads = λ a w kept. sym kept.value; flushed = λ a w kept. kept.flushed })
 
       kept_not_gate : (a w : ℕ) → KeptSays who changes s a w → a ≢ gate_word
@@ -140,11 +160,13 @@ module _ (inodes who : ℕ) (changes : List Change) (s t u : State) (is : Stores
       kept_v = stands-stores (IsNamed changes) u v values (KeptSays who changes s) (λ a w kept named. kept.out (inl named)) kept_u
 
       new_ready : IsReady who (NewSays who changes s) v
-      new_ready = ready-both who v (NewValues changes (length changes)) (KeptSays who changes s) ready_v (stands_is_ready who v (KeptSays who changes s) kept_v)
+      new_ready = ready-both who v (NewValues changes (length changes)) (KeptSays who changes s) ready_v
+          (stands_is_ready who v (KeptSays who changes s) kept_v)
 
       new_not_gate : (a w : ℕ) → NewSays who changes s a w → a ≢ gate_word
       new_not_gate a w told e = ⊎_elim
-          (λ (new : NewValues changes (length changes) a w). gate_not_named (subst (IsNamed changes) e (record { i = new.i; lt = new.lt; is = new.place })))
+          (λ (new : NewValues changes (length changes) a w). gate_not_named
+          (subst (IsNamed changes) e (record { i = new.i; lt = new.lt; is = new.place })))
           (λ (kept : KeptSays who changes s a w). kept_not_gate a w kept e) told
 
       closes : DiffersAt (OpenSays changes s.now) (DoneSays who changes s) (NewSays who changes s) gate_word 0
@@ -162,9 +184,11 @@ module _ (inodes who : ℕ) (changes : List Change) (s t u : State) (is : Stores
         module _ (moment_x : LeavesOnly v x (IsCommitted who gate_word 0 v)) where
           open_or_done : LeavesOnly u x OpenOrDone
           open_or_done = leaves_only-then u v x OpenOrDone
-              (leaves_only-weaken u v (Reads (OpenSays changes s.now)) OpenOrDone (λ c reads. inl reads) (leaves_only-stores (IsNamed changes) u v (OpenSays changes s.now) values open_apart open_u))
+              (leaves_only-weaken u v (Reads (OpenSays changes s.now)) OpenOrDone (λ c reads. inl reads)
+              (leaves_only-stores (IsNamed changes) u v (OpenSays changes s.now) values open_apart open_u))
               (leaves_only-weaken v x (IsCommitted who gate_word 0 v) OpenOrDone
-              (λ c committed. reads_old_or_new (OpenSays changes s.now) (DoneSays who changes s) (NewSays who changes s) who gate_word 0 v c closes open_v new_ready committed) moment_x)
+              (λ c committed. reads_old_or_new (OpenSays changes s.now) (DoneSays who changes s) (NewSays who changes s) who gate_word 0 v c closes
+              open_v new_ready committed) moment_x)
 
           abbrev Kind : List ℕ → Type 0
           Kind c = (Reads (GateSays 0) c × IsOldBut (IsInPage 1) s c) ⊎ OpenOrDone c
@@ -172,17 +196,21 @@ module _ (inodes who : ℕ) (changes : List Change) (s t u : State) (is : Stores
           kinds : LeavesOnly s x Kind
           kinds = leaves_only-then s u x Kind
               (leaves_only-weaken s u (λ c. ShutOrOpen c × IsOldBut (IsInPage 1) s c) Kind
-              (λ c both. ⊎_elim (λ (shut : Reads (GateSays 0) c). inl (shut, both.1)) (λ (reads : Reads (OpenSays changes s.now) c). inr (inl reads)) both.0)
+              (λ c both. ⊎_elim (λ (shut : Reads (GateSays 0) c). inl (shut, both.1)) (λ (reads : Reads (OpenSays changes s.now) c). inr (inl reads))
+              both.0)
               (leaves_only-both s u ShutOrOpen (IsOldBut (IsInPage 1) s) shut_or_open (stores_leave (IsInPage 1) s u page_u)))
               (leaves_only-weaken u x OpenOrDone Kind (λ c later. inr later) open_or_done)
 
           pub leaves_all : LeavesOnly s x (AllOrNone inodes who changes s)
           leaves_all = leaves_only-image s x (λ c. Kind c × IsOldBut (IsTouched changes) s c) (AllOrNone inodes who changes s) is.agree
               (λ c image both. ⊎_elim
-              (λ (shut : Reads (GateSays 0) c × IsOldBut (IsInPage 1) s c). all_or_none_closed inodes who changes s is.agree is.long is.few is.are is.table c image (shut.0 gate_word 0 (refl, refl)) shut.1)
+              (λ (shut : Reads (GateSays 0) c × IsOldBut (IsInPage 1) s c). all_or_none_closed inodes who changes s is.agree is.long is.few is.are
+              is.table c image (shut.0 gate_word 0 (refl, refl)) shut.1)
               (λ (later : OpenOrDone c). ⊎_elim
-              (λ (reads : Reads (OpenSays changes s.now) c). all_or_none_open inodes who changes s is.agree is.long is.few is.are is.table c image reads both.1)
-              (λ (reads : Reads (DoneSays who changes s) c). all_or_none_done inodes who changes s is.agree is.long is.few is.are is.table c image (reads gate_word 0 (inl (refl, refl))) (λ a w told. reads a w (inr told)) both.1)
+              (λ (reads : Reads (OpenSays changes s.now) c). all_or_none_open inodes who changes s is.agree is.long is.few is.are is.table c image
+              reads both.1)
+              (λ (reads : Reads (DoneSays who changes s) c). all_or_none_done inodes who changes s is.agree is.long is.few is.are is.table c image
+              (reads gate_word 0 (inl (refl, refl))) (λ a w told. reads a w (inr told)) both.1)
               later)
               both.0)
               (leaves_only-both s x Kind (IsOldBut (IsTouched changes) s) kinds (stores_leave (IsTouched changes) s x only_all))
@@ -190,22 +218,29 @@ module _ (inodes who : ℕ) (changes : List Change) (s t u : State) (is : Stores
         pub all_done : IsDone who gate_word 0 v x → IsAllDone who changes s x
         all_done done = record {
           size = only_all.words;
-          values = λ i lt. only_x.read (address changes i) (not_gate inodes who changes s is.agree is.long is.few is.are is.table i lt) ∙ ready_v.reads (address changes i) (new_value changes i) (told i lt);
+          values = λ i lt. only_x.read (address changes i) (not_gate inodes who changes s is.agree is.long is.few is.are is.table i lt) ∙
+              ready_v.reads (address changes i) (new_value changes i) (told i lt);
           others = λ a out. only_all.read a out;
-          gate = ap (λ xs. slice_index xs gate_word) done.now ∙ get_or-set_same v.now gate_word 0 0 (omega (arith, is.long, is.only.words, only_u.words, values.words));
+          gate = ap (λ xs. slice_index xs gate_word) done.now ∙ get_or-set_same v.now gate_word 0 0
+              (omega (arith, is.long, is.only.words, only_u.words, values.words));
           gate_settled = done.word;
-          settled = λ i lt. done.flushed (address changes i) (ready_v.within (address changes i) (new_value changes i) (told i lt)) (ready_v.flushed (address changes i) (new_value changes i) (told i lt)) (not_gate inodes who changes s is.agree is.long is.few is.are is.table i lt);
+          settled = λ i lt. done.flushed (address changes i) (ready_v.within (address changes i) (new_value changes i) (told i lt))
+              (ready_v.flushed (address changes i) (new_value changes i) (told i lt)) (not_gate inodes who changes s is.agree is.long is.few is.are
+              is.table i lt);
           flushed = λ a lt flushed out.
               let kept : KeptSays who changes s a (slice_index s.now a) = record { within = lt; flushed = flushed; out = out; value = refl } in
-              done.flushed a (kept_v.within a (slice_index s.now a) kept) (settled_is_flushed v who a (kept_v.settled a (slice_index s.now a) kept)) (kept_not_gate a (slice_index s.now a) kept);
+              done.flushed a (kept_v.within a (slice_index s.now a) kept) (settled_is_flushed v who a (kept_v.settled a (slice_index s.now a) kept))
+              (kept_not_gate a (slice_index s.now a) kept);
         }
           where
             told : (i : ℕ) → i < length changes → NewValues changes (length changes) (address changes i) (new_value changes i)
             told i lt = record { i = i; lt = lt; place = refl; value = refl }
 
 -- in the words of the call
-pub stored_pairs : (g : Geometry) (who : ℕ) (changes : List Change) (s t : State) → Agree s.now s.past → IsAccepted g → length s.now ≡ 512 * g.pages → length changes ≤ 4 → AreChanges g.inodes changes
-    → slice_index s.now gate_word ≡ 0 → IsSettled s gate_word → StoresOnly (IsInPairs changes) s t → IsReady who (PairsOf changes s.now) t → KeepsFlushed Anyone (IsInPairs changes) s t → StoresPairs g.inodes who changes s t
+pub stored_pairs : (g : Geometry) (who : ℕ) (changes : List Change) (s t : State) → Agree s.now s.past → IsAccepted g → length s.now ≡ 512 * g.pages
+    → length changes ≤ 4 → AreChanges g.inodes changes
+    → slice_index s.now gate_word ≡ 0 → IsSettled s gate_word → StoresOnly (IsInPairs changes) s t → IsReady who (PairsOf changes s.now) t
+    → KeepsFlushed Anyone (IsInPairs changes) s t → StoresPairs g.inodes who changes s t
 stored_pairs g who changes s t agree accepted whole few are closed settled only ready keeps = record {
   agree = agree;
   long = omega (arith, whole, accepted.pages);

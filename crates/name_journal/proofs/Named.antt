@@ -6,7 +6,13 @@ use Rattle.name_journal.specs.declared.change.Change.{Change}
 use Rattle.name_journal.specs.Changes.{address, IsNewAt, AreChanges}
 
 pub journaled : (inodes at : ℕ) → 1024 ≤ at → (at - 1024) / 16 < inodes → (at - 1024) % 16 < 3 → IsJournaled inodes at
-journaled inodes at low in_table first = record { ino = (at - 1024) / 16; field = (at - 1024) % 16; in_table = in_table; first_three = first; is = omega arith }
+journaled inodes at low in_table first = record {
+  ino = (at - 1024) / 16;
+  field = (at - 1024) % 16;
+  in_table = in_table;
+  first_three = first;
+  is = omega arith;
+}
 
 pub journaled_low : (inodes at : ℕ) → IsJournaled inodes at → 1024 ≤ at
 journaled_low inodes at is = omega (arith, is.is)
@@ -25,9 +31,14 @@ pub record AreBelow (inodes : ℕ) (changes : List Change) (k : ℕ) : Type 0 wh
 pub none_below : (inodes : ℕ) (changes : List Change) → AreBelow inodes changes 0
 none_below inodes changes = record { journaled = λ i lt. absurd (omega arith); fresh = λ i lt. absurd (omega arith) }
 
-pub one_more : (inodes : ℕ) (changes : List Change) (k : ℕ) → AreBelow inodes changes k → IsJournaled inodes (address changes k) → IsNewAt changes k → AreBelow inodes changes (k + 1)
+pub one_more : (inodes : ℕ) (changes : List Change) (k : ℕ) → AreBelow inodes changes k → IsJournaled inodes (address changes k) → IsNewAt changes k
+    → AreBelow inodes changes (k + 1)
 one_more inodes changes k below here fresh = record {
-  journaled = λ i lt. elim (cases_eq i k) [ inl e ↦ subst (λ (j : ℕ). IsJournaled inodes (address changes j)) (sym e) here | inr ne ↦ below.journaled i (omega arith) ];
+  journaled = λ i lt. elim (cases_eq i k) [
+    | inl e ↦ subst (λ (j : ℕ). IsJournaled inodes (address changes j)) (sym e) here
+    | inr ne ↦ below.journaled
+        i (omega arith)
+  ];
   fresh = λ i lt. elim (cases_eq i k) [ inl e ↦ subst (λ (j : ℕ). IsNewAt changes j) (sym e) fresh | inr ne ↦ below.fresh i (omega arith) ];
 }
 

@@ -1,5 +1,28 @@
 -- The pairs of a journal that is let through.
-use Rattle.std.proofs.Common.{◌≡◌, ◌⊎◌, inl, inr, ⊎_elim, ℕ, ◌+◌, ◌*◌, ◌/◌, ◌<◌, ◌≤◌, List, length, take, refl, sym, ◌∙◌, ap, subst, arith, length-take, get_or-take}
+use Rattle.std.proofs.Common.{
+  ◌≡◌,
+  ◌⊎◌,
+  inl,
+  inr,
+  ⊎_elim,
+  ℕ,
+  ◌+◌,
+  ◌*◌,
+  ◌/◌,
+  ◌<◌,
+  ◌≤◌,
+  List,
+  length,
+  take,
+  refl,
+  sym,
+  ◌∙◌,
+  ap,
+  subst,
+  arith,
+  length-take,
+  get_or-take,
+}
 use Rattle.std.specs.Prelude.{slice_index}
 use Rattle.std.proofs.lemmas.Bool.{cases_eq}
 use Rattle.std.proofs.lemmas.Grind.{same_number_lists}
@@ -22,7 +45,8 @@ pub journaled_inside : (g : Geometry) (a size : ℕ) → IsAccepted g → size �
 journaled_inside g a size accepted whole is =
     let low = inode_word_low g is.ino 15 is.in_table (omega arith) in omega (arith, low, accepted.room, whole, is.is, is.first_three)
 
-pub changes_inside : (g : Geometry) (changes : List Change) (size : ℕ) → IsAccepted g → size ≡ 512 * g.pages → AreChanges g.inodes changes → AreInside changes size
+pub changes_inside : (g : Geometry) (changes : List Change) (size : ℕ) → IsAccepted g → size ≡ 512 * g.pages → AreChanges g.inodes changes
+    → AreInside changes size
 changes_inside g changes size accepted whole are i lt = journaled_inside g (address changes i) size accepted whole (are.journaled i lt)
 
 module _ (g : Geometry) (w : List ℕ) (accepted : IsAccepted g) (whole : length w ≡ 512 * g.pages) (is : IsGate g.inodes w) where
@@ -30,8 +54,10 @@ module _ (g : Geometry) (w : List ℕ) (accepted : IsAccepted g) (whole : length
   open_pairs n pairs n_is are = record {
     can = can_roll g.inodes w is (λ a here. omega (arith, journaled_inside g a (length w) accepted whole here));
     count = omega (arith, long, n_is);
-    addresses = λ i lt. ap (λ (c : Change). c.at) (get_or-take n pairs i (record { at = 0; value = 0 }) (omega (arith, lt, long))) ∙ are.addresses i (omega (arith, lt, long, n_is, is.few));
-    values = λ i lt. ap (λ (c : Change). c.value) (get_or-take n pairs i (record { at = 0; value = 0 }) (omega (arith, lt, long))) ∙ are.values i (omega (arith, lt, long, n_is, is.few));
+    addresses = λ i lt. ap (λ (c : Change). c.at) (get_or-take n pairs i (record { at = 0; value = 0 }) (omega (arith, lt, long))) ∙ are.addresses i
+        (omega (arith, lt, long, n_is, is.few));
+    values = λ i lt. ap (λ (c : Change). c.value) (get_or-take n pairs i (record { at = 0; value = 0 }) (omega (arith, lt, long))) ∙ are.values i
+        (omega (arith, lt, long, n_is, is.few));
   }
     where
       long : length (take n pairs) ≡ n
@@ -45,7 +71,8 @@ module _ (g : Geometry) (w : List ℕ) (accepted : IsAccepted g) (whole : length
     open_inside i lt = journaled_inside g (address pairs i) (length w) accepted whole (open_journaled i lt)
 
     pub open_wider : (a : ℕ) → IsRolledAt pairs a → IsJournaled g.inodes a ⊎ (a ≡ gate_word)
-    open_wider a at = ⊎_elim (λ (named : IsNamed pairs a). inl (subst (IsJournaled g.inodes) (sym named.is) (open_journaled named.i named.lt))) (λ (e : a ≡ gate_word). inr e) at
+    open_wider a at = ⊎_elim (λ (named : IsNamed pairs a). inl (subst (IsJournaled g.inodes) (sym named.is) (open_journaled named.i named.lt)))
+        (λ (e : a ≡ gate_word). inr e) at
 
   -- the words that a roll back stores to
   module _ (n : ℕ) (pairs : List Change) (n_is : n ≡ slice_index w gate_word) (are : ArePairs w pairs) (s t : State) where
@@ -56,7 +83,8 @@ module _ (g : Geometry) (w : List ℕ) (accepted : IsAccepted g) (whole : length
     open_only = stores_only-weaken (IsRolledAt (take n pairs)) Wide s t (open_wider (take n pairs) (open_pairs n pairs n_is are))
 
     pub open_others : (Q : ℕ → Type 0) → KeepsFlushed Q (IsRolledAt (take n pairs)) s t → KeepsFlushed Q Wide s t
-    open_others Q = keeps-weaken Q Q (IsRolledAt (take n pairs)) Wide s t (λ q is_kept. is_kept) (open_wider (take n pairs) (open_pairs n pairs n_is are))
+    open_others Q = keeps-weaken Q Q (IsRolledAt (take n pairs)) Wide s t (λ q is_kept. is_kept)
+        (open_wider (take n pairs) (open_pairs n pairs n_is are))
 
 -- a closed journal's words are the rolled ones
 pub shut_is_rolled : (w : List ℕ) → 513 ≤ length w → slice_index w gate_word ≡ 0 → w ≡ rolled w
@@ -69,7 +97,8 @@ shut_is_rolled w long shut = same_number_lists w (rolled w) (sym (length-rolled 
 pub still_has : (s : State) → Agree s.now s.past → Still s → (P : List ℕ → Type 0) → P s.now → LeavesOnly s s P
 still_has s agree still P here =
     leaves_only-image s s (IsOldBut Nowhere s) P agree
-    (λ c image old. subst P (sym (same_number_lists c s.now image.size (λ a lt. settled_value_is s a (slice_index c a) image.told (old a (λ h. h) (omega (arith, lt, image.size))) (still a (omega (arith, lt, image.size)))))) here)
+    (λ c image old. subst P (sym (same_number_lists c s.now image.size (λ a lt. settled_value_is s a (slice_index c a) image.told
+    (old a (λ h. h) (omega (arith, lt, image.size))) (still a (omega (arith, lt, image.size)))))) here)
     (stores_leave Nowhere s s (stores_only-none Nowhere s agree))
 
 pub still_gates : (s : State) → Agree s.now s.past → Still s → LeavesOnly s s (HasGateOf s.now)
@@ -78,5 +107,6 @@ still_gates s agree still = still_has s agree still (HasGateOf s.now) (record { 
 pub still_leaves : (s : State) → Agree s.now s.past → Still s → LeavesOnly s s (λ c. rolled c ≡ rolled s.now)
 still_leaves s agree still =
     leaves_only-image s s (IsOldBut Nowhere s) (λ c. rolled c ≡ rolled s.now) agree
-    (λ c image old. ap rolled (same_number_lists c s.now image.size (λ a lt. settled_value_is s a (slice_index c a) image.told (old a (λ h. h) (omega (arith, lt, image.size))) (still a (omega (arith, lt, image.size))))))
+    (λ c image old. ap rolled (same_number_lists c s.now image.size (λ a lt. settled_value_is s a (slice_index c a) image.told
+    (old a (λ h. h) (omega (arith, lt, image.size))) (still a (omega (arith, lt, image.size))))))
     (stores_leave Nowhere s s (stores_only-none Nowhere s agree))

@@ -1,5 +1,32 @@
 -- The pairs of the journal are stored and read.
-use Rattle.std.proofs.Common.{◌≡◌, inl, inr, ℕ, zero, suc, ◌+◌, ◌*◌, ◌<◌, ◌≤◌, List, [], ◌∷◌, length, set, take, refl, sym, ◌∙◌, subst, arith, length-set, length-take, get_or-set_same, get_or-set_other, get_or-take}
+use Rattle.std.proofs.Common.{
+  ◌≡◌,
+  inl,
+  inr,
+  ℕ,
+  zero,
+  suc,
+  ◌+◌,
+  ◌*◌,
+  ◌<◌,
+  ◌≤◌,
+  List,
+  [],
+  ◌∷◌,
+  length,
+  set,
+  take,
+  refl,
+  sym,
+  ◌∙◌,
+  subst,
+  arith,
+  length-set,
+  length-take,
+  get_or-set_same,
+  get_or-set_other,
+  get_or-take,
+}
 use Rattle.std.specs.Prelude.{slice_index}
 use Rattle.std.proofs.lemmas.Bool.{cases_eq}
 use Rattle.pm_device.specs.State.{State}
@@ -11,7 +38,8 @@ use Rattle.name_journal.specs.declared.change.Change.{Change}
 use Rattle.name_journal.specs.Changes.{address, new_value}
 use Rattle.name_journal.specs.Pairs.{ArePairs, HavePairs, PairsOf, of_address, of_old}
 
-pub four_pairs : (c : List ℕ) (p q r s : Change) → p.at ≡ pair_address c 0 → p.value ≡ pair_value c 0 → q.at ≡ pair_address c 1 → q.value ≡ pair_value c 1
+pub four_pairs : (c : List ℕ) (p q r s : Change) → p.at ≡ pair_address c 0 → p.value ≡ pair_value c 0 → q.at ≡ pair_address c 1
+    → q.value ≡ pair_value c 1
     → r.at ≡ pair_address c 2 → r.value ≡ pair_value c 2 → s.at ≡ pair_address c 3 → s.value ≡ pair_value c 3 → ArePairs c (p ∷ q ∷ r ∷ s ∷ [])
 four_pairs c p q r s a0 v0 a1 v1 a2 v2 a3 v3 = record { four = refl; addresses = at; values = value }
   where
@@ -38,17 +66,21 @@ pub one_pair : (changes : List Change) (c words : List ℕ) (k at old : ℕ) →
 one_pair changes c words k at old few at_is old_is have = record {
   long = length-set (set words (2 * k) at) (2 * k + 1) old ∙ length-set words (2 * k) at ∙ have.long;
   addresses = λ i lt. elim (cases_eq i k) [
-    | inl e ↦ rw e (get_or-set_other (set words (2 * k) at) (2 * k + 1) (2 * k) old 0 (λ h. omega (arith, h)) ∙ get_or-set_same words (2 * k) at 0 (omega (arith, have.long, few)) ∙ at_is)
-    | inr ne ↦ get_or-set_other (set words (2 * k) at) (2 * k + 1) (2 * i) old 0 (λ h. omega (arith, h)) ∙ get_or-set_other words (2 * k) (2 * i) at 0 (λ h. ne (omega (arith, h))) ∙ have.addresses i (omega arith)
+    | inl e ↦ rw e (get_or-set_other (set words (2 * k) at) (2 * k + 1) (2 * k) old 0 (λ h. omega (arith, h)) ∙ get_or-set_same words (2 * k) at 0
+        (omega (arith, have.long, few)) ∙ at_is)
+    | inr ne ↦ get_or-set_other (set words (2 * k) at) (2 * k + 1) (2 * i) old 0 (λ h. omega (arith, h)) ∙ get_or-set_other words (2 * k) (2 * i) at 0
+        (λ h. ne (omega (arith, h))) ∙ have.addresses i (omega arith)
   ];
   values = λ i lt. elim (cases_eq i k) [
     | inl e ↦ rw e (get_or-set_same (set words (2 * k) at) (2 * k + 1) old 0 (omega (arith, have.long, few, length-set words (2 * k) at)) ∙ old_is)
-    | inr ne ↦ get_or-set_other (set words (2 * k) at) (2 * k + 1) (2 * i + 1) old 0 (λ h. ne (omega (arith, h))) ∙ get_or-set_other words (2 * k) (2 * i + 1) at 0 (λ h. omega (arith, h)) ∙ have.values i (omega arith)
+    | inr ne ↦ get_or-set_other (set words (2 * k) at) (2 * k + 1) (2 * i + 1) old 0 (λ h. ne (omega (arith, h))) ∙ get_or-set_other words (2 * k)
+        (2 * i + 1) at 0 (λ h. omega (arith, h)) ∙ have.values i (omega arith)
   ];
 }
 
 -- a run of these words is ready to be made durable
-pub pairs_ready : (who : ℕ) (changes : List Change) (c words : List ℕ) (t : State) → length changes ≤ 4 → 528 ≤ length t.now → HavePairs changes c (length changes) words
+pub pairs_ready : (who : ℕ) (changes : List Change) (c words : List ℕ) (t : State) → length changes ≤ 4 → 528 ≤ length t.now
+    → HavePairs changes c (length changes) words
     → HoldsRun who 520 (take (2 * length changes) words) t → IsReady who (PairsOf changes c) t
 pairs_ready who changes c words t few size have holds = record { within = within; reads = reads; flushed = flushed }
   where

@@ -1,5 +1,24 @@
 -- The pairs' values are stored, and then the gate is closed.
-use Rattle.std.proofs.Common.{◌≡◌, ◌≢◌, inl, inr, ⊎_elim, ℕ, ◌<◌, ◌≤◌, List, length, sym, ◌∙◌, ap, subst, arith, get_or-set_same, get_or-set_other, length-set}
+use Rattle.std.proofs.Common.{
+  ◌≡◌,
+  ◌≢◌,
+  inl,
+  inr,
+  ⊎_elim,
+  ℕ,
+  ◌<◌,
+  ◌≤◌,
+  List,
+  length,
+  sym,
+  ◌∙◌,
+  ap,
+  subst,
+  arith,
+  get_or-set_same,
+  get_or-set_other,
+  length-set,
+}
 use Rattle.std.specs.Prelude.{slice_index}
 use Rattle.std.proofs.lemmas.Bool.{cases_eq}
 use Rattle.pm_device.specs.State.{State, Agree}
@@ -21,7 +40,8 @@ use Rattle.name_journal.proofs.Rolling.{rolled_same, is_rolled, cases_named}
 abbrev AtGate : ℕ → Type 0
 AtGate a = a ≡ gate_word
 
-module _ (who : ℕ) (pairs : List Change) (s t u : State) (agree_s : Agree s.now s.past) (agree_t : Agree t.now t.past) (long : 1024 ≤ length s.now) (are : AreOpen s.now pairs)
+module _ (who : ℕ) (pairs : List Change) (s t u : State) (agree_s : Agree s.now s.past) (agree_t : Agree t.now t.past) (long : 1024 ≤ length s.now)
+    (are : AreOpen s.now pairs)
     (values : StoresOnly (IsNamed pairs) s t) (ready : IsReady who (NewValues pairs (length pairs)) t) where
   -- no pair names the word
   abbrev Apart : ℕ → Type 0
@@ -34,7 +54,12 @@ module _ (who : ℕ) (pairs : List Change) (s t u : State) (agree_s : Agree s.no
   gate_apart i lt e = omega (arith, are.can.high i lt, e)
 
   told : (i : ℕ) → i < slice_index s.now gate_word → NewValues pairs (length pairs) (pair_address s.now i) (pair_value s.now i)
-  told i lt = let few : i < length pairs = omega (arith, lt, are.count) in record { i = i; lt = few; place = sym (are.addresses i few); value = sym (are.values i few) }
+  told i lt = let few : i < length pairs = omega (arith, lt, are.count) in record {
+    i = i;
+    lt = few;
+    place = sym (are.addresses i few);
+    value = sym (are.values i few);
+  }
 
   put_t : (i : ℕ) → i < slice_index s.now gate_word → slice_index t.now (pair_address s.now i) ≡ pair_value s.now i
   put_t i lt = ready.reads (pair_address s.now i) (pair_value s.now i) (told i lt)
@@ -60,7 +85,12 @@ module _ (who : ℕ) (pairs : List Change) (s t u : State) (agree_s : Agree s.no
   image_gate : Still s → (c : List ℕ) → IsImage t c → IsCommitted who gate_word 0 t c → rolled c ≡ rolled s.now
   image_gate still c image committed = rolled_same s.now are.can long c (record {
     size = image.size ∙ values.words;
-    gate = ⊎_elim (λ same. inl (same ∙ gate_t)) (λ moved. inr (moved.0, λ i lt. moved.1 (pair_address s.now i) (omega (arith, are.can.within i lt, values.words)) (ready.flushed (pair_address s.now i) (pair_value s.now i) (told i lt)) (λ e. gate_apart i lt (sym e)) ∙ put_t i lt)) committed.word;
+    gate = ⊎_elim (λ same. inl (same ∙ gate_t))
+        (λ moved. inr (
+          moved.0,
+          λ i lt. moved.1 (pair_address s.now i) (omega (arith, are.can.within i lt, values.words))
+              (ready.flushed (pair_address s.now i) (pair_value s.now i) (told i lt)) (λ e. gate_apart i lt (sym e)) ∙ put_t i lt,
+        )) committed.word;
     others = λ a lt ne none. committed.others a (omega (arith, lt, values.words)) (settled_t still a lt none) ne ∙ values.read a (not_named a none);
   })
 
@@ -79,21 +109,25 @@ module _ (who : ℕ) (pairs : List Change) (s t u : State) (agree_s : Agree s.no
   gate_closed : Still s → (c : List ℕ) → IsImage t c → IsCommitted who gate_word 0 t c → HasGateOf s.now c
   gate_closed still c image committed = record {
     gate = ⊎_elim (λ same. inl (same ∙ gate_t)) (λ moved. inr moved.0) committed.word;
-    pairs = λ a low high. committed.others a (omega (arith, high, long, values.words)) (settled_t still a (omega (arith, high, long)) (pairs_apart a low high)) (λ e. omega (arith, e, low)) ∙ values.read a (not_named a (pairs_apart a low high));
+    pairs = λ a low high. committed.others a (omega (arith, high, long, values.words)) (settled_t still a (omega (arith, high, long))
+        (pairs_apart a low high)) (λ e. omega (arith, e, low)) ∙ values.read a (not_named a (pairs_apart a low high));
   }
 
   pub gates_at_any_moment : (IsSettled t gate_word → LeavesOnly t u (IsCommitted who gate_word 0 t)) → Still s → LeavesOnly s u (HasGateOf s.now)
   gates_at_any_moment closing still =
       leaves_only-then s t u (HasGateOf s.now)
       (leaves_only-image s t (IsOldBut (IsNamed pairs) s) (HasGateOf s.now) agree_s (gate_values still) (stores_leave (IsNamed pairs) s t values))
-      (leaves_only-image t u (IsCommitted who gate_word 0 t) (HasGateOf s.now) agree_t (gate_closed still) (closing (settled_t still gate_word (omega (arith, long)) gate_apart)))
+      (leaves_only-image t u (IsCommitted who gate_word 0 t) (HasGateOf s.now) agree_t (gate_closed still)
+      (closing (settled_t still gate_word (omega (arith, long)) gate_apart)))
 
-  pub rolls_at_any_moment : (IsSettled t gate_word → LeavesOnly t u (IsCommitted who gate_word 0 t)) → Still s → LeavesOnly s u (λ c. rolled c ≡ rolled s.now)
+  pub rolls_at_any_moment : (IsSettled t gate_word → LeavesOnly t u (IsCommitted who gate_word 0 t)) → Still s
+      → LeavesOnly s u (λ c. rolled c ≡ rolled s.now)
   rolls_at_any_moment closing still =
       let P = λ (c : List ℕ). rolled c ≡ rolled s.now in
       leaves_only-then s t u P
       (leaves_only-image s t (IsOldBut (IsNamed pairs) s) P agree_s (image_values still) (stores_leave (IsNamed pairs) s t values))
-      (leaves_only-image t u (IsCommitted who gate_word 0 t) P agree_t (image_gate still) (closing (settled_t still gate_word (omega (arith, long)) gate_apart)))
+      (leaves_only-image t u (IsCommitted who gate_word 0 t) P agree_t (image_gate still)
+      (closing (settled_t still gate_word (omega (arith, long)) gate_apart)))
 
   pub rolls_now : IsDone who gate_word 0 t u → u.now ≡ rolled s.now
   rolls_now done = is_rolled s.now are.can long u.now
@@ -116,14 +150,17 @@ module _ (who : ℕ) (pairs : List Change) (s t u : State) (agree_s : Agree s.no
 
       flushed_t : (b : ℕ) → b < length s.now → IsFlushed who t b
       flushed_t b few = ⊎_elim
-          (λ (found : (i : ℕ) × (i < slice_index s.now gate_word) × (b ≡ pair_address s.now i)). subst (IsFlushed who t) (sym found.2) (ready.flushed (pair_address s.now found.0) (pair_value s.now found.0) (told found.0 found.1)))
+          (λ (found : (i : ℕ) × (i < slice_index s.now gate_word) × (b ≡ pair_address s.now i)). subst (IsFlushed who t) (sym found.2)
+          (ready.flushed (pair_address s.now found.0) (pair_value s.now found.0) (told found.0 found.1)))
           (λ (none : Apart b). settled_is_flushed t who b (settled_t still b few none))
           (cases_named s.now b (slice_index s.now gate_word))
 
   pub rolls_only : StoresOnly AtGate t u → StoresOnly (IsRolledAt pairs) s u
   rolls_only only = let W = IsRolledAt pairs in
-      stores_only-then W s t u (stores_only-weaken (IsNamed pairs) W s t (λ a named. inl named) values) (stores_only-weaken AtGate W t u (λ a e. inr e) only)
+      stores_only-then W s t u (stores_only-weaken (IsNamed pairs) W s t (λ a named. inl named) values)
+      (stores_only-weaken AtGate W t u (λ a e. inr e) only)
 
   pub rolls_others : KeepsFlushed Anyone (IsNamed pairs) s t → KeepsFlushed (Others who) AtGate t u → KeepsFlushed (Others who) (IsRolledAt pairs) s u
   rolls_others keeps others = let W = IsRolledAt pairs in let Q = Others who in
-      keeps-then Q W s t u (keeps-weaken Anyone Q (IsNamed pairs) W s t (λ q any. tt) (λ a named. inl named) keeps) (keeps-weaken Q Q AtGate W t u (λ q other. other) (λ a e. inr e) others)
+      keeps-then Q W s t u (keeps-weaken Anyone Q (IsNamed pairs) W s t (λ q any. tt) (λ a named. inl named) keeps)
+      (keeps-weaken Q Q AtGate W t u (λ q other. other) (λ a e. inr e) others)

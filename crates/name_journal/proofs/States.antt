@@ -23,7 +23,8 @@ cases_named changes a = ⊎_elim
     (λ (none : (i : ℕ) → i < length changes → a ≢ address changes i). inr (λ named. none named.i named.lt named.is))
     (cases_at (address changes) a (length changes))
 
-module _ (g : Geometry) (who : ℕ) (changes : List Change) (says says' fresh : ℕ → ℕ → Type 0) (s t : State) (agree : Agree s.now s.past) (accepted : IsAccepted g) (whole : length s.now ≡ 512 * g.pages)
+module _ (g : Geometry) (who : ℕ) (changes : List Change) (says says' fresh : ℕ → ℕ → Type 0) (s t : State) (agree : Agree s.now s.past)
+    (accepted : IsAccepted g) (whole : length s.now ≡ 512 * g.pages)
     (are : AreChanges g.inodes changes) (leads : Leads who changes says says' fresh s) where
   -- the gate is said to be closed
   gate_value : (v : ℕ) → says gate_word v → v ≡ 0
@@ -45,18 +46,21 @@ module _ (g : Geometry) (who : ℕ) (changes : List Change) (says says' fresh : 
 
     -- what a stop might have left of a word that is said
     as_said : (a v : ℕ) → says a v → MayLeave s a (slice_index (rolled c) a) → slice_index (rolled c) a ≡ v
-    as_said a v said may = settled_value_is s a (slice_index (rolled c) a) image.told may (leads.stands.settled a v said) ∙ leads.stands.reads a v said
+    as_said a v said may = settled_value_is s a (slice_index (rolled c) a) image.told may (leads.stands.settled a v said) ∙ leads.stands.reads a v
+        said
 
     reads_old : NoneChanged changes s (rolled c) → Reads says (rolled c)
     reads_old none a v said = ⊎_elim (λ (e : a ≡ gate_word). closed a v e said) (λ (rest : IsNamed changes a ⊎ (IsTouched changes a → ⊥)). ⊎_elim
-        (λ (named : IsNamed changes a). as_said a v said (subst (λ (b : ℕ). MayLeave s b (slice_index (rolled c) b)) (sym named.is) (none named.i named.lt)))
+        (λ (named : IsNamed changes a). as_said a v said (subst (λ (b : ℕ). MayLeave s b (slice_index (rolled c) b)) (sym named.is)
+        (none named.i named.lt)))
         (λ (out : IsTouched changes a → ⊥). as_said a v said (is.others a out (leads.stands.within a v said)))
         rest) (where_said a v said)
 
     reads_kept : AllChanged who changes s (rolled c) → (a v : ℕ) → (IsNamed changes a → ⊥) → says a v → slice_index (rolled c) a ≡ v
     reads_kept all a v out said = ⊎_elim (λ (e : a ≡ gate_word). closed a v e said) (λ (rest : IsNamed changes a ⊎ (IsTouched changes a → ⊥)). ⊎_elim
         (λ (named : IsNamed changes a). absurd (out named))
-        (λ (off : IsTouched changes a → ⊥). all.flushed a (leads.stands.within a v said) (settled_is_flushed s who a (leads.stands.settled a v said)) off ∙ leads.stands.reads a v said)
+        (λ (off : IsTouched changes a → ⊥). all.flushed a (leads.stands.within a v said) (settled_is_flushed s who a (leads.stands.settled a v said))
+        off ∙ leads.stands.reads a v said)
         rest) (where_said a v said)
 
     reads_new : AllChanged who changes s (rolled c) → Reads says' (rolled c)
@@ -64,11 +68,16 @@ module _ (g : Geometry) (who : ℕ) (changes : List Change) (says says' fresh : 
         (λ (new : NewValues changes (length changes) a v). ap (slice_index (rolled c)) new.place ∙ all.values new.i new.lt ∙ sym new.value)
         (λ (rest : (IsNamed changes a → ⊥) × (says a v ⊎ fresh a v)). ⊎_elim
         (λ (old : says a v). reads_kept all a v rest.0 old)
-        (λ (new : fresh a v). all.flushed a (leads.ready.within a v new) (leads.ready.flushed a v new) (leads.apart a v new) ∙ leads.ready.reads a v new)
+        (λ (new : fresh a v). all.flushed a (leads.ready.within a v new) (leads.ready.flushed a v new) (leads.apart a v new) ∙ leads.ready.reads a v
+        new)
         rest.1) (leads.differs a v said)
 
     old_or_new : OldOrNewState g.inodes says says' c
-    old_or_new = (is.gate, ⊎_elim (λ (none : NoneChanged changes s (rolled c)). inl (reads_old none)) (λ (all : AllChanged who changes s (rolled c)). inr (reads_new all)) is.named)
+    old_or_new = (
+      is.gate,
+      ⊎_elim (λ (none : NoneChanged changes s (rolled c)). inl (reads_old none)) (λ (all : AllChanged who changes s (rolled c)).
+          inr (reads_new all)) is.named,
+    )
 
   -- Each image left in the call is, rolled, the one state or the other.
   pub old_or_new_state : LeavesOnly s t (AllOrNone g.inodes who changes s) → LeavesOnly s t (OldOrNewState g.inodes says says')
@@ -85,11 +94,15 @@ module _ (g : Geometry) (who : ℕ) (changes : List Change) (says says' fresh : 
     stands_kept : (a v : ℕ) → (IsNamed changes a → ⊥) → says a v → StandsAt a v
     stands_kept a v out said = record {
       within = omega (arith, leads.stands.within a v said, done.size);
-      read = ⊎_elim (λ (e : a ≡ gate_word). ap (slice_index t.now) e ∙ done.gate ∙ sym (gate_value v (subst (λ (b : ℕ). says b v) e said))) (λ (rest : IsNamed changes a ⊎ (IsTouched changes a → ⊥)). ⊎_elim
-          (λ (named : IsNamed changes a). absurd (out named)) (λ (off : IsTouched changes a → ⊥). done.others a off ∙ leads.stands.reads a v said) rest) (where_said a v said);
-      settled = ⊎_elim (λ (e : a ≡ gate_word). subst (IsSettled t) (sym e) done.gate_settled) (λ (rest : IsNamed changes a ⊎ (IsTouched changes a → ⊥)). ⊎_elim
+      read = ⊎_elim (λ (e : a ≡ gate_word). ap (slice_index t.now) e ∙ done.gate ∙ sym (gate_value v (subst (λ (b : ℕ). says b v) e said)))
+          (λ (rest : IsNamed changes a ⊎ (IsTouched changes a → ⊥)). ⊎_elim
+          (λ (named : IsNamed changes a). absurd (out named)) (λ (off : IsTouched changes a → ⊥). done.others a off ∙ leads.stands.reads a v said)
+          rest) (where_said a v said);
+      settled = ⊎_elim (λ (e : a ≡ gate_word). subst (IsSettled t) (sym e) done.gate_settled)
+          (λ (rest : IsNamed changes a ⊎ (IsTouched changes a → ⊥)). ⊎_elim
           (λ (named : IsNamed changes a). absurd (out named))
-          (λ (off : IsTouched changes a → ⊥). done.flushed a (leads.stands.within a v said) (settled_is_flushed s who a (leads.stands.settled a v said)) off) rest) (where_said a v said);
+          (λ (off : IsTouched changes a → ⊥). done.flushed a (leads.stands.within a v said)
+          (settled_is_flushed s who a (leads.stands.settled a v said)) off) rest) (where_said a v said);
     }
 
     stands_at : (a v : ℕ) → says' a v → StandsAt a v
@@ -109,4 +122,9 @@ module _ (g : Geometry) (who : ℕ) (changes : List Change) (says says' fresh : 
         rest.1) (leads.differs a v said)
 
     pub new_state_stands : Stands says' t
-    new_state_stands = record { within = λ a v said. (stands_at a v said).within; reads = λ a v said. (stands_at a v said).read; settled = λ a v said. (stands_at a v said).settled }
+    new_state_stands = record {
+      within = λ a v said. (stands_at a v said).within;
+      reads = λ a v said. (stands_at a v said).read;
+      settled = λ a v said.
+          (stands_at a v said).settled;
+    }

@@ -24,14 +24,20 @@ pub record StoresValues (who : ℕ) (changes : List Change) (s : State) (k : ℕ
 pub no_values : (who : ℕ) (changes : List Change) (s : State) → Agree s.now s.past → StoresValues who changes s 0 s
 no_values who changes s agree = record {
   only = stores_only-none (IsNamed changes) s agree;
-  ready = record { within = λ a v told. absurd (omega (arith, told.lt)); reads = λ a v told. absurd (omega (arith, told.lt)); flushed = λ a v told. absurd (omega (arith, told.lt)) };
+  ready = record {
+    within = λ a v told. absurd (omega (arith, told.lt));
+    reads = λ a v told. absurd (omega (arith, told.lt));
+    flushed = λ a v told.
+        absurd (omega (arith, told.lt));
+  };
   keeps = keeps-none Anyone (IsNamed changes) s;
   spare = omega arith;
   faults = omega arith;
 }
 
 -- one more
-module _ (who : ℕ) (changes : List Change) (s t u : State) (k at value : ℕ) (at_is : at ≡ address changes k) (value_is : value ≡ new_value changes k) (lt : k < length changes)
+module _ (who : ℕ) (changes : List Change) (s t u : State) (k at value : ℕ) (at_is : at ≡ address changes k) (value_is : value ≡ new_value changes k)
+    (lt : k < length changes)
     (apart : AreApart changes) (inside : AreInside changes (length s.now)) (so_far : StoresValues who changes s k t)
     (only : StoresOnly (IsIn at 1) t u) (holds : HoldsRun who at (value ∷ []) u) (keeps : KeepsFlushed Anyone (IsIn at 1) t u) where
   named : (a : ℕ) → IsIn at 1 a → IsNamed changes a
@@ -39,7 +45,8 @@ module _ (who : ℕ) (changes : List Change) (s t u : State) (k at value : ℕ) 
 
   earlier : IsReady who (NewValues changes k) u
   earlier = ready-stores Anyone (IsIn at 1) who t u (NewValues changes k) only keeps tt
-      (λ a v told h. let e : told.i ≡ k = apart told.i k (omega (arith, told.lt, lt)) lt (omega (arith, told.place, h.0, h.1, at_is)) in omega (arith, e, told.lt)) so_far.ready
+      (λ a v told h. let e : told.i ≡ k = apart told.i k (omega (arith, told.lt, lt)) lt (omega (arith, told.place, h.0, h.1, at_is)) in
+      omega (arith, e, told.lt)) so_far.ready
 
   read_here : slice_index u.now at ≡ value
   read_here = let z : at + 0 ≡ at = omega arith in subst (λ (a : ℕ). slice_index u.now a ≡ value) z (holds.reads 0 (omega arith))
@@ -67,7 +74,8 @@ module _ (who : ℕ) (changes : List Change) (s t u : State) (k at value : ℕ) 
         | inr ne ↦ earlier.flushed a v (before a v told ne)
       ];
     };
-    keeps = keeps-then Anyone (IsNamed changes) s t u so_far.keeps (keeps-weaken Anyone Anyone (IsIn at 1) (IsNamed changes) t u (λ q any. any) named keeps);
+    keeps = keeps-then Anyone (IsNamed changes) s t u so_far.keeps (keeps-weaken Anyone Anyone (IsIn at 1) (IsNamed changes) t u (λ q any. any) named
+        keeps);
     spare = omega (arith, so_far.spare, spare);
     faults = omega (arith, so_far.faults, faults);
   }

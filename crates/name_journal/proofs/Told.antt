@@ -25,8 +25,13 @@ image_of s q m c agree on left = let both = go s.past q agree on left in record 
     go (Some p) (Some q) agree on left = (tt, left.size ∙ ap length on.first ∙ sym (ap length agree ∙ length-read_after p.first p.calls))
 
 -- a fact of each image gives another, of which the size and the told past are known
-pub leaves_only-image : (s t : State) (P Q : List ℕ → Type 0) → Agree s.now s.past → ((c : List ℕ) → IsImage s c → P c → Q c) → LeavesOnly s t P → LeavesOnly s t Q
-leaves_only-image s t P Q agree gives only = record { extends = only.extends; each = λ m c late left. gives c (image_of s t.past m c agree only.extends left) (only.each m c late left) }
+pub leaves_only-image : (s t : State) (P Q : List ℕ → Type 0) → Agree s.now s.past → ((c : List ℕ) → IsImage s c → P c → Q c) → LeavesOnly s t P
+    → LeavesOnly s t Q
+leaves_only-image s t P Q agree gives only = record {
+  extends = only.extends;
+  each = λ m c late left. gives c
+      (image_of s t.past m c agree only.extends left) (only.each m c late left);
+}
 
 pub leaves_only-both : (s t : State) (P Q : List ℕ → Type 0) → LeavesOnly s t P → LeavesOnly s t Q → LeavesOnly s t (λ c. P c × Q c)
 leaves_only-both s t P Q one other = record { extends = one.extends; each = λ m c late left. (one.each m c late left, other.each m c late left) }
@@ -52,7 +57,12 @@ now_may_stay s a agree lt = go s.past agree
         let here : length p.first ≡ length s.now = sym (ap length agree ∙ length-read_after p.first p.calls) in
         let ends = now_ends_in p a (omega (arith, here, lt)) in
         let placed = placed_now p a in
-        record { place = length (word_now p a).values - 1; late = omega (arith, placed.durable); known = omega (arith, placed.durable); value = ends.last ∙ ap (λ xs. slice_index xs a) (sym agree) }
+        record {
+          place = length (word_now p a).values - 1;
+          late = omega (arith, placed.durable);
+          known = omega (arith, placed.durable);
+          value = ends.last ∙ ap (λ xs. slice_index xs a) (sym agree);
+        }
 
 pub on_ok_map : {T E : Type 0} (r : Result T E) (P Q : Type 0) → (P → Q) → OnOk r P → OnOk r Q
 on_ok_map (Ok x) P Q gives holds = gives holds

@@ -1,5 +1,18 @@
 -- Changes of words of the inode table.
-use Rattle.std.specs.Prelude.{◌≡◌, ◌≢◌, ◌⊎◌, ℕ, ◌+◌, ◌*◌, ◌/◌, ◌<◌, ◌≤◌, List, length, slice_index_or}
+use Rattle.std.specs.Prelude.{
+  ◌≡◌,
+  ◌≢◌,
+  ◌⊎◌,
+  ℕ,
+  ◌+◌,
+  ◌*◌,
+  ◌/◌,
+  ◌<◌,
+  ◌≤◌,
+  List,
+  length,
+  slice_index_or,
+}
 use Rattle.dn_model.specs.Rolled.{IsJournaled}
 use Rattle.pm_device.specs.Pages.{IsInPage}
 use Rattle.name_journal.specs.declared.change.Change.{Change}
@@ -21,7 +34,8 @@ IsNewAt changes i = (j : ℕ) → j < i → address changes j ≢ address change
 
 -- no two name one word
 abbrev pub AreApart : List Change → Type 0
-AreApart changes = (i j : ℕ) → i < length changes → j < length changes → address changes i ≡ address changes j → i ≡ j
+AreApart changes = (i j : ℕ) → i < length changes → j < length changes → address changes i ≡ address
+    changes j → i ≡ j
 
 -- each names the state, the head or the tail of an inode, and no two name one word
 pub record AreChanges (inodes : ℕ) (changes : List Change) : Type 0 where

@@ -1,5 +1,7 @@
 -- The pairs of the journal.
-use Rattle.std.specs.Prelude.{◌≡◌, ◌⊎◌, ℕ, ◌+◌, ◌*◌, ◌<◌, ◌≤◌, List, length, slice_index}
+use Rattle.std.specs.Prelude.{◌≡◌, ◌≢◌, ◌⊎◌, ℕ, ◌+◌, ◌*◌, ◌<◌, ◌≤◌, List, length, slice_index}
+use Rattle.pm_device.specs.State.{State}
+use Rattle.pm_device.specs.Settled.{SettlesAll}
 use Rattle.pm_device.specs.Words.{IsIn}
 use Rattle.pm_layout.specs.Geometry.{gate_word}
 use Rattle.dn_model.specs.Rolled.{pair_address, pair_value}
@@ -20,8 +22,10 @@ pub record HavePairs (changes : List Change) (c : List ℕ) (k : ℕ) (words : L
 
 -- what the journal says of these changes, where c has the old values
 pub data PairsOf (changes : List Change) (c : List ℕ) (a v : ℕ) : Type 0 where
-  of_address : (i : ℕ) → i < length changes → a ≡ 520 + 2 * i → v ≡ address changes i → PairsOf changes c a v
-  of_old : (i : ℕ) → i < length changes → a ≡ 521 + 2 * i → v ≡ slice_index c (address changes i) → PairsOf changes c a v
+  of_address : (i : ℕ) → i < length changes → a ≡ 520 + 2 * i → v ≡ address changes i
+      → PairsOf changes c a v
+  of_old : (i : ℕ) → i < length changes → a ≡ 521 + 2 * i → v ≡ slice_index c (address changes i)
+      → PairsOf changes c a v
 
 -- the words of their pairs
 abbrev pub IsInPairs : List Change → ℕ → Type 0
@@ -32,7 +36,8 @@ pub record CanRoll (c : List ℕ) : Type 0 where
   pub few : slice_index c gate_word ≤ 4
   pub high : (i : ℕ) → i < slice_index c gate_word → 1024 ≤ pair_address c i
   pub within : (i : ℕ) → i < slice_index c gate_word → pair_address c i < length c
-  pub apart : (i j : ℕ) → i < slice_index c gate_word → j < slice_index c gate_word → pair_address c i ≡ pair_address c j → i ≡ j
+  pub apart : (i j : ℕ) → i < slice_index c gate_word → j < slice_index c gate_word
+      → pair_address c i ≡ pair_address c j → i ≡ j
 
 -- these are the gate's pairs
 pub record AreOpen (c : List ℕ) (pairs : List Change) : Type 0 where
@@ -49,3 +54,7 @@ IsRolledAt pairs a = IsNamed pairs a ⊎ (a ≡ gate_word)
 pub record HasGateOf (w c : List ℕ) : Type 0 where
   pub gate : (slice_index c gate_word ≡ slice_index w gate_word) ⊎ (slice_index c gate_word ≡ 0)
   pub pairs : (a : ℕ) → 520 ≤ a → a < 528 → slice_index c a ≡ slice_index w a
+
+-- where the gate was open, all that is stored and all that this actor had flushed is settled
+abbrev pub SettlesOpen : ℕ → State → State → Type 0
+SettlesOpen who s t = slice_index s.now gate_word ≢ 0 → SettlesAll who s t

@@ -1,6 +1,6 @@
 // The pairs of the journal: each is the address of a word and its old value.
 ghost use Rattle.std.specs.Prelude.{◌≡◌, ◌+◌, ◌*◌, ◌/◌, ◌<◌, ◌≤◌, ◌↔◌, ℕ, List, length, slice_index, IsTrue};
-ghost use Rattle.pm_device.specs.Settled.{StoresOnly, KeepsFlushed, Anyone};
+ghost use Rattle.pm_device.specs.Settled.{StoresOnly, KeepsFlushed, Anyone, FlushesAll};
 ghost use Rattle.pm_device.specs.Reading.{IsReady};
 ghost use Rattle.pm_layout.specs.Geometry.{gate_word};
 ghost use Rattle.dn_model.specs.Rolled.{pair_address, pair_value, IsGate};
@@ -9,6 +9,7 @@ ghost use Rattle.name_journal.specs.Pairs.{ArePairs, HavePairs, PairsOf, IsInPai
 
 use crate::change::{Change, are_changes};
 use pm_device::Pm;
+use pm_device::line::LINE_UNITS;
 use pm_device::run::store_words;
 use pm_layout::Geometry;
 
@@ -19,7 +20,7 @@ pub const GATE: u64 = 512;
 const PAIRS: u64 = 520;
 
 /// The units of the device that `store_pairs` uses at most: one for each of eight words, and one for their line.
-pub const PAIRS_UNITS: u64 = 9;
+pub const PAIRS_UNITS: u64 = LINE_UNITS;
 
 fn pair<D: Pm>(device: &D, i: u64) -> Change
     requires page { 1024 ≤ length (D.state device.now).now }
@@ -80,7 +81,9 @@ pub(crate) fn store_pairs<D: Pm>(device: &mut D, who: u32, changes: &[Change])
     requires room { PAIRS_UNITS ≤ (D.state device.old).spare }
     ensures only { StoresOnly (IsInPairs changes.now) (D.state device.old) (D.state device.new) }
     ensures ready { IsReady who (PairsOf changes.now (D.state device.old).now) (D.state device.new) }
-    ensures keeps { KeepsFlushed Anyone (IsInPairs changes.now) (D.state device.old) (D.state device.new) }
+    ensures keeps { KeepsFlushed Anyone (IsInPairs changes.now) (D.state device.old)
+        (D.state device.new) }
+    ensures flushes { FlushesAll who (D.state device.old) (D.state device.new) }
     ensures spare { (D.state device.old).spare ≤ (D.state device.new).spare + PAIRS_UNITS }
     ensures faults { (D.state device.old).faults ≤ (D.state device.new).faults }
 {

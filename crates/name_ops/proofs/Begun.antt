@@ -22,12 +22,13 @@ use Rattle.law_write.specs.Events.{IsUnused}
 use Rattle.law_write.proofs.Counting.{total-change}
 use Rattle.law_unique.proofs.Listings.{none_listed}
 use Rattle.law_names.specs.Operations.{creation}
+use Rattle.dn_volume.specs.declared.units.TheConstants.{SLOT_UNITS, TURN_UNITS, NAMES_UNITS, FALL_UNITS, ZERO_CHECK_UNITS}
 use Rattle.dn_volume.specs.declared.flight.Flight.{Flight}
 use Rattle.dn_volume.specs.declared.flight.Change.{Change}
 use Rattle.dn_volume.specs.declared.flight.Change.TheVariants.{Data, Names}
 use Rattle.dn_volume.specs.declared.flight.DataChange.{DataChange}
 use Rattle.dn_volume.specs.declared.flight.NameChange.{NameChange}
-use Rattle.dn_volume.specs.declared.outcome.CountChange.{CountChange}
+use Rattle.dn_model.specs.declared.op.CountChange.{CountChange}
 use Rattle.dn_volume.specs.declared.volume.InodeState.{InodeState}
 use Rattle.dn_volume.specs.declared.volume.Parts.{Parts}
 use Rattle.dn_volume.specs.declared.volume.Room.{Room}
@@ -43,7 +44,8 @@ use Rattle.dn_volume.specs.Shares.{IsWaiting, in_queue, is_begun, IsQueued}
 use Rattle.dn_volume.specs.Agrees.{StandsFast, IsVolume}
 use Rattle.dn_volume.specs.Stills.{IsStillBut}
 use Rattle.dn_volume.specs.Rely.{IsWordOf, LeavesRest, StayInHand}
-use Rattle.dn_volume.proofs.Stills.{settled_same, flushed_same, still_same}
+use Rattle.pm_device.proofs.Flushed.{settled_same, flushed_same}
+use Rattle.dn_volume.proofs.Stills.{still_same}
 use Rattle.dn_volume.proofs.OthersStay.{others_stay}
 use Rattle.dn_volume.proofs.Shorts.{one_flight}
 use Rattle.name_ops.proofs.Landed.{contains_or_not}
@@ -398,8 +400,8 @@ module _ (d : Disk) (b b' : Parts) (s t : State) (who : ℕ) (f : Flight) (name 
       let runs' : (owed_to (Some f)).queue ≡ 0 = ap runs_by planned.change_is in
       record {
         owes = record {
-          units = subst (λ x. owed_sum b' (λ r. r.units) + units_to_share x + 20 * one_if b'.reclaiming.raised + 20 * one_if b'.reclaiming.zero_check ≤ b'.owed.units) (sym begins.sharing)
-              (subst (λ x. owed_sum b' (λ r. r.units) + units_to_share b.sharing + 20 * one_if x.raised + 20 * one_if x.zero_check ≤ b'.owed.units) (sym begins.reclaiming) (omega (arith, m_units, o_units, w_units)));
+          units = subst (λ x. owed_sum b' (λ r. r.units) + units_to_share x + (FALL_UNITS * one_if b'.reclaiming.raised + ZERO_CHECK_UNITS * one_if b'.reclaiming.zero_check) ≤ b'.owed.units) (sym begins.sharing)
+              (subst (λ x. owed_sum b' (λ r. r.units) + units_to_share b.sharing + (FALL_UNITS * one_if x.raised + ZERO_CHECK_UNITS * one_if x.zero_check) ≤ b'.owed.units) (sym begins.reclaiming) (omega (arith, m_units, o_units, w_units)));
           trace = subst (λ x. owed_sum b' (λ r. r.trace) + changes_to_share x ≤ b'.owed.trace) (sym begins.sharing) (omega (arith, m_trace, o_trace, w_trace, rows'));
           history = omega (arith, m_history, o_history, w_history);
           queue = omega (arith, m_queue, o_queue, w_queue, runs');
@@ -476,6 +478,7 @@ module _ (d : Disk) (b b' : Parts) (s t : State) (who : ℕ) (f : Flight) (name 
       zero_check = λ slot is. volume.reclaiming.zero_check slot (ap (λ r. r.zero_check) (sym begins.reclaiming) ∙ is);
       raised = stay.1.raised (λ same. let few = who_few in omega (arith, few, same));
     };
+    pointers = volume.pointers;
     room = room;
     trace = subst (λ (g : Geometry). All (λ (x : CountChange). x.slot < slots g) b'.trace.items) (sym begins.geometry)
         (subst (λ xs. All (λ (x : CountChange). x.slot < slots b.geometry) xs.items) (sym begins.trace) volume.trace);

@@ -21,6 +21,7 @@ use Rattle.file_content.specs.Content.{kept}
 use Rattle.file_content.specs.Pages.{AreApart}
 use Rattle.dn_model.specs.Log.{count}
 use Rattle.dn_model.specs.Maps.{size_of, size_after}
+use Rattle.dn_model.specs.Table.{Row}
 use Rattle.dn_model.specs.Disk.{Disk, Inode, Use, Free, IsUsed, rows}
 use Rattle.dn_model.specs.Counts.{total}
 use Rattle.dn_model.specs.Files.{named}
@@ -28,7 +29,7 @@ use Rattle.law_write.specs.Events.{IsUnused}
 use Rattle.law_write.proofs.Counting.{total-same}
 use Rattle.law_names.specs.NameChange.{NameChange as DiskChange, MayChange, IsSpared, FreshNames, name_changes, names_changed}
 use Rattle.law_names.specs.Operations.{MayCreate, creation, with_name}
-use Rattle.law_names.proofs.Changed.{at_root, at_ino, at_other, same_geometry, same_word, Where, where_is, is_root, is_here, elsewhere}
+use Rattle.law_names.proofs.Changed.{at_root, at_ino, at_other, same_geometry, same_rows, same_word, Where, where_is, is_root, is_here, elsewhere}
 use Rattle.law_names.proofs.Links.{names_eq, with_name-here, with_name-other}
 use Rattle.law_names.proofs.Kept.{maps_same, free_kept}
 use Rattle.law_names.proofs.ChangedValid.{changed_valid}
@@ -38,7 +39,7 @@ use Rattle.law_names.proofs.AllWords.{all_or_none_stands}
 use Rattle.name_journal.specs.Changes.{IsTouched, address}
 use Rattle.dn_volume.specs.declared.flight.Flight.{Flight}
 use Rattle.dn_volume.specs.declared.flight.NameChange.{NameChange}
-use Rattle.dn_volume.specs.declared.outcome.CountChange.{CountChange}
+use Rattle.dn_model.specs.declared.op.CountChange.{CountChange}
 use Rattle.dn_volume.specs.declared.volume.InodeState.{InodeState}
 use Rattle.dn_volume.specs.declared.volume.Parts.{Parts}
 use Rattle.dn_volume.specs.Parties.{Flies, SameOthers, by_client, Takes, for_client, blocks_of}
@@ -49,6 +50,7 @@ use Rattle.dn_volume.specs.Reclaims.{mapped_places, dying_units, units_by_use, o
 use Rattle.dn_volume.specs.Agrees.{StandsFast, IsVolume}
 use Rattle.dn_volume.specs.Rely.{KeepsRest, IsWordOf, of_journal, of_inode, LeavesRest, IsFor, StayInHand}
 use Rattle.dn_volume.proofs.Stills.{still_settles}
+use Rattle.dn_volume.proofs.Heads.{none_stale_kept}
 use Rattle.dn_volume.proofs.OthersStay.{others_stay}
 use Rattle.name_ops.specs.Landing.{CommitsAll, ComesToLife, LandsCreate, IsToCreate, CreationsLand}
 use Rattle.name_ops.proofs.Landed.{same_others, not_who, who_few, space, table, has_row, counts, room, queue, holders}
@@ -242,7 +244,7 @@ module _ (d : Disk) (b b' : Parts) (s t : State) (who : ℕ) (f : Flight) (name 
   leaves = record {
     rest = rest;
     only = stores_only-weaken (IsTouched (name_changes d change)) (IsWordOf inodes f.fresh.items d) s t word_of commit.only;
-    others = λ q a other out lt flushed. commit.others.flushed q a other (λ touched. out (word_of a touched)) flushed;
+    others = λ q a other out lt flushed. commit.others.flushed q a other (λ touched. out (word_of a touched)) lt flushed;
   }
 
   for_it : IsFor d b who inodes f.fresh.items
@@ -287,9 +289,13 @@ module _ (d : Disk) (b b' : Parts) (s t : State) (who : ℕ) (f : Flight) (name 
       all_units : total e.geometry.inodes (dying_units e) ≡ total d.geometry.inodes (dying_units d)
       all_units = ap (λ (g : Geometry). total g.inodes (dying_units e)) (same_geometry d change) ∙ total-same (dying_units d) (dying_units e) d.geometry.inodes (λ ino lt. units_same ino)
 
+  pointers_same : (page : ℕ) → e.pointer page ≡ d.pointer page
+  unfolding names_changed
+  pointers_same page = refl
+
   pub landed : IsVolume e b' t
   landed = record {
-    still = still_settles who b b' s t commit.settles same volume.still;
+    still = still_settles who b b' s t (record { words = commit.settles.words; kept = commit.settles.kept; own = commit.settles.own }) same volume.still;
     fast = fast;
     running = lands.lands.lands.running;
     names = names;
@@ -305,6 +311,8 @@ module _ (d : Disk) (b b' : Parts) (s t : State) (who : ℕ) (f : Flight) (name 
     queue = queue d b b' s t who f c change volume changes to.flies to.change_is refl lands.lands (λ ino n' at. let was = lands.each ino n' at in (was.0, was.1, was.2.round));
     sharing = stay.1.sharing (λ same'. let few = who_few d b b' s t who f c change volume changes to.flies to.change_is refl lands.lands in omega (arith, few, same'));
     reclaiming = reclaims;
+    pointers = none_stale_kept d e (same_geometry d change) pointers_same
+        (λ row has. record { row = row; there = subst (λ (rs : List Row). Contains rs row) (sym (same_rows d change)) has; page_is = refl }) volume.pointers;
     room = room d b b' s t who f c change volume changes to.flies to.change_is refl lands.lands commit.spare lands.reclaiming (λ ino n' at. let was = lands.each ino n' at in (was.0, was.1, was.2.map));
     trace = subst (λ (g : Geometry). All (λ (x : CountChange). x.slot < slots g) b'.trace.items) (sym lands.lands.lands.geometry)
         (subst (λ xs. All (λ (x : CountChange). x.slot < slots b.geometry) xs.items) (sym lands.lands.trace) volume.trace);

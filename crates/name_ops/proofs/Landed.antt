@@ -19,6 +19,7 @@ use Rattle.law_names.proofs.Kept.{mappings_same, free_kept, free_only, fresh_tak
 use Rattle.law_names.proofs.ChangedOwn.{live_was}
 use Rattle.file_content.specs.Pages.{AreApart}
 use Rattle.fact_table.specs.Table.{HasRow}
+use Rattle.dn_volume.specs.declared.units.TheConstants.{SLOT_UNITS, TURN_UNITS, NAMES_UNITS, FALL_UNITS, ZERO_CHECK_UNITS}
 use Rattle.dn_volume.specs.declared.background.Sharing.{Sharing}
 use Rattle.dn_volume.specs.declared.flight.Flight.{Flight}
 use Rattle.dn_volume.specs.declared.flight.Change.{Change}
@@ -307,8 +308,8 @@ module _ (d : Disk) (b b' : Parts) (s t : State) (who : ℕ) (f : Flight) (c : N
         let w_releases = was.owes.releases in
         record {
           owes = record {
-            units = subst (λ x. owed_sum b' (λ r. r.units) + units_to_share x + 20 * one_if b'.reclaiming.raised + 20 * one_if b'.reclaiming.zero_check ≤ b'.owed.units) (sym ln.sharing)
-                (subst (λ x. owed_sum b' (λ r. r.units) + units_to_share b.sharing + 20 * one_if x.raised + 20 * one_if x.zero_check ≤ b'.owed.units) (sym dying_same) (omega (arith, s_units, o_units, w_units)));
+            units = subst (λ x. owed_sum b' (λ r. r.units) + units_to_share x + (FALL_UNITS * one_if b'.reclaiming.raised + ZERO_CHECK_UNITS * one_if b'.reclaiming.zero_check) ≤ b'.owed.units) (sym ln.sharing)
+                (subst (λ x. owed_sum b' (λ r. r.units) + units_to_share b.sharing + (FALL_UNITS * one_if x.raised + ZERO_CHECK_UNITS * one_if x.zero_check) ≤ b'.owed.units) (sym dying_same) (omega (arith, s_units, o_units, w_units)));
             trace = subst (λ x. owed_sum b' (λ r. r.trace) + changes_to_share x ≤ b'.owed.trace) (sym ln.sharing) (omega (arith, s_trace, o_trace, w_trace));
             history = omega (arith, s_history, o_history, w_history);
             queue = omega (arith, s_queue, o_queue, w_queue);

@@ -26,11 +26,12 @@ use Rattle.law_names.specs.NameLaws.{StandsStill}
 use Rattle.law_names.proofs.ChangedValid.{root_paged}
 use Rattle.law_names.proofs.Places.{prepared_place, high_not_inode}
 use Rattle.law_names.proofs.Commits.{root_stores, turn_stores, turn_ready, fresh_ready}
+use Rattle.dn_volume.specs.declared.units.TheConstants.{SLOT_UNITS, TURN_UNITS, NAMES_UNITS, FALL_UNITS, ZERO_CHECK_UNITS}
 use Rattle.dn_volume.specs.declared.flight.Flight.{Flight}
 use Rattle.dn_volume.specs.declared.flight.Change.TheVariants.{Data, Names}
 use Rattle.dn_volume.specs.declared.flight.DataChange.{DataChange}
 use Rattle.dn_volume.specs.declared.flight.NameChange.{NameChange}
-use Rattle.dn_volume.specs.declared.outcome.CountChange.{CountChange}
+use Rattle.dn_model.specs.declared.op.CountChange.{CountChange}
 use Rattle.dn_volume.specs.declared.volume.InodeState.{InodeState}
 use Rattle.dn_volume.specs.declared.volume.Parts.{Parts}
 use Rattle.dn_volume.specs.declared.volume.Room.{Room}
@@ -42,7 +43,7 @@ use Rattle.dn_model.specs.History.{needed}
 use Rattle.file_content.specs.Pages.{AreApart}
 use Rattle.dn_volume.specs.PlannedNames.{PlansCreate, PlansNames}
 use Rattle.dn_volume.specs.Flights.{IsFlight, IsNameFlight, GrowsBy}
-use Rattle.dn_volume.specs.Reserve.{HasRoom, owed_sum, owed_to, units_by, prepared_units, runs_by, units_to_share, changes_to_share}
+use Rattle.dn_volume.specs.Reserve.{slots_of, HasRoom, owed_sum, owed_to, units_by, prepared_units, runs_by, units_to_share, changes_to_share}
 use Rattle.dn_volume.specs.Reclaims.{one_if, dying_units}
 use Rattle.dn_volume.specs.Agrees.{StandsFast, IsVolume}
 use Rattle.dn_volume.specs.Rely.{IsWordOf, of_inode, of_log, of_page, LeavesRest, KeepsRest, StayInHand}
@@ -52,13 +53,14 @@ use Rattle.law_write.proofs.Counting.{total-change}
 use Rattle.dn_volume.proofs.Kept.{quiet_accounts}
 use Rattle.dn_volume.proofs.OthersStay.{others_stay}
 use Rattle.dn_volume.proofs.Stills.{still_flushes}
-use Rattle.dn_volume.proofs.Stepped.{others_same, Whose, whose, its_own, another, ops_kept, same_holders, same_space, same_counts, same_queue, who_few}
+use Rattle.dn_volume.proofs.Stepped.{others_same, ops_kept, same_holders, same_space, same_counts, same_queue}
+use Rattle.dn_volume.proofs.Replaced.{few, flies_new, Whose, whose, its_own, another, owed_moved as moved_room}
 use Rattle.name_ops.specs.Preparing.{StoresCreation, with_change, prepared_change, Prepares, IsToPrepareCreate, CreationsPrepare}
 use Rattle.name_ops.proofs.Planned.{flight, plan, same_change, fresh_taken_by, changes, held_is}
 
 module _ (d : Disk) (b b' : Parts) (s u t : State) (who : ℕ) (f : Flight) (name : List ℕ) (c : NameChange) (tail : ℕ) (volume : IsVolume d b s) (agree_u : Agree u.now u.past) (agree_t : Agree t.now t.past)
     (to : IsToPrepareCreate b who f name c)
-    (stores : StoresCreation d who (creation name c.node f.fresh.items) (9 * (length f.slots.items + length f.fresh.items) + 4) s u t)
+    (stores : StoresCreation d who (creation name c.node f.fresh.items) (SLOT_UNITS * slots_of f + TURN_UNITS) s u t)
     (tail_is : tail ≡ tail_at (root_after d (creation name c.node f.fresh.items)).pages (count (root_after d (creation name c.node f.fresh.items))))
     (prepares : Prepares who f c tail b b') where
   abbrev change : DiskChange
@@ -69,9 +71,6 @@ module _ (d : Disk) (b b' : Parts) (s u t : State) (who : ℕ) (f : Flight) (nam
 
   abbrev st : StepsOn who f f' b b'
   st = prepares.steps
-
-  abbrev all14 : length b.flights.items ≡ 14
-  all14 = volume.flights.clients
 
   can : MayChange d change
   can = changes d b s who f name c volume to.flies to.op_is to.change_is
@@ -125,7 +124,7 @@ module _ (d : Disk) (b b' : Parts) (s u t : State) (who : ℕ) (f : Flight) (nam
       record {
         within = λ a v told. let lt = was.within a v told in let same = stores.cleared.only.words in omega (arith, lt, same);
         reads = λ a v told. stores.cleared.only.read a (not_turned a v told) ∙ was.reads a v told;
-        flushed = λ a v told. stores.cleared.keeps who a (not_turned a v told) (was.within a v told) (was.flushed a v told);
+        flushed = λ a v told. stores.cleared.keeps.flushed who a tt (not_turned a v told) (was.within a v told) (was.flushed a v told);
       }
 
   ready : IsReady who (FreshNames d change) t
@@ -204,11 +203,12 @@ module _ (d : Disk) (b b' : Parts) (s u t : State) (who : ℕ) (f : Flight) (nam
     only = stores_only-then (IsWordOf inodes f.fresh.items d) s u t (stores_only-weaken Root (IsWordOf inodes f.fresh.items d) s u of_root stores.prepared.only)
         (stores_only-weaken Turn' (IsWordOf inodes f.fresh.items d) u t of_turn stores.cleared.only);
     others = λ q a other out lt flushed.
-        stores.cleared.keeps q a (λ here. out (of_turn a here)) (let same = stores.prepared.only.words in omega (arith, lt, same)) (stores.prepared.keeps q a (λ said. out (of_root a said)) lt flushed);
+        stores.cleared.keeps.flushed q a tt (λ here. out (of_turn a here)) (let same = stores.prepared.only.words in omega (arith, lt, same))
+        (stores.prepared.keeps.flushed q a tt (λ said. out (of_root a said)) lt flushed);
   }
 
   same : SameOthers who b b'
-  same = others_same who f f' b b' all14 st
+  same = others_same who f f' b b' st
 
   stay : ((q : ℕ) (g : Flight) → q ≢ who → Flies b' q g → IsFlight d q g t) × StayInHand who d b'
   stay = others_stay who inodes f.fresh.items d d b b' s t volume (subst (λ (g : Geometry). StandsFast d g t) st.geometry fast)
@@ -219,25 +219,20 @@ module _ (d : Disk) (b b' : Parts) (s u t : State) (who : ℕ) (f : Flight) (nam
       leaves same (λ other. ap (λ r. r.raised) st.reclaiming)
 
   each : (q : ℕ) (g : Flight) → Flies b' q g → IsFlight d q g t
-  each q g flies = by (whose who f f' b b' all14 st q g flies)
+  each q g flies = by (whose who st.client (Some f) (Some f') b b' st.replaces q g flies)
     where
-      by : Whose who f f' b b' all14 st q g → IsFlight d q g t
-      by (its_own same' is) = subst (λ (n : ℕ). IsFlight d n g t) (sym same') (subst (λ (h : Flight). IsFlight d who h t) (sym is) own_flight)
+      by : Whose who st.client (Some f) (Some f') b b' st.replaces q g → IsFlight d q g t
+      by (its_own same' is) =
+          let one : f' ≡ g = cc is in
+          subst (λ (n : ℕ). IsFlight d n g t) (sym same') (subst (λ (h : Flight). IsFlight d who h t) one own_flight)
       by (another other was) = stay.0 q g other flies
 
   -- room
   owed_moved : (kind : Room → ℕ) → owed_sum b' kind + kind (owed_to (Some f)) ≡ owed_sum b kind + kind (owed_to (Some f'))
-  owed_moved kind =
-      let client = to.flies.client in
-      let few = who_few who f f' b b' all14 st in
-      let moved = total-change (λ k. kind (owed_to (flight_at b.flights.items k))) (λ k. kind (owed_to (flight_at b'.flights.items k))) 14 (who - 1) (omega (arith, client, few))
-      (λ k other. ap (λ r. kind (owed_to r)) (st.others k other)) in
-      let before : kind (owed_to (flight_at b.flights.items (who - 1))) ≡ kind (owed_to (Some f)) = ap (λ r. kind (owed_to r)) to.flies.is in
-      let after : kind (owed_to (flight_at b'.flights.items (who - 1))) ≡ kind (owed_to (Some f')) = ap (λ r. kind (owed_to r)) st.now.is in
-      omega (arith, moved, before, after)
+  owed_moved = moved_room who st.client (Some f) (Some f') b b' st.replaces
 
-  units_was : (owed_to (Some f)).units ≡ (9 * (length f.slots.items + length f.fresh.items) + 4) + 25
-  units_was = ap (units_by f) to.change_is ∙ ap (λ (x : Bool). prepared_units x (length f.slots.items + length f.fresh.items) + 25) to.unprepared
+  units_was : (owed_to (Some f)).units ≡ (SLOT_UNITS * slots_of f + TURN_UNITS) + NAMES_UNITS
+  units_was = ap (units_by f) to.change_is ∙ ap (λ (x : Bool). prepared_units x (slots_of f) + NAMES_UNITS) to.unprepared
 
   queue_was : (owed_to (Some f)).queue ≡ 0
   queue_was = ap runs_by to.change_is
@@ -263,9 +258,9 @@ module _ (d : Disk) (b b' : Parts) (s u t : State) (who : ℕ) (f : Flight) (nam
       let spare = stores.spare in
       record {
         owes = record {
-          units = subst (λ x. owed_sum b' (λ r. r.units) + units_to_share x + 20 * one_if b'.reclaiming.raised + 20 * one_if b'.reclaiming.zero_check ≤ b'.owed.units) (sym st.sharing)
-              (subst (λ x. owed_sum b' (λ r. r.units) + units_to_share b.sharing + 20 * one_if x.raised + 20 * one_if x.zero_check ≤ b'.owed.units) (sym st.reclaiming) (omega (arith, m_units, o_units, w_units, units_was)));
-          trace = subst (λ x. owed_sum b' (λ r. r.trace) + changes_to_share x ≤ b'.owed.trace) (sym st.sharing) (omega (arith, m_trace, o_trace, w_trace));
+          units = subst (λ x. owed_sum b' (λ r. r.units) + units_to_share x + (FALL_UNITS * one_if b'.reclaiming.raised + ZERO_CHECK_UNITS * one_if b'.reclaiming.zero_check) ≤ b'.owed.units) (sym st.replaces.sharing)
+              (subst (λ x. owed_sum b' (λ r. r.units) + units_to_share b.sharing + (FALL_UNITS * one_if x.raised + ZERO_CHECK_UNITS * one_if x.zero_check) ≤ b'.owed.units) (sym st.reclaiming) (omega (arith, m_units, o_units, w_units, units_was)));
+          trace = subst (λ x. owed_sum b' (λ r. r.trace) + changes_to_share x ≤ b'.owed.trace) (sym st.replaces.sharing) (omega (arith, m_trace, o_trace, w_trace));
           history = omega (arith, m_history, o_history, w_history);
           queue = omega (arith, m_queue, o_queue, w_queue, queue_was);
           releases = subst (λ x. owed_sum b' (λ r. r.releases) + one_if x.raised ≤ b'.owed.releases) (sym st.reclaiming) (omega (arith, m_releases, o_releases, w_releases));
@@ -276,14 +271,14 @@ module _ (d : Disk) (b b' : Parts) (s u t : State) (who : ℕ) (f : Flight) (nam
         queue = subst (λ x. b'.owed.queue ≤ x.room) (sym st.queue) (let there = was.queue in omega (arith, there, o_queue));
         releases = subst (λ x. deque_len x.releases + b'.owed.releases ≤ deque_capacity x.releases) (sym st.reclaiming) (let there = was.releases in omega (arith, there, o_releases));
         names = subst (λ x. b'.owed.history ≤ x.room) (sym st.names) (let there = was.names in omega (arith, there, o_history));
-        places = λ q g x n flies is at. places_on q g x n (whose who f f' b b' all14 st q g flies) is (subst (λ xs. slice_get xs.items g.ino ≡ Some n) st.inodes at);
+        places = λ q g x n flies is at. places_on q g x n (whose who st.client (Some f) (Some f') b b' st.replaces q g flies) is (subst (λ xs. slice_get xs.items g.ino ≡ Some n) st.inodes at);
       }
     where
       no_data : (x : DataChange) → Names (prepared_change c tail) ≡ Data x → ⊥
       no_data x is = cc is
 
-      places_on : (q : ℕ) (g : Flight) (x : DataChange) (n : InodeState) → Whose who f f' b b' all14 st q g → g.change ≡ Data x → slice_get b.inodes.items g.ino ≡ Some n → length x.blocks.items ≤ n.map.room
-      places_on q g x n (its_own same' is) data_is at = absurd (no_data x (sym (ap (λ (h : Flight). h.change) is) ∙ data_is))
+      places_on : (q : ℕ) (g : Flight) (x : DataChange) (n : InodeState) → Whose who st.client (Some f) (Some f') b b' st.replaces q g → g.change ≡ Data x → slice_get b.inodes.items g.ino ≡ Some n → length x.blocks.items ≤ n.map.room
+      places_on q g x n (its_own same' is) data_is at = (let one : f' ≡ g = cc is in absurd (no_data x (ap (λ (h : Flight). h.change) one ∙ data_is)))
       places_on q g x n (another other was) data_is at = volume.room.places q g x n was data_is at
 
   pub prepared_volume : IsVolume d b' t
@@ -292,22 +287,23 @@ module _ (d : Disk) (b b' : Parts) (s u t : State) (who : ℕ) (f : Flight) (nam
     running = st.running;
     names = subst (λ x. AreNamesOf d x.map) (sym st.names) volume.names;
     inodes = subst (λ x. AreInodesOf d x.items) (sym st.inodes) volume.inodes;
-    holders = same_holders who f f' b b' all14 st d volume.holders;
-    space = same_space who f f' b b' all14 st d volume.space;
+    holders = same_holders who f f' b b' st d volume.holders;
+    space = same_space who f f' b b' st d volume.space;
     table = subst (AreSlotsOf d) (sym st.fact) volume.table;
-    counts = same_counts who f f' b b' all14 st (record { raised = refl }) (let same' = owed_moved (λ r. r.releases) in omega (arith, same')) d volume.counts;
-    flights = record { clients = st.clients ∙ all14; each = each };
-    queue = same_queue who f f' b b' all14 st d volume.queue;
-    sharing = stay.1.sharing (λ same'. let few = who_few who f f' b b' all14 st in omega (arith, few, same'));
+    counts = same_counts who f f' b b' st (record { raised = refl }) (let same' = owed_moved (λ r. r.releases) in omega (arith, same')) d volume.counts;
+    flights = record { clients = st.replaces.clients ∙ volume.flights.clients; each = each };
+    queue = same_queue who f f' b b' st d volume.queue;
+    sharing = stay.1.sharing (λ same'. let small = few who st.client (Some f) (Some f') b b' st.replaces in omega (arith, small, same'));
     reclaiming = record {
       waiting = subst (λ r. r.waiting + one_if r.raised ≡ one_if r.zero_check + 2 * length r.releases.items + total d.geometry.inodes (dying_units d)) (sym st.reclaiming) volume.reclaiming.waiting;
       zero_check = λ slot is. volume.reclaiming.zero_check slot (ap (λ r. r.zero_check) (sym st.reclaiming) ∙ is);
-      raised = stay.1.raised (λ same'. let few = who_few who f f' b b' all14 st in omega (arith, few, same'));
+      raised = stay.1.raised (λ same'. let small = few who st.client (Some f) (Some f') b b' st.replaces in omega (arith, small, same'));
     };
+    pointers = volume.pointers;
     room = room;
     trace = subst (λ (g : Geometry). All (λ (x : CountChange). x.slot < slots g) b'.trace.items) (sym st.geometry)
         (subst (λ xs. All (λ (x : CountChange). x.slot < slots b.geometry) xs.items) (sym prepares.trace) volume.trace);
-    still = still_flushes who f' b b' s t stores.flushes st.now same volume.still;
+    still = still_flushes who f' b b' s t stores.flushes (flies_new who st.client (Some f) (Some f') b b' st.replaces f' refl) same volume.still;
   }
 
   pub moved : (print : Print) → IsVolume d b' t × LeavesOnly s t (IsBetween print d d)
@@ -317,7 +313,7 @@ module _ (d : Disk) (b b' : Parts) (s u t : State) (who : ℕ) (f : Flight) (nam
       between x stands = record { disk = d; stands_for = stands; own = λ is. is; same = inl (λ other. refl) }
 
   pub ops : KeepsOps b b'
-  ops = ops_kept who f f' b b' all14 st
+  ops = ops_kept who f f' b b' st
 
   pub others : SameOthers who b b'
   others = same

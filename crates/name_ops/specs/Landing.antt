@@ -2,7 +2,7 @@
 use Rattle.std.specs.Prelude.{◌≡◌, ◌≢◌, ◌⊎◌, ◌↔◌, ℕ, ◌+◌, ◌-◌, ◌≤◌, true, false, List, [], ◌∷◌, ◌++◌, length, slice_get, Some, None, Contains, vec_len, vec_capacity}
 use Rattle.std.specs.FinMap.{get}
 use Rattle.pm_device.specs.State.{State, Agree}
-use Rattle.pm_device.specs.Settled.{LeavesOnly, StoresOnly, KeepsFlushed, Others}
+use Rattle.pm_device.specs.Settled.{LeavesOnly, StoresOnly, KeepsFlushed, Others, SettlesAll}
 use Rattle.page_alloc.specs.Free.{IsInOrder}
 use Rattle.name_journal.specs.declared.change.Change.{Change}
 use Rattle.name_journal.specs.Changes.{IsTouched}
@@ -25,7 +25,6 @@ use Rattle.dn_volume.specs.declared.volume.Parts.{Parts}
 use Rattle.dn_volume.specs.Parties.{Flies, flight_at}
 use Rattle.dn_volume.specs.Reserve.{owed_to}
 use Rattle.dn_volume.specs.declared.volume.Volume.{Volume}
-use Rattle.dn_volume.specs.StillLaws.{SettlesAll}
 use Rattle.dn_volume.specs.Agrees.{IsVolume}
 use Rattle.dn_volume.specs.Events.{Counts, Answers}
 

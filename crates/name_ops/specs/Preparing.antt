@@ -1,6 +1,7 @@
 -- What the first advance of an operation on names stores, and what it does to what is kept in memory.
 use Rattle.std.specs.Prelude.{◌≡◌, ℕ, ◌+◌, ◌*◌, ◌≤◌, true, false, List, [], ◌∷◌, length}
 use Rattle.pm_device.specs.State.{State, Agree}
+use Rattle.pm_device.specs.Settled.{FlushesAll}
 use Rattle.pm_device.specs.Lines.{StoresRun}
 use Rattle.pm_layout.specs.Geometry.{inode_word}
 use Rattle.inode_log.specs.Prepare.{IsPreparedBy}
@@ -10,6 +11,8 @@ use Rattle.dn_model.specs.Own.{Print}
 use Rattle.dn_model.specs.declared.op.Op.TheVariants.{Create}
 use Rattle.law_names.specs.NameChange.{NameChange as DiskChange, root_after}
 use Rattle.law_names.specs.Operations.{creation}
+use Rattle.dn_volume.specs.declared.units.TheConstants.{SLOT_UNITS, TURN_UNITS}
+use Rattle.dn_volume.specs.Reserve.{slots_of}
 use Rattle.dn_volume.specs.declared.flight.Flight.{Flight}
 use Rattle.dn_volume.specs.declared.flight.Change.{Change}
 use Rattle.dn_volume.specs.declared.flight.Change.TheVariants.{Names}
@@ -17,7 +20,6 @@ use Rattle.dn_volume.specs.declared.flight.NameChange.{NameChange}
 use Rattle.dn_volume.specs.declared.volume.Parts.{Parts}
 use Rattle.dn_volume.specs.declared.volume.Volume.{Volume}
 use Rattle.dn_volume.specs.Parties.{Flies}
-use Rattle.dn_volume.specs.StillLaws.{FlushesAll}
 use Rattle.dn_volume.specs.Steps.{StepsOn}
 use Rattle.dn_volume.specs.Agrees.{IsVolume}
 use Rattle.dn_volume.specs.Events.{Counts, MovesOn}
@@ -41,7 +43,7 @@ pub record Prepares (who : ℕ) (f : Flight) (c : NameChange) (tail : ℕ) (b b'
   pub steps : StepsOn who f (with_change f (Names (prepared_change c tail))) b b'
   pub trace : b'.trace ≡ b.trace
   pub history : b'.history ≡ b.history
-  pub owed_units : b.owed.units ≡ b'.owed.units + (9 * (length f.slots.items + length f.fresh.items) + 4)
+  pub owed_units : b.owed.units ≡ b'.owed.units + (SLOT_UNITS * slots_of f + TURN_UNITS)
   pub owed_trace : b'.owed.trace ≡ b.owed.trace
   pub owed_history : b'.owed.history ≡ b.owed.history
   pub owed_queue : b'.owed.queue ≡ b.owed.queue
@@ -57,6 +59,6 @@ pub record IsToPrepareCreate (b : Parts) (who : ℕ) (f : Flight) (name : List �
 abbrev pub CreationsPrepare : (D F : Type 0) → (D → State) → Type 0
 CreationsPrepare D F state = (print : Print) (v v' : Volume D F) (u : State) (d : Disk) (who : ℕ) (f : Flight) (name : List ℕ) (c : NameChange) (tail : ℕ)
     → IsVolume d v.parts (state v.device) → Agree u.now u.past → Agree (state v'.device).now (state v'.device).past → IsToPrepareCreate v.parts who f name c
-    → StoresCreation d who (creation name c.node f.fresh.items) (9 * (length f.slots.items + length f.fresh.items) + 4) (state v.device) u (state v'.device)
+    → StoresCreation d who (creation name c.node f.fresh.items) (SLOT_UNITS * slots_of f + TURN_UNITS) (state v.device) u (state v'.device)
     → tail ≡ tail_at (root_after d (creation name c.node f.fresh.items)).pages (count (root_after d (creation name c.node f.fresh.items)))
     → Prepares who f c tail v.parts v'.parts → Counts v.parts v'.parts → MovesOn state print who v v' d

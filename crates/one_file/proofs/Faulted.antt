@@ -6,9 +6,9 @@ use Rattle.log_entry.specs.Name.{IsLegal}
 use Rattle.dn_model.specs.Disk.{Disk}
 use Rattle.dn_model.specs.declared.op.Op.TheVariants.{Write}
 use Rattle.dn_model.specs.declared.op.Reply.{Reply}
-use Rattle.file_write.specs.Held.{IsHeld, LacksPages, LeavesWrite}
-use Rattle.file_write.specs.declared.write.WriteFault.{WriteFault}
-use Rattle.file_write.specs.declared.write.WriteFault.TheVariants as short
+use Rattle.one_file.specs.Written.{IsHeld, LacksPages, LeavesWrite}
+use Rattle.one_file.specs.declared.write.WriteFault.{WriteFault}
+use Rattle.one_file.specs.declared.write.WriteFault.TheVariants as short
 use Rattle.one_file.specs.declared.answer.RunFault.{RunFault}
 use Rattle.one_file.specs.declared.answer.RunFault.TheVariants as run
 use Rattle.one_file.specs.declared.file.OneFile.{OneFile}

@@ -1,3 +1,7 @@
+pub mod Log
+pub mod Stored
+pub mod Ready
+pub mod Finished
 pub mod HeldFiles
 pub mod Refusals
 pub mod Counted

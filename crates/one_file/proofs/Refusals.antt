@@ -29,16 +29,16 @@ not_some (Some x) e some = cc
 module _ (d : Disk) (op : Op) where
   -- refusals leave the files
   pub bad_step : (All IsLegal (names_of op) → ⊥) → IsStep d op (Refused BadName) d
-  bad_step bad = record { step = refused (λ g. bad g.legal) (bad_name bad refl) (λ name. refl); short = λ need free e. cc }
+  bad_step bad = record { step = refused (λ g. bad g.legal) (bad_name bad refl) (λ name. refl); short = λ need free e. cc; all_live = λ e. cc }
 
   pub missed_step : All IsLegal (names_of op) → (Finds (files d) op → ⊥) → miss op ≡ NotFound → IsStep d op (Refused NotFound) d
-  missed_step legal none is = record { step = refused (λ g. none g.finds) (missed legal none (ap Refused (sym is))) (λ name. refl); short = λ need free e. cc }
+  missed_step legal none is = record { step = refused (λ g. none g.finds) (missed legal none (ap Refused (sym is))) (λ name. refl); short = λ need free e. cc; all_live = λ e. cc }
 
   pub long_step : All IsLegal (names_of op) → Finds (files d) op → (IsShort op → ⊥) → IsStep d op (Refused TooLong) d
-  long_step legal finds long = record { step = refused (λ g. long g.short) (too_long legal finds long refl) (λ name. refl); short = λ need free e. cc }
+  long_step legal finds long = record { step = refused (λ g. long g.short) (too_long legal finds long refl) (λ name. refl); short = λ need free e. cc; all_live = λ e. cc }
 
   pub big_step : All IsLegal (names_of op) → Finds (files d) op → IsShort op → (Fits op → ⊥) → IsStep d op (Refused TooBig) d
-  big_step legal finds short big = record { step = refused (λ g. big g.fits) (too_big legal finds short big refl) (λ name. refl); short = λ need free e. cc }
+  big_step legal finds short big = record { step = refused (λ g. big g.fits) (too_big legal finds short big refl) (λ name. refl); short = λ need free e. cc; all_live = λ e. cc }
 
 module _ (d : Disk) (name text : List ℕ) where
   -- a read or a write of this name is refused so
@@ -76,6 +76,7 @@ module _ (d : Disk) (name text : List ℕ) where
       step = done (record { legal = legal_one name is.0; finds = found_some; short = few; fits = tt })
           (ap Bytes (found_is ∙ ap (λ (f : Option (List ℕ)). take count (drop at (bytes_or_none f))) (sym is.1))) (λ other. refl);
       short = λ need free e. cc;
+      all_live = λ e. cc;
     }
 
     pub write_too_big : (at : ℕ) (new : List ℕ) → 1 ≤ length new → length new ≤ 65536 → 16777216 < at + length new → IsStep d (Write name at new) (Refused TooBig) d
@@ -87,6 +88,7 @@ module _ (d : Disk) (name text : List ℕ) where
     write_nothing at new none = subst (λ (text : List ℕ). IsStep d (Write name at text) Done d) (sym none) (record {
       step = done (record { legal = legal_one name is.0; finds = found_some; short = omega arith; fits = inl refl }) refl (λ other. refl);
       short = λ need free e. cc;
+      all_live = λ e. cc;
     })
 
     -- a write that its place doesn't allow

@@ -13,7 +13,7 @@ use Rattle.dn_model.specs.History.{done, no_space, touched, extra, inode_of}
 use Rattle.dn_model.specs.declared.op.Op.TheVariants.{Write}
 use Rattle.dn_model.specs.declared.op.Reply.TheVariants.{Done, Refused}
 use Rattle.dn_model.specs.declared.op.Refusal.TheVariants.{NoSpace}
-use Rattle.file_write.specs.Held.{IsHeld, HasWritten, IsOldOrWritten, is_old, is_new, LeavesWrite, LacksPages}
+use Rattle.one_file.specs.Written.{IsHeld, HasWritten, IsOldOrWritten, is_old, is_new, LeavesWrite, LacksPages}
 use Rattle.dn_model.specs.OnCourse.{IsImageOf, LeavesOneOf}
 use Rattle.one_file.specs.declared.file.OneFile.{OneFile}
 use Rattle.one_file.specs.Held.{IsDiskOf}
@@ -53,7 +53,7 @@ module _ {D : Type 0} (state : D → State) (v : OneFile D) (d : Disk) (is : IsD
         root = ap (λ (i : Inode). i.log.items) (w.written.others 0 (omega arith)) ∙ is.root ∙ ap (λ (n : List ℕ). Add 1 n ∷ []) (sym same_name);
       };
       answered = λ print own. record {
-        step = record { step = done granted refl (same-files print own); short = λ need free e. cc };
+        step = record { step = done granted refl (same-files print own); short = λ need free e. cc; all_live = λ e. cc };
         own = w.written.own print own;
         images = images-of print own (files w.after) (same-files print own) (state v.device) (state v'.device) w.images;
       };
@@ -76,4 +76,5 @@ module _ {D : Type 0} (state : D → State) (v : OneFile D) (d : Disk) (is : IsD
       lacks = let same : need ≡ need' = cc in let same' : free ≡ free' = cc in omega (arith, same, same', lacks.lacks);
       count = let same' : free ≡ free' = cc in free_counted state v d is lacks.in_order free' (sym same' ∙ lacks.count_is);
     };
+    all_live = λ e. cc;
   }

@@ -13,8 +13,8 @@ use Rattle.dn_model.specs.declared.op.Reply.TheVariants.{Refused}
 use Rattle.dn_model.specs.declared.op.Refusal.{Refusal}
 use Rattle.dn_model.specs.declared.op.Refusal.TheVariants.{BadName, NotFound, Exists, TooLong, TooBig, NoInode, NoSpace}
 use Rattle.dn_model.specs.OnCourse.{LeavesOneOf}
-use Rattle.file_write.specs.declared.write.WriteFault.{WriteFault}
-use Rattle.file_write.specs.declared.write.WriteFault.TheVariants as short
+use Rattle.one_file.specs.declared.write.WriteFault.{WriteFault}
+use Rattle.one_file.specs.declared.write.WriteFault.TheVariants as short
 use Rattle.one_file.specs.declared.answer.RunFault.{RunFault}
 use Rattle.one_file.specs.declared.answer.RunFault.TheVariants as run
 use Rattle.one_file.specs.declared.file.OneFile.{OneFile}

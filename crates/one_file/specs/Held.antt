@@ -3,7 +3,7 @@ use Rattle.std.specs.Prelude.{◌≡◌, [], ◌∷◌}
 use Rattle.pm_device.specs.State.{State}
 use Rattle.log_entry.specs.declared.item.LogItem.TheVariants.{Add}
 use Rattle.dn_model.specs.Disk.{Disk}
-use Rattle.file_write.specs.Held.{IsHeld}
+use Rattle.one_file.specs.Written.{IsHeld}
 use Rattle.one_file.specs.declared.file.OneFile.{OneFile}
 
 -- The device stands for this disk, which has one file, and what is kept in memory is the disk's.

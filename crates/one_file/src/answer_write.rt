@@ -9,10 +9,10 @@ ghost use Rattle.one_file.specs.Answer.{Answers, IsStopped, FaultTells};
 use crate::answer::{CLIENT, FILE, RunFault};
 use crate::file::OneFile;
 use crate::refuse::refusal_of_name;
+use crate::store::WRITE_UNITS;
+use crate::write::{WriteFault, write_file};
 use dn_model::op::{ByteText, Op, Refusal, Reply};
 use file_content::MOST_BYTES;
-use file_write::store::WRITE_UNITS;
-use file_write::write::{WriteFault, write_file};
 use pm_device::Pm;
 use std::alloc::Global;
 

@@ -10,6 +10,8 @@ mod answer_write;
 pub mod file;
 mod refuse;
 pub mod session;
+pub mod store;
+pub mod write;
 
 pub use file::OneFile;
 pub use session::{free_pages, run};

@@ -1,5 +1,30 @@
 -- The pages of a file's log, from the slots of its items: each item takes one slot.
-use Rattle.std.proofs.Common.{◌≡◌, ℕ, zero, suc, ◌+◌, ◌*◌, ◌/◌, ◌%◌, ◌<◌, Bool, true, false, List, [], ◌∷◌, length, map, get_or, refl, sym, ◌∙◌, ap, subst, arith}
+use Rattle.std.proofs.Common.{
+  ◌≡◌,
+  ℕ,
+  zero,
+  suc,
+  ◌+◌,
+  ◌*◌,
+  ◌/◌,
+  ◌%◌,
+  ◌<◌,
+  Bool,
+  true,
+  false,
+  List,
+  [],
+  ◌∷◌,
+  length,
+  map,
+  get_or,
+  refl,
+  sym,
+  ◌∙◌,
+  ap,
+  subst,
+  arith,
+}
 use Rattle.std.specs.Prelude.{slice_index, if◌then◌else◌, ◌==◌, Contains, Some, None, All}
 use Rattle.std.proofs.lemmas.Bool.Decides.{nat_tests}
 use Rattle.std.proofs.lemmas.List.{get_or_default}
@@ -34,7 +59,8 @@ nil_not_cons : (p : Placed) (ps : List Placed) → [] ≡ p ∷ ps → ⊥
 nil_not_cons p ps e = cc
 
 -- the page of each item's slot
-slots_are : (g : Geometry) (pages : List ℕ) (k : ℕ) (xs : List LogItem) (ps : List PlacedItem) → All (MayStand g 1) xs → map seen ps ≡ placed_from pages k xs
+slots_are : (g : Geometry) (pages : List ℕ) (k : ℕ) (xs : List LogItem) (ps : List PlacedItem) → All (MayStand g 1) xs
+    → map seen ps ≡ placed_from pages k xs
     → (j : ℕ) → j < length ps → begun_by ps j ≡ page_of_slot (slot_name pages (k + j))
 slots_are g pages k xs [] may e j lt = absurd (omega arith)
 slots_are g pages k [] (p ∷ ps) may e j lt = absurd (cons_not_nil (seen p) (map seen ps) e)
@@ -44,7 +70,8 @@ slots_are g pages k (x ∷ xs) (p ∷ ps) may e zero lt =
     ap page_of_slot same ∙ ap (λ (i : ℕ). page_of_slot (slot_name pages i)) none
 slots_are g pages k (x ∷ xs) (p ∷ ps) may e (suc j) lt =
     let one : k + length (spelling x) + j ≡ k + suc j = omega (arith, one_slot g x (All-head (MayStand g 1) x xs may)) in
-    slots_are g pages (k + length (spelling x)) xs ps (All-tail (MayStand g 1) x xs may) (ap rest e) j (omega arith) ∙ ap (λ (i : ℕ). page_of_slot (slot_name pages i)) one
+    slots_are g pages (k + length (spelling x)) xs ps (All-tail (MayStand g 1) x xs may) (ap rest e) j (omega arith) ∙ ap
+    (λ (i : ℕ). page_of_slot (slot_name pages i)) one
 
 begun_below : (ps : List PlacedItem) (j page : ℕ) → begun_by ps j ≡ Some page → j < length ps
 begun_below [] j page e = cc
@@ -61,7 +88,13 @@ placed_long pages k (x ∷ xs) = omega (arith, placed_long pages (k + length (sp
 
 spelled_long : (g : Geometry) (xs : List LogItem) → All (MayStand g 1) xs → length (spelled xs) ≡ length xs
 spelled_long g [] may = refl
-spelled_long g (x ∷ xs) may = omega (arith, length-spelled-cons x xs, one_slot g x (All-head (MayStand g 1) x xs may), spelled_long g xs (All-tail (MayStand g 1) x xs may))
+spelled_long g (x ∷ xs) may = omega (
+  arith,
+  length-spelled-cons x xs,
+  one_slot g x (All-head (MayStand g 1) x xs may),
+  spelled_long g xs
+      (All-tail (MayStand g 1) x xs may),
+)
 
 zero_of : (n : ℕ) → (n == 0) ≡ true → n ≡ 0
 zero_of n t = grind (arith, nat_tests)
@@ -94,7 +127,8 @@ module _ (g : Geometry) (log : Log) (valid : IsLog g 1 log) (items : List Placed
   count_is = spelled_long g log.items valid.standing ∙ sym (placed_long log.pages 0 log.items) ∙ ap length (sym are) ∙ seen_long items
 
   begun_is : (j : ℕ) → j < length items → begun_by items j ≡ page_of_slot (slot_name log.pages j)
-  begun_is j lt = let none : 0 + j ≡ j = omega arith in slots_are g log.pages 0 log.items items valid.standing are j lt ∙ ap (λ (i : ℕ). page_of_slot (slot_name log.pages i)) none
+  begun_is j lt = let none : 0 + j ≡ j = omega arith in slots_are g log.pages 0 log.items items valid.standing are j lt ∙ ap
+      (λ (i : ℕ). page_of_slot (slot_name log.pages i)) none
 
   -- an item that begins a page is the first of 63
   begun_page : (j page : ℕ) → begun_by items j ≡ Some page → (j % 63 ≡ 0) × (page ≡ slice_index log.pages (j / 63))

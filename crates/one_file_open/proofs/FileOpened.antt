@@ -55,7 +55,8 @@ rest (p ∷ ps) = ps
 cons_not_nil : (p : Placed) (ps : List Placed) → p ∷ ps ≡ [] → ⊥
 cons_not_nil p ps e = cc
 
-may_index : (g : Geometry) → IsAccepted g → (pages : List ℕ) (k : ℕ) (xs : List LogItem) (ps : List PlacedItem) → All IsSpelled xs → All (MayStand g 1) xs → map seen ps ≡ placed_from pages k xs → All MayBeIndexed ps
+may_index : (g : Geometry) → IsAccepted g → (pages : List ℕ) (k : ℕ) (xs : List LogItem) (ps : List PlacedItem) → All IsSpelled xs
+    → All (MayStand g 1) xs → map seen ps ≡ placed_from pages k xs → All MayBeIndexed ps
 may_index g accepted pages k xs [] spelled may e = All-nil MayBeIndexed
 may_index g accepted pages k [] (p ∷ ps) spelled may e = absurd (cons_not_nil (seen p) (map seen ps) e)
 may_index g accepted pages k (x ∷ xs) (p ∷ ps) spelled may e =
@@ -73,16 +74,25 @@ module _ (g : Geometry) (w : List ℕ) (items : List PlacedItem) (has : HasLog g
     pub scan : IsScanOf g items index.map.map has.log
     scan = record { valid = has.valid; items_are = has.items_are; places = (is has.log has.items_are).places }
 
-    pub file_in : (free : FreePages) → ((log : Log) → IsScanOf g items index.map.map log → IsFreeBy g log free) → IsFileIn w g (record { size = index.size; map = index.map; free = free })
+    pub file_in : (free : FreePages) → ((log : Log) → IsScanOf g items index.map.map log → IsFreeBy g log free)
+        → IsFileIn w g (record { size = index.size; map = index.map; free = free })
     file_in free by = record { log = has.log; reads = has.reads; valid = has.valid; index = is has.log has.items_are; free_by = by has.log scan }
 
     pub no_file : ((log : Log) → IsScanOf g items index.map.map log → IsUnshared g log → HasTwoLeft g log → ⊥) → HasNoFile w g
     no_file none log reads valid unshared two =
-        let same : log ≡ has.log = one_log g w 1 log has.log (record { reads = reads; valid = valid }) (record { reads = has.reads; valid = has.valid }) in
+        let same : log ≡ has.log = one_log g w 1 log has.log (record { reads = reads; valid = valid })
+        (record { reads = has.reads; valid = has.valid }) in
         none has.log scan (subst (IsUnshared g) same unshared) (subst (HasTwoLeft g) same two)
 
 shape_of : (w : List ℕ) (d : Disk) (name : List ℕ) → IsOneFile w d name → HasOneFile d name
-shape_of w d name one = record { root_log = one.root_log; root = one.root; file = one.file; others = one.others; no_rows = one.no_rows; no_pointers = one.no_pointers }
+shape_of w d name one = record {
+  root_log = one.root_log;
+  root = one.root;
+  file = one.file;
+  others = one.others;
+  no_rows = one.no_rows;
+  no_pointers = one.no_pointers;
+}
 
 module _ (w : List ℕ) (d : Disk) (name : List ℕ) (one : IsOneFile w d name) where
   reads_of : Reads (DiskSays d) w
@@ -103,15 +113,18 @@ module _ (w : List ℕ) (d : Disk) (name : List ℕ) (one : IsOneFile w d name) 
   not_one_file g has none = has_file (subst (HasNoFile w) (geometry_one w g d.geometry has headed_of.geometry) none)
 
 -- the page of each mapping that is kept
-kept_inside : (n : ℕ) (o : Option DiskMapping) (k : Option Mapping) → k ≡ option_map kept o → ((m : DiskMapping) → o ≡ Some m → m.block < n) → IfSome k (λ m. m.block < n)
+kept_inside : (n : ℕ) (o : Option DiskMapping) (k : Option Mapping) → k ≡ option_map kept o → ((m : DiskMapping) → o ≡ Some m → m.block < n)
+    → IfSome k (λ m. m.block < n)
 kept_inside n o k e inside = subst (λ (x : Option Mapping). IfSome x (λ m. m.block < n)) (sym e) (by_mapping o inside)
   where
     by_mapping : (x : Option DiskMapping) → ((m : DiskMapping) → x ≡ Some m → m.block < n) → IfSome (option_map kept x) (λ m. m.block < n)
     by_mapping None all = tt
     by_mapping (Some m) all = all m refl
 
-module _ {D : Type 0} (state : D → State) (before : State) (v : Opened D) (image : Image) (is : IsImageIn before.now image) (still : Still before) (same : state v.device ≡ before)
-    (geometry : v.geometry ≡ image.geometry) (named : v.name ≡ image.name) (size : v.size ≡ image.size) (mapped : v.map ≡ image.map) (free : v.free ≡ image.free) where
+module _ {D : Type 0} (state : D → State) (before : State) (v : Opened D) (image : Image) (is : IsImageIn before.now image) (still : Still before)
+    (same : state v.device ≡ before)
+    (geometry : v.geometry ≡ image.geometry) (named : v.name ≡ image.name) (size : v.size ≡ image.size) (mapped : v.map ≡ image.map)
+    (free : v.free ≡ image.free) where
   abbrev w : List ℕ
   w = before.now
 
@@ -131,7 +144,8 @@ module _ {D : Type 0} (state : D → State) (before : State) (v : Opened D) (ima
   accepted = is.head.geometry.accepted
 
   valid : IsValid disk
-  valid = valid_if disk image.name shape accepted is.file.valid is.head.name_is.legal is.head.name_is.short is.file.free_by.unshared is.file.free_by.two
+  valid = valid_if disk image.name shape accepted is.file.valid is.head.name_is.legal is.head.name_is.short is.file.free_by.unshared
+      is.file.free_by.two
 
   reads : Reads (DiskSays disk) w
   reads = reads_all w g image.name log is.head is.file.reads
@@ -171,7 +185,10 @@ module _ {D : Type 0} (state : D → State) (before : State) (v : Opened D) (ima
   }
 
   blocks_in : AreBlocksIn g image.map.map
-  blocks_in = record { inside = λ idx. kept_inside g.pages (mapping log idx) (get image.map.map idx) (places idx) (λ m e. (block_in_data g log is.file.valid idx m e).high) }
+  blocks_in = record {
+    inside = λ idx. kept_inside g.pages (mapping log idx) (get image.map.map idx) (places idx)
+        (λ m e. (block_in_data g log is.file.valid idx m e).high);
+  }
 
   free_is : (page : ℕ) → Contains image.free.free page ↔ IsFree disk page
   free_is page = (

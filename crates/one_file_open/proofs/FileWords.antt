@@ -9,10 +9,41 @@ use Rattle.log_entry.specs.Spelling.{spelling}
 use Rattle.log_entry.specs.declared.item.LogItem.TheVariants.{Add}
 use Rattle.dn_model.specs.Log.{Log, LogSays, at_tail, at_head, at_footer, at_slot, count, tail_at, spelled_word}
 use Rattle.dn_model.specs.Table.{Row, ChainSays, at_direct_page, at_direct_next, at_row}
-use Rattle.dn_model.specs.Disk.{Disk, Free, IsUsed, state_number, DiskSays, of_head, of_inodes, of_logs, of_chains, of_pointers, of_pages, HeadSays, at_magic, at_version, at_pages, at_inodes, at_gate, InodesSay, at_state, at_cut}
+use Rattle.dn_model.specs.Disk.{
+  Disk,
+  Free,
+  IsUsed,
+  state_number,
+  DiskSays,
+  of_head,
+  of_inodes,
+  of_logs,
+  of_chains,
+  of_pointers,
+  of_pages,
+  HeadSays,
+  at_magic,
+  at_version,
+  at_pages,
+  at_inodes,
+  at_gate,
+  InodesSay,
+  at_state,
+  at_cut,
+}
 use Rattle.dn_model.specs.OneFile.{first_log, HasOneFile}
 use Rattle.one_file_open.specs.Image.{file_inode, file_disk}
-use Rattle.one_file_open.specs.Parts.{HasGeometry, HasFirstRoot, IsFileLive, HasFreeInodes, HasNoRows, HasNoPointers, HasTable, HasFirstName, IsHeaded}
+use Rattle.one_file_open.specs.Parts.{
+  HasGeometry,
+  HasFirstRoot,
+  IsFileLive,
+  HasFreeInodes,
+  HasNoRows,
+  HasNoPointers,
+  HasTable,
+  HasFirstName,
+  IsHeaded,
+}
 use Rattle.one_file_open.proofs.NameSlot.{count-first}
 
 -- what stands where something is said
@@ -49,7 +80,8 @@ module _ (w : List ℕ) (g : Geometry) (name : List ℕ) (log : Log) (head : IsH
   reads_inodes : (a v : ℕ) → InodesSay d a v → slice_index w a ≡ v
   reads_inodes a v (at_state zero lt place value) = at_place w a (inode_word 0 0) v 1 place value head.table.root.state
   reads_inodes a v (at_state (suc zero) lt place value) = at_place w a (inode_word 1 0) v 1 place value head.table.file
-  reads_inodes a v (at_state (suc (suc k)) lt place value) = at_place w a (inode_word (suc (suc k)) 0) v 0 place value (head.table.inodes (suc (suc k)) (omega arith) lt)
+  reads_inodes a v (at_state (suc (suc k)) lt place value) = at_place w a (inode_word (suc (suc k)) 0) v 0 place value
+      (head.table.inodes (suc (suc k)) (omega arith) lt)
   reads_inodes a v (at_cut zero c lt dying place value) = cc
   reads_inodes a v (at_cut (suc zero) c lt dying place value) = cc
   reads_inodes a v (at_cut (suc (suc k)) c lt dying place value) = cc
@@ -58,7 +90,8 @@ module _ (w : List ℕ) (g : Geometry) (name : List ℕ) (log : Log) (head : IsH
   reads_root a v (at_tail place value) = at_place w a (inode_word 0 2) v _ place (value ∙ first_tail g name head.name_is.short) head.table.root.tail
   reads_root a v (at_head some place value) = at_place w a (inode_word 0 1) v _ place value head.table.root.head
   reads_root a v (at_footer k lt place value) = absurd (omega arith)
-  reads_root a v (at_slot zero j lt small place value) = at_place w a (512 * first_data g + j) v _ (omega arith) (value ∙ first_word g name j) (head.name_is.slot j small)
+  reads_root a v (at_slot zero j lt small place value) = at_place w a (512 * first_data g + j) v _ (omega arith) (value ∙ first_word g name j)
+      (head.name_is.slot j small)
   reads_root a v (at_slot (suc k) j lt small place value) = absurd (omega (arith, count-first g name head.name_is.short))
 
   reads_logs : (ino a v : ℕ) → IsUsed (file_inode g name log ino).use_of → LogSays ino (file_inode g name log ino).log a v → slice_index w a ≡ v
@@ -81,7 +114,8 @@ module _ (w : List ℕ) (g : Geometry) (name : List ℕ) (log : Log) (head : IsH
   reads_all a v (of_pages told) = ap (slice_index w) told.place ∙ sym told.value
 
 -- and an image of one file has each part
-module _ (w : List ℕ) (d : Disk) (name : List ℕ) (one : HasOneFile d name) (accepted : IsAccepted d.geometry) (legal : IsLegal name) (short : length name ≤ 40)
+module _ (w : List ℕ) (d : Disk) (name : List ℕ) (one : HasOneFile d name) (accepted : IsAccepted d.geometry) (legal : IsLegal name)
+    (short : length name ≤ 40)
     (size : length w ≡ 512 * d.geometry.pages) (reads : Reads (DiskSays d) w) where
   abbrev h : Geometry
   h = d.geometry
@@ -100,7 +134,13 @@ module _ (w : List ℕ) (d : Disk) (name : List ℕ) (one : HasOneFile d name) (
   }
 
   root_log : (a v : ℕ) → LogSays 0 (first_log h name) a v → slice_index w a ≡ v
-  root_log a v says = reads a v (of_logs (record { ino = 0; in_table = omega (arith, some_inodes); used = subst IsUsed (sym one.root) tt; says = subst (λ (l : Log). LogSays 0 l a v) (sym one.root_log) says }))
+  root_log a v says = reads a v
+      (of_logs (record {
+        ino = 0;
+        in_table = omega (arith, some_inodes);
+        used = subst IsUsed (sym one.root) tt;
+        says = subst (λ (l : Log). LogSays 0 l a v) (sym one.root_log) says;
+      }))
 
   root_of : HasFirstRoot w h
   root_of = record {
@@ -116,7 +156,8 @@ module _ (w : List ℕ) (d : Disk) (name : List ℕ) (one : HasOneFile d name) (
   inodes_of ino low lt = reads (inode_word ino 0) 0 (of_inodes (at_state ino lt refl (sym (ap state_number (one.others ino low lt)))))
 
   no_row_says : (p a v : ℕ) → p < directs h → ChainSays h p [] a v → slice_index w a ≡ v
-  no_row_says p a v direct says = reads a v (of_chains (record { prefix = p; direct = direct; says = subst (λ (rs : List Row). ChainSays h p rs a v) (sym (one.no_rows p)) says }))
+  no_row_says p a v direct says = reads a v
+      (of_chains (record { prefix = p; direct = direct; says = subst (λ (rs : List Row). ChainSays h p rs a v) (sym (one.no_rows p)) says }))
 
   slots_of : HasNoRows w h
   slots_of p direct = record {
@@ -125,19 +166,28 @@ module _ (w : List ℕ) (d : Disk) (name : List ℕ) (one : HasOneFile d name) (
   }
 
   pointers_of : HasNoPointers w h
-  pointers_of page lt = reads (pointer_word h page) 0 (of_pointers (record { page = page; in_image = lt; place = refl; value = sym (one.no_pointers page lt) }))
+  pointers_of page lt = reads (pointer_word h page) 0
+      (of_pointers (record { page = page; in_image = lt; place = refl; value = sym (one.no_pointers page lt) }))
 
   name_of : HasFirstName w h name
   name_of = record {
     legal = legal;
     short = short;
-    slot = λ j small. root_log (512 * first_data h + j) _ (at_slot 0 j (omega (arith, count-first h name short)) small (omega arith) (sym (first_word h name j)));
+    slot = λ j small. root_log (512 * first_data h + j) _ (at_slot 0 j (omega (arith, count-first h name short)) small (omega arith)
+        (sym (first_word h name j)));
   }
 
   pub headed : IsHeaded w h name
   headed = record {
     geometry = geometry_of;
-    table = record { gate = reads gate_word 0 (of_head (at_gate refl refl)); root = root_of; file = live_of; inodes = inodes_of; slots = slots_of; pointers = pointers_of };
+    table = record {
+      gate = reads gate_word 0 (of_head (at_gate refl refl));
+      root = root_of;
+      file = live_of;
+      inodes = inodes_of;
+      slots = slots_of;
+      pointers = pointers_of;
+    };
     name_is = name_of;
   }
 

@@ -21,7 +21,14 @@ module _ (w : List ℕ) (g : Geometry) (page : ℕ) (is_first : page ≡ first_d
 
   -- one slot spells a short name alone
   short : (name : List ℕ) → BeginsWith (Add 1 name) (slot ∷ []) → length name ≤ 40
-  short name b = omega (arith, ap length b.is, length-append (spelling (Add 1 name)) b.rest, ap length (spelling-add 1 name), length-name_slots 3 1 name)
+  short name b = omega (
+    arith,
+    ap length b.is,
+    length-append (spelling (Add 1 name)) b.rest,
+    ap length (spelling-add 1 name),
+    length-name_slots 3 1
+        name,
+  )
 
   head_is : (name : List ℕ) → BeginsWith (Add 1 name) (slot ∷ []) → slot ≡ get_or (spelling (Add 1 name)) 0 []
   unfolding spelling
@@ -40,7 +47,8 @@ module _ (w : List ℕ) (g : Geometry) (page : ℕ) (is_first : page ≡ first_d
   pub begins : (name : List ℕ) → HasFirstName w g name → BeginsWith (Add 1 name) (slot ∷ [])
   begins name n =
       let same : slot ≡ get_or (spelling (Add 1 name)) 0 [] =
-      same_number_lists slot (get_or (spelling (Add 1 name)) 0 []) (eight ∙ sym (spelled_eight name n.short)) (λ j lt. word_is j (omega arith) ∙ n.slot j (omega arith)) in
+      same_number_lists slot (get_or (spelling (Add 1 name)) 0 []) (eight ∙ sym (spelled_eight name n.short))
+      (λ j lt. word_is j (omega arith) ∙ n.slot j (omega arith)) in
       record {
         spelled = n.legal;
         rest = [];

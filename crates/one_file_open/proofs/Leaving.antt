@@ -34,11 +34,13 @@ module _ (g : Geometry) (log : Log) (valid : IsLog g 1 log) (idx : ℕ) (m : Dis
   pub block_in_data : InData g m.block
   block_in_data =
       let s = mapping_set_by log idx m is in
-      let may : InData g s.block × InData g (s.block + s.n - 1) = All-contains (MayStand g 1) log.items (Write s.first s.n s.block s.size s.flag s.mask) valid.standing s.listed in
+      let may : InData g s.block × InData g (s.block + s.n - 1) = All-contains (MayStand g 1) log.items
+      (Write s.first s.n s.block s.size s.flag s.mask) valid.standing s.listed in
       record { low = omega (arith, s.is, may.0.low); high = omega (arith, s.is, s.low, s.high, may.1.high) }
 
 -- the page of a mapping that is kept
-kept_block : (o : Option DiskMapping) (page : ℕ) → option_map (λ (x : Mapping). x.block) (option_map kept o) ≡ Some page → (m : DiskMapping) × (o ≡ Some m) × (m.block ≡ page)
+kept_block : (o : Option DiskMapping) (page : ℕ) → option_map (λ (x : Mapping). x.block) (option_map kept o) ≡ Some page
+    → (m : DiskMapping) × (o ≡ Some m) × (m.block ≡ page)
 kept_block None page e = cc
 kept_block (Some m) page e = (m, refl, same m.block page e)
   where
@@ -65,13 +67,17 @@ module _ (g : Geometry) (items : List PlacedItem) (pm : FinMap nat_cmp Mapping) 
   pub unshared : (marks : FreePages) → AreUsed g items pm marks → IsUnshared g log
   unshared marks used = record {
     root_log = λ at. let b = begun (first_data g) at in used.log_marked.fresh b.0 (first_data g) b.1 b.2 used.is_root.there;
-    root_place = λ idx m e same. used.places_marked.fresh idx m.block (place_small g log is.valid idx m e) (place_mapped idx m e) (used.log_marked.kept m.block (subst (Contains used.root.free) (sym same) used.is_root.there));
-    log_place = λ idx m e at. let b = begun m.block at in used.places_marked.fresh idx m.block (place_small g log is.valid idx m e) (place_mapped idx m e) (used.log_marked.there b.0 m.block b.1 b.2);
+    root_place = λ idx m e same. used.places_marked.fresh idx m.block (place_small g log is.valid idx m e) (place_mapped idx m e)
+        (used.log_marked.kept m.block (subst (Contains used.root.free) (sym same) used.is_root.there));
+    log_place = λ idx m e at. let b = begun m.block at in used.places_marked.fresh idx m.block (place_small g log is.valid idx m e)
+        (place_mapped idx m e) (used.log_marked.there b.0 m.block b.1 b.2);
     places = λ i j m n ei ej same. elim (cases_eq i j) [
       | inl e ↦ e
       | inr ne ↦ elim (cases_lt i j) [
-        | inl lt ↦ absurd (used.places_marked.once i j n.block lt (place_small g log is.valid j n ej) (place_mapped i m ei ∙ ap Some same) (place_mapped j n ej))
-        | inr ge ↦ absurd (used.places_marked.once j i m.block (omega arith) (place_small g log is.valid i m ei) (place_mapped j n ej ∙ ap Some (sym same)) (place_mapped i m ei))
+        | inl lt ↦ absurd (used.places_marked.once i j n.block lt (place_small g log is.valid j n ej) (place_mapped i m ei ∙ ap Some same)
+            (place_mapped j n ej))
+        | inr ge ↦ absurd (used.places_marked.once j i m.block (omega arith) (place_small g log is.valid i m ei)
+            (place_mapped j n ej ∙ ap Some (sym same)) (place_mapped i m ei))
       ]
     ];
   }
@@ -85,7 +91,8 @@ module _ (g : Geometry) (items : List PlacedItem) (pm : FinMap nat_cmp Mapping) 
           in_data = l.0;
           not_root = λ e. l.1 (used.places_marked.kept page (used.log_marked.kept page (subst (Contains used.root.free) (sym e) used.is_root.there)));
           not_log = λ at. let b = begun page at in l.1 (used.places_marked.kept page (used.log_marked.there b.0 page b.1 b.2));
-          not_place = λ idx m e same. l.1 (used.places_marked.there idx page (place_small g log is.valid idx m e) (place_mapped idx m e ∙ ap Some same));
+          not_place = λ idx m e same. l.1 (used.places_marked.there idx page (place_small g log is.valid idx m e)
+              (place_mapped idx m e ∙ ap Some same));
         }
 
     unmarked : (page : ℕ) → IsLeftBy g log page → Contains marks.free page → ⊥
@@ -149,7 +156,8 @@ module _ (g : Geometry) (items : List PlacedItem) (pm : FinMap nat_cmp Mapping) 
 
       by_log : Contains root.free t.page ⊎ ((j : ℕ) × (j < length items) × (begun_by items j ≡ Some t.page)) → ⊥
       by_log (inl r) = u.root_place t.j place.0 place.1 (place.2 ∙ is_root.only t.page r)
-      by_log (inr b) = u.log_place t.j place.0 place.1 (subst (Contains log.pages) (sym place.2) (begun_listed g log is.valid items is.items_are b.0 t.page b.2))
+      by_log (inr b) = u.log_place t.j place.0 place.1 (subst (Contains log.pages) (sym place.2) (begun_listed g log is.valid items is.items_are b.0
+          t.page b.2))
 
       by_twice : Contains before.free t.page ⊎ ((i : ℕ) × (i < t.j) × (mapped_by pm i ≡ Some t.page)) → ⊥
       by_twice (inl r) = by_log (marked.only t.page r)

@@ -87,12 +87,19 @@ begun_at (x ∷ xs) (suc i) p lt here = begun_at xs i p (omega arith) here
 -- the pages that are left
 module _ (g : Geometry) (marks : FreePages) where
   pub left-none : (page : ℕ) → page ≡ first_data g → IsLeftBelow g marks page (record { pages = g.pages; free = [] })
-  left-none page e = record { pages = refl; left = λ q. ((λ there. absurd (omega (arith, there.1))), (λ range. absurd (omega (arith, e, range.0, range.1)))) }
+  left-none page e = record {
+    pages = refl;
+    left = λ q. (
+      (λ there. absurd (omega (arith, there.1))),
+      (λ range. absurd (omega (arith, e, range.0, range.1))),
+    );
+  }
 
   pub not_left : (page : ℕ) (free : FreePages) → IsLeftBelow g marks page free → Contains free.free page → ⊥
   not_left page free so_far there = let range = (so_far.left page).0 there in omega (arith, range.1)
 
-  pub left-next : (page : ℕ) (old new : FreePages) → first_data g ≤ page → IsLeftBelow g marks page old → Leaves page marks old new → IsLeftBelow g marks (page + 1) new
+  pub left-next : (page : ℕ) (old new : FreePages) → first_data g ≤ page → IsLeftBelow g marks page old → Leaves page marks old new
+      → IsLeftBelow g marks (page + 1) new
   left-next page old new low so_far (inl gives) = record {
     pages = gives.1.pages ∙ so_far.pages;
     left = λ q. (to q, from q);

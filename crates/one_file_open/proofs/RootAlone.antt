@@ -7,7 +7,8 @@ use Rattle.pm_layout.specs.Geometry.{first_data}
 use Rattle.page_alloc.specs.Free.{FreePages, GivesBack}
 use Rattle.one_file_open.specs.Marks.{IsRootAlone}
 
-pub root_alone : (g : Geometry) (none root : FreePages) (page : ℕ) → none ≡ record { pages = g.pages; free = [] } → page ≡ first_data g → GivesBack page none root → IsRootAlone g root
+pub root_alone : (g : Geometry) (none root : FreePages) (page : ℕ) → none ≡ record { pages = g.pages; free = [] } → page ≡ first_data g
+    → GivesBack page none root → IsRootAlone g root
 root_alone g none root page empty is gives = record {
   pages = gives.pages ∙ ap (λ (s : FreePages). s.pages) empty;
   there = subst (Contains root.free) is gives.there;

@@ -1,5 +1,32 @@
 -- A disk of one file: its mappings, its free pages, and when it makes sense.
-use Rattle.std.proofs.Common.{◌≡◌, ◌≢◌, ◌⊎◌, inl, inr, ⊎_elim, ℕ, zero, suc, ◌+◌, ◌<◌, ◌≤◌, Bool, true, false, List, [], ◌∷◌, ◌++◌, length, refl, sym, ◌∙◌, ap, subst, arith}
+use Rattle.std.proofs.Common.{
+  ◌≡◌,
+  ◌≢◌,
+  ◌⊎◌,
+  inl,
+  inr,
+  ⊎_elim,
+  ℕ,
+  zero,
+  suc,
+  ◌+◌,
+  ◌<◌,
+  ◌≤◌,
+  Bool,
+  true,
+  false,
+  List,
+  [],
+  ◌∷◌,
+  ◌++◌,
+  length,
+  refl,
+  sym,
+  ◌∙◌,
+  ap,
+  subst,
+  arith,
+}
 use Rattle.std.specs.Prelude.{slice_index, slice_get, if◌then◌else◌, ◌==◌, Option, Some, None, is_some, All, Contains}
 use Rattle.std.proofs.lemmas.Bool.{cases_eq}
 use Rattle.std.proofs.lemmas.Bool.Decides.{nat_tests}
@@ -76,7 +103,8 @@ mapped_counts d ino idx m in_table small is = omega (
 )
 
 -- and two places of a file count as two
-two_count : (d : Disk) (ino i j : ℕ) (m n : Mapping) → ino < d.geometry.inodes → i < 4096 → j < 4096 → i ≢ j → maps d ino i ≡ Some m → maps d ino j ≡ Some n → m.block ≡ n.block → 2 ≤ mappings d n.block
+two_count : (d : Disk) (ino i j : ℕ) (m n : Mapping) → ino < d.geometry.inodes → i < 4096 → j < 4096 → i ≢ j → maps d ino i ≡ Some m
+    → maps d ino j ≡ Some n → m.block ≡ n.block → 2 ≤ mappings d n.block
 unfolding mappings
 two_count d ino i j m n in_table il jl ne mi nj same = omega (
   arith,
@@ -183,7 +211,8 @@ module _ (d : Disk) (name : List ℕ) (one : HasOneFile d name) (accepted : IsAc
   unfolding mappings
   unshared_counts u page = omega (
     arith,
-    total-one (λ (ino : ℕ). total 4096 (λ (x : ℕ). hit page (maps d ino x))) g.inodes 1 (λ ino lt ne. total-zero _ 4096 (λ idx small. hit-none page (maps d ino idx) (maps_none ino idx lt ne))),
+    total-one (λ (ino : ℕ). total 4096 (λ (x : ℕ). hit page (maps d ino x))) g.inodes 1
+        (λ ino lt ne. total-zero _ 4096 (λ idx small. hit-none page (maps d ino idx) (maps_none ino idx lt ne))),
     total-single (λ (x : ℕ). hit page (maps d 1 x)) 4096 (λ x. hit-le page (maps d 1 x)) (λ i j il jl si sj.
         let x = hit-where page (maps d 1 i) si in let y = hit-where page (maps d 1 j) sj in
         u.places i j x.0 y.0 (sym (maps_file i) ∙ x.1) (sym (maps_file j) ∙ y.1) (x.2 ∙ sym y.2)),
@@ -215,18 +244,26 @@ module _ (d : Disk) (name : List ℕ) (one : HasOneFile d name) (accepted : IsAc
     place_mapped idx m e = record {
       ino = 1;
       idx = idx;
-      maps_to = record { in_table = omega (arith, some_inodes); in_file = place_small g log file_log idx m e; by = m; is = maps_file idx ∙ e; block = refl };
+      maps_to = record {
+        in_table = omega (arith, some_inodes);
+        in_file = place_small g log file_log idx m e;
+        by = m;
+        is = maps_file idx ∙ e;
+        block = refl;
+      };
     }
 
     -- a disk that makes sense uses no page twice, and has two left
     pub valid_unshared : IsSingle d → IsUnshared g log
     valid_unshared single = record {
-      root_log = λ at. zero_one 0 1 refl refl (single.one_log 0 1 (first_data g) (omega (arith, some_inodes)) (omega (arith, some_inodes)) root_used (subst IsUsed (sym one.file) tt) root_listed at);
+      root_log = λ at. zero_one 0 1 refl refl (single.one_log 0 1 (first_data g) (omega (arith, some_inodes)) (omega (arith, some_inodes)) root_used
+          (subst IsUsed (sym one.file) tt) root_listed at);
       root_place = λ idx m e same. single.log_unmapped (first_data g) root_page (subst (IsMapped d) same (place_mapped idx m e));
       log_place = λ idx m e at. single.log_unmapped m.block (file_page m.block at) (place_mapped idx m e);
       places = λ i j m n ei ej same. elim (cases_eq i j) [
         | inl e ↦ e
-        | inr ne ↦ absurd (over (mappings d n.block) (two_count d 1 i j m n (omega (arith, some_inodes)) (place_small g log file_log i m ei) (place_small g log file_log j n ej) ne (maps_file i ∙ ei) (maps_file j ∙ ej) same)
+        | inr ne ↦ absurd (over (mappings d n.block) (two_count d 1 i j m n (omega (arith, some_inodes)) (place_small g log file_log i m ei)
+            (place_small g log file_log j n ej) ne (maps_file i ∙ ei) (maps_file j ∙ ej) same)
             (single.unshared n.block (ap is_some (no_row n.block))))
       ];
     }
@@ -249,17 +286,22 @@ module _ (d : Disk) (name : List ℕ) (one : HasOneFile d name) (accepted : IsAc
     }
       where
         both : (i j page : ℕ) → i ≡ 0 → j ≡ 1 → Contains (d.inode i).log.pages page → Contains (d.inode j).log.pages page → ⊥
-        both i j page ei ej ci cj = u.root_log (subst (Contains log.pages) (in_root page (subst (λ (k : ℕ). Contains (d.inode k).log.pages page) ei ci)) (subst (λ (k : ℕ). Contains (d.inode k).log.pages page) ej cj))
+        both i j page ei ej ci cj = u.root_log
+            (subst (Contains log.pages) (in_root page (subst (λ (k : ℕ). Contains (d.inode k).log.pages page) ei ci))
+            (subst (λ (k : ℕ). Contains (d.inode k).log.pages page) ej cj))
 
-        one_log : (i j page : ℕ) → (i ≡ 0) ⊎ (i ≡ 1) → (j ≡ 0) ⊎ (j ≡ 1) → Contains (d.inode i).log.pages page → Contains (d.inode j).log.pages page → i ≡ j
+        one_log : (i j page : ℕ) → (i ≡ 0) ⊎ (i ≡ 1) → (j ≡ 0) ⊎ (j ≡ 1) → Contains (d.inode i).log.pages page → Contains (d.inode j).log.pages page
+            → i ≡ j
         one_log i j page (inl a) (inl b) ci cj = a ∙ sym b
         one_log i j page (inl a) (inr b) ci cj = absurd (both i j page a b ci cj)
         one_log i j page (inr a) (inl b) ci cj = absurd (both j i page b a cj ci)
         one_log i j page (inr a) (inr b) ci cj = a ∙ sym b
 
         apart : (page : ℕ) → (page ≡ first_data g) ⊎ Contains log.pages page → IsMapped d page → ⊥
-        apart page (inl e) m = let h = mapped_here m.ino m.idx m.maps_to.by m.maps_to.in_table m.maps_to.is in u.root_place m.idx m.maps_to.by h.1 (m.maps_to.block ∙ e)
-        apart page (inr at) m = let h = mapped_here m.ino m.idx m.maps_to.by m.maps_to.in_table m.maps_to.is in u.log_place m.idx m.maps_to.by h.1 (subst (Contains log.pages) (sym m.maps_to.block) at)
+        apart page (inl e) m = let h = mapped_here m.ino m.idx m.maps_to.by m.maps_to.in_table m.maps_to.is in u.root_place m.idx m.maps_to.by h.1
+            (m.maps_to.block ∙ e)
+        apart page (inr at) m = let h = mapped_here m.ino m.idx m.maps_to.by m.maps_to.in_table m.maps_to.is in u.log_place m.idx m.maps_to.by h.1
+            (subst (Contains log.pages) (sym m.maps_to.block) at)
 
     -- the name leads to the file, and no other name does
     named-is : (other : List ℕ) → named d other ≡ (if same_name name other then Some 1 else None)
@@ -320,7 +362,11 @@ module _ (d : Disk) (name : List ℕ) (one : HasOneFile d name) (accepted : IsAc
         logs = logs;
         links = links;
         table = λ p k row lt is. absurd (some_none row (ap (λ (rs : List Row). slice_get rs k) (sym (one.no_rows p)) ∙ is));
-        rows_apart = of_rows AreApart (record { slot = λ j k r s is_r is_s e. cc; print = λ j k r s is_r is_s e. cc; page = λ j k r s is_r is_s e. cc });
+        rows_apart = of_rows AreApart (record {
+          slot = λ j k r s is_r is_s e. cc;
+          print = λ j k r s is_r is_s e. cc;
+          page = λ j k r s is_r is_s e. cc;
+        });
         pointers = λ page lt. omega (arith, one.no_pointers page lt);
         leads = of_rows (All (λ row. d.pointer row.page ≡ row.slot + 1)) (All-nil (λ (row : Row). d.pointer row.page ≡ row.slot + 1));
         single = single_if u;

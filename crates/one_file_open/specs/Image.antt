@@ -12,4 +12,10 @@ file_inode g name log (suc zero) = record { use_of = Live; log = log }
 file_inode g name log (suc (suc k)) = record { use_of = Free; log = no_log }
 
 abbrev pub file_disk : Geometry → List ℕ → Log → List ℕ → Disk
-file_disk g name log w = record { geometry = g; inode = file_inode g name log; chain = λ p. []; pointer = λ page. 0; word = λ page k. slice_index w (512 * page + k) }
+file_disk g name log w = record {
+  geometry = g;
+  inode = file_inode g name log;
+  chain = λ p. [];
+  pointer = λ page. 0;
+  word = λ page k. slice_index w (512 * page + k);
+}

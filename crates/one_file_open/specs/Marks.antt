@@ -1,5 +1,26 @@
 -- The pages that are in use are marked, one after another.
-use Rattle.std.specs.Prelude.{◌≡◌, ◌⊎◌, ◌↔◌, ℕ, zero, suc, ◌/◌, ◌%◌, ◌<◌, ◌≤◌, ◌==◌, if◌then◌else◌, List, [], ◌∷◌, length, Contains, Option, Some, None}
+use Rattle.std.specs.Prelude.{
+  ◌≡◌,
+  ◌⊎◌,
+  ◌↔◌,
+  ℕ,
+  zero,
+  suc,
+  ◌/◌,
+  ◌%◌,
+  ◌<◌,
+  ◌≤◌,
+  ◌==◌,
+  if◌then◌else◌,
+  List,
+  [],
+  ◌∷◌,
+  length,
+  Contains,
+  Option,
+  Some,
+  None,
+}
 use Rattle.std.specs.Option.{option_map}
 use Rattle.std.specs.Ordering.{nat_cmp}
 use Rattle.std.specs.FinMap.{FinMap, get}
@@ -37,7 +58,8 @@ pub record MarksTo (f : ℕ → Option ℕ) (n : ℕ) (old new : FreePages) : Ty
   pub same : new.pages ≡ old.pages
   pub kept : (page : ℕ) → Contains old.free page → Contains new.free page
   pub there : (j page : ℕ) → j < n → f j ≡ Some page → Contains new.free page
-  pub only : (page : ℕ) → Contains new.free page → Contains old.free page ⊎ ((j : ℕ) × (j < n) × (f j ≡ Some page))
+  pub only : (page : ℕ) → Contains new.free page
+      → Contains old.free page ⊎ ((j : ℕ) × (j < n) × (f j ≡ Some page))
   pub fresh : (j page : ℕ) → j < n → f j ≡ Some page → Contains old.free page → ⊥
   pub once : (i j page : ℕ) → i < j → j < n → f i ≡ Some page → f j ≡ Some page → ⊥
 
@@ -56,7 +78,8 @@ pub record IsRootAlone (g : Geometry) (s : FreePages) : Type 0 where
   pub only : (page : ℕ) → Contains s.free page → page ≡ first_data g
 
 -- the pages of the root, of the file's log and of its places are marked, each once
-pub record AreUsed (g : Geometry) (items : List PlacedItem) (map : FinMap nat_cmp Mapping) (marks : FreePages) : Type 0 where
+pub record AreUsed (g : Geometry) (items : List PlacedItem) (map : FinMap nat_cmp Mapping)
+    (marks : FreePages) : Type 0 where
   pub root : FreePages
   pub log : FreePages
   pub is_root : IsRootAlone g root
@@ -64,18 +87,25 @@ pub record AreUsed (g : Geometry) (items : List PlacedItem) (map : FinMap nat_cm
   pub places_marked : MarksTo (mapped_by map) 4096 log marks
 
 -- one of them comes twice
-pub data IsUsedTwice (g : Geometry) (items : List PlacedItem) (map : FinMap nat_cmp Mapping) : Type 0 where
-  log_twice : (root : FreePages) → IsRootAlone g root → IsMarkedTwice (begun_by items) (length items) root → IsUsedTwice g items map
-  place_twice : (root log : FreePages) → IsRootAlone g root → MarksTo (begun_by items) (length items) root log → IsMarkedTwice (mapped_by map) 4096 log → IsUsedTwice g items map
+pub data IsUsedTwice (g : Geometry) (items : List PlacedItem) (map : FinMap nat_cmp Mapping) : Type
+    0 where
+  log_twice : (root : FreePages) → IsRootAlone g root → IsMarkedTwice (begun_by items)
+      (length items) root → IsUsedTwice g items map
+  place_twice : (root log : FreePages) → IsRootAlone g root
+      → MarksTo (begun_by items) (length items) root log → IsMarkedTwice (mapped_by map) 4096 log
+      → IsUsedTwice g items map
 
 -- the page is free now, if it isn't marked
 abbrev pub Leaves : ℕ → FreePages → FreePages → FreePages → Type 0
-Leaves page marks old new = ((Contains marks.free page → ⊥) × GivesBack page old new) ⊎ (Contains marks.free page × (new ≡ old))
+Leaves page marks old new = ((Contains marks.free page → ⊥) × GivesBack page old new)
+    ⊎ (Contains marks.free page × (new ≡ old))
 
 -- the pages of the data area below this one that aren't marked are free, and no others
-pub record IsLeftBelow (g : Geometry) (marks : FreePages) (next : ℕ) (free : FreePages) : Type 0 where
-  pub pages : free.pages ≡ g.pages
-  pub left : (page : ℕ) → Contains free.free page ↔ ((first_data g ≤ page) × (page < next) × (Contains marks.free page → ⊥))
+pub record IsLeftBelow (g : Geometry) (marks : FreePages) (next : ℕ) (free : FreePages) : Type 0
+  where
+    pub pages : free.pages ≡ g.pages
+    pub left : (page : ℕ) → Contains free.free page ↔
+        ((first_data g ≤ page) × (page < next) × (Contains marks.free page → ⊥))
 
 -- so it is with all of the data area
 pub record IsLeft (g : Geometry) (marks free : FreePages) : Type 0 where

@@ -16,7 +16,8 @@ use Rattle.dn_model.specs.OneFile.{IsOneFile}
 use Rattle.one_file_open.specs.Parts.{IsHeaded}
 use Rattle.one_file_open.specs.Used.{IsUnshared, HasTwoLeft, IsFreeBy}
 
--- a log of the file without a fault reads in the words, and these are its size, its mappings and the pages it leaves
+-- a log of the file without a fault reads in the words, and these are its size, its mappings and
+-- the pages it leaves
 pub record IsFileIn (w : List ℕ) (g : Geometry) (parts : FileParts) : Type 0 where
   pub log : Log
   pub reads : Reads (LogSays 1 log) w
@@ -26,14 +27,17 @@ pub record IsFileIn (w : List ℕ) (g : Geometry) (parts : FileParts) : Type 0 w
 
 -- there is no such log that leaves two pages and uses none twice
 abbrev pub HasNoFile : List ℕ → Geometry → Type 0
-HasNoFile w g = (log : Log) → Reads (LogSays 1 log) w → IsLog g 1 log → IsUnshared g log → HasTwoLeft g log → ⊥
+HasNoFile w g = (log : Log) → Reads (LogSays 1 log) w → IsLog g 1 log → IsUnshared g log
+    → HasTwoLeft g log → ⊥
 
 -- the words are an image of one file, and this is what they hold
 pub record IsImageIn (w : List ℕ) (image : Image) : Type 0 where
   pub head : IsHeaded w image.geometry image.name
-  pub file : IsFileIn w image.geometry (record { size = image.size; map = image.map; free = image.free })
+  pub file : IsFileIn w image.geometry
+      (record { size = image.size; map = image.map; free = image.free })
 
--- The words are an image of one file, which stands on the device; what is kept in memory is the disk's.
+-- The words are an image of one file, which stands on the device; what is kept in memory is the
+-- disk's.
 pub record IsOpened {D : Type 0} (state : D → State) (before : State) (v : Opened D) : Type 0 where
   pub same : state v.device ≡ before
   pub disk : Disk

@@ -1,7 +1,27 @@
 -- The words of an image of one file, part by part, but for those of the file's log.
-use Rattle.std.specs.Prelude.{◌≡◌, ℕ, ◌+◌, ◌*◌, ◌<◌, ◌≤◌, List, [], length, slice_index, slice_index_or}
+use Rattle.std.specs.Prelude.{
+  ◌≡◌,
+  ℕ,
+  ◌+◌,
+  ◌*◌,
+  ◌<◌,
+  ◌≤◌,
+  List,
+  [],
+  length,
+  slice_index,
+  slice_index_or,
+}
 use Rattle.pm_layout.specs.declared.Geometry.{Geometry}
-use Rattle.pm_layout.specs.Geometry.{IsAccepted, first_data, directs, inode_word, slot_word, pointer_word, gate_word}
+use Rattle.pm_layout.specs.Geometry.{
+  IsAccepted,
+  first_data,
+  directs,
+  inode_word,
+  slot_word,
+  pointer_word,
+  gate_word,
+}
 use Rattle.log_entry.specs.Name.{IsLegal}
 use Rattle.log_entry.specs.Spelling.{spelling}
 use Rattle.log_entry.specs.declared.item.LogItem.TheVariants.{Add}
@@ -58,7 +78,8 @@ pub record HasTable (w : List ℕ) (g : Geometry) : Type 0 where
 pub record HasFirstName (w : List ℕ) (g : Geometry) (name : List ℕ) : Type 0 where
   pub legal : IsLegal name
   pub short : length name ≤ 40
-  pub slot : (j : ℕ) → j < 8 → slice_index w (512 * first_data g + j) ≡ slice_index (slice_index_or (spelling (Add 1 name)) 0 []) j
+  pub slot : (j : ℕ) → j < 8 → slice_index w (512 * first_data g + j) ≡ slice_index
+      (slice_index_or (spelling (Add 1 name)) 0 []) j
 
 -- all but the file's log stands as in an image of one file
 pub record IsHeaded (w : List ℕ) (g : Geometry) (name : List ℕ) : Type 0 where

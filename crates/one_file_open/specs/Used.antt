@@ -15,21 +15,26 @@ use Rattle.log_walk.specs.declared.items.Placed.{Placed as PlacedItem}
 use Rattle.file_content.specs.Content.{kept}
 
 -- the items and the mappings are those of this log of the file
-pub record IsScanOf (g : Geometry) (items : List PlacedItem) (places_map : FinMap nat_cmp Mapping) (log : Log) : Type 0 where
+pub record IsScanOf (g : Geometry) (items : List PlacedItem) (places_map : FinMap nat_cmp Mapping)
+    (log : Log) : Type 0 where
   pub valid : IsLog g 1 log
   pub items_are : map seen items ≡ placed log
   pub places : (idx : ℕ) → get places_map idx ≡ option_map kept (mapping log idx)
 
-pub record IsScanned (g : Geometry) (items : List PlacedItem) (places_map : FinMap nat_cmp Mapping) : Type 0 where
+pub record IsScanned (g : Geometry) (items : List PlacedItem) (places_map : FinMap nat_cmp Mapping)
+    : Type 0 where
   pub log : Log
   pub is : IsScanOf g items places_map log
 
--- no page is used twice: by the root's log, which is the first of the data area, by the file's log and by its places
+-- no page is used twice: by the root's log, which is the first of the data area, by the file's log
+-- and by its places
 pub record IsUnshared (g : Geometry) (log : Log) : Type 0 where
   pub root_log : Contains log.pages (first_data g) → ⊥
   pub root_place : (idx : ℕ) (m : DiskMapping) → mapping log idx ≡ Some m → m.block ≢ first_data g
-  pub log_place : (idx : ℕ) (m : DiskMapping) → mapping log idx ≡ Some m → Contains log.pages m.block → ⊥
-  pub places : (i j : ℕ) (m n : DiskMapping) → mapping log i ≡ Some m → mapping log j ≡ Some n → m.block ≡ n.block → i ≡ j
+  pub log_place : (idx : ℕ) (m : DiskMapping) → mapping log idx ≡ Some m
+      → Contains log.pages m.block → ⊥
+  pub places : (i j : ℕ) (m n : DiskMapping) → mapping log i ≡ Some m → mapping log j ≡ Some n
+      → m.block ≡ n.block → i ≡ j
 
 -- a page of the data area that none of them uses
 pub record IsLeftBy (g : Geometry) (log : Log) (page : ℕ) : Type 0 where

@@ -52,7 +52,8 @@ fn block_at(map: &PageMap, idx: u64) -> Option<u64>
 // Marks the pages that items begin. Answers whether none of them was marked or came twice.
 fn mark_log(marks: &mut FreeSet, items: &[Placed]) -> bool
     requires { (j page : ℕ) → begun_by items.now j ≡ Some page → page < marks.old.pages }
-    ensures marked { IsTrue result → MarksTo (begun_by items.now) (length items.now) marks.old marks.new }
+    ensures marked { IsTrue result → MarksTo (begun_by items.now) (length items.now) marks.old
+        marks.new }
     ensures twice { IsFalse result → IsMarkedTwice (begun_by items.now) (length items.now) marks.old }
 {
     for (i, placed) in items.iter().enumerate() {
@@ -138,8 +139,12 @@ pub(crate) fn free_pages(
 ) -> Result<Option<FreeSet>, NoMemory>
     requires accepted { IsAccepted g.now }
     requires scanned { IsScanned g.now items.now map.now.map }
-    ensures some { IfOk result (λ found. IfSome found (λ free. (log : Log) → IsScanOf g.now items.now map.now.map log → IsFreeBy g.now log free)) }
-    ensures none { IfOk result (λ found. IfNone found ((log : Log) → IsScanOf g.now items.now map.now.map log → IsUnshared g.now log → HasTwoLeft g.now log → ⊥)) }
+    ensures some { IfOk result
+        (λ found. IfSome found (λ free. (log : Log) → IsScanOf g.now items.now map.now.map log
+        → IsFreeBy g.now log free)) }
+    ensures none { IfOk result
+        (λ found. IfNone found ((log : Log) → IsScanOf g.now items.now map.now.map log
+        → IsUnshared g.now log → HasTwoLeft g.now log → ⊥)) }
 {
     let Some(used) = used_pages(alloc, g, items, map)? else {
         return Ok(None);

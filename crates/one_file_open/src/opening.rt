@@ -34,8 +34,11 @@ pub(crate) struct Head {
 /// # Errors
 /// `NoMemory` where there is no memory for the name.
 pub(crate) fn open_head<D: Pm>(alloc: Global, device: &D) -> Result<Option<Head>, NoMemory>
-    ensures some { IfOk result (λ found. IfSome found (λ h. IsHeaded (D.state device.now).now h.geometry h.name)) }
-    ensures none { IfOk result (λ found. IfNone found ((g : Geometry) (name : List ℕ) → IsHeaded (D.state device.now).now g name → ⊥)) }
+    ensures some { IfOk result
+        (λ found. IfSome found (λ h. IsHeaded (D.state device.now).now h.geometry h.name)) }
+    ensures none { IfOk result
+        (λ found. IfNone found ((g : Geometry) (name : List ℕ) → IsHeaded (D.state device.now).now g
+        name → ⊥)) }
 {
     let Some(geometry) = read_geometry(device) else {
         return Ok(None);
@@ -75,8 +78,11 @@ fn read_first_name<D: Pm>(
     geometry: &Geometry,
 ) -> Result<Option<Name>, NoMemory>
     requires { HasGeometry (D.state device.now).now geometry.now }
-    ensures some { IfOk result (λ found. IfSome found (HasFirstName (D.state device.now).now geometry.now)) }
-    ensures none { IfOk result (λ found. IfNone found ((name : List ℕ) → HasFirstName (D.state device.now).now geometry.now name → ⊥)) }
+    ensures some { IfOk result
+        (λ found. IfSome found (HasFirstName (D.state device.now).now geometry.now)) }
+    ensures none { IfOk result
+        (λ found. IfNone found ((name : List ℕ) → HasFirstName (D.state device.now).now geometry.now
+        name → ⊥)) }
 {
     let slot = read_slot(device, PAGE_WORDS * geometry.first_data());
     match read_item(alloc, &[slot])? {

@@ -108,7 +108,8 @@ pub(crate) fn read_slot<D: Pm>(device: &D, at: u64) -> [u64; 8]
     requires small { at < 2 ^ 32 }
     requires inside { at + 8 ≤ length (D.state device.now).now }
     ensures eight { length result ≡ 8 }
-    ensures words { (j : ℕ) → j < 8 → slice_index result j ≡ slice_index (D.state device.now).now (at + j) }
+    ensures words { (j : ℕ) → j < 8 → slice_index result j ≡ slice_index (D.state device.now).now
+        (at + j) }
 {
     let mut slot = [0; 8];
     for (j, word) in slot.iter_mut().enumerate() {

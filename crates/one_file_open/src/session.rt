@@ -75,7 +75,8 @@ pub(crate) struct Image {
 fn read_items<D: Pm>(alloc: Global, device: &D, g: &Geometry) -> Result<Vec<Placed>, OpenFault>
     requires { HasGeometry (D.state device.now).now g.now }
     ensures log { IfOk result (λ items. HasLog g.now (D.state device.now).now 1 items.items) }
-    ensures none { IfErr result (λ fault. fault ≡ OpenFault.Unbuilt → (log : Log) → ReadsAs g.now (D.state device.now).now 1 log → ⊥) }
+    ensures none { IfErr result (λ fault. fault ≡ OpenFault.Unbuilt → (log : Log)
+        → ReadsAs g.now (D.state device.now).now 1 log → ⊥) }
 {
     match walk(alloc, device, g, FILE) {
         Ok(items) => Ok(items),
@@ -88,7 +89,8 @@ fn read_items<D: Pm>(alloc: Global, device: &D, g: &Geometry) -> Result<Vec<Plac
 fn read_file<D: Pm>(alloc: Global, device: &D, g: &Geometry) -> Result<FileParts, OpenFault>
     requires { HasGeometry (D.state device.now).now g.now }
     ensures file { IfOk result (IsFileIn (D.state device.now).now g.now) }
-    ensures none { IfErr result (λ fault. fault ≡ OpenFault.Unbuilt → HasNoFile (D.state device.now).now g.now) }
+    ensures none { IfErr result (λ fault. fault ≡ OpenFault.Unbuilt
+        → HasNoFile (D.state device.now).now g.now) }
 {
     let items = read_items(alloc, device, g)?;
     let Ok(index) = index_items(alloc, &items) else {
@@ -108,7 +110,8 @@ fn read_file<D: Pm>(alloc: Global, device: &D, g: &Geometry) -> Result<FileParts
 // All that an image of one file holds.
 fn read_image<D: Pm>(alloc: Global, device: &D) -> Result<Image, OpenFault>
     ensures image { IfOk result (IsImageIn (D.state device.now).now) }
-    ensures none { IfErr result (λ fault. fault ≡ OpenFault.Unbuilt → (d : Disk) (name : List ℕ) → IsOneFile (D.state device.now).now d name → ⊥) }
+    ensures none { IfErr result (λ fault. fault ≡ OpenFault.Unbuilt → (d : Disk) (name : List ℕ)
+        → IsOneFile (D.state device.now).now d name → ⊥) }
 {
     let head = match open_head(alloc, device) {
         Ok(Some(head)) => head,
@@ -139,7 +142,8 @@ fn read_image<D: Pm>(alloc: Global, device: &D) -> Result<Image, OpenFault>
 pub fn open<D: Pm>(alloc: Global, device: D) -> Result<Opened<D>, (OpenFault, D)>
     requires still { Still (D.state device) }
     ensures opened { IfOk result (λ v. IsOpened D.state (D.state device) v) }
-    ensures unbuilt { IfErr result (λ e. e.0 ≡ OpenFault.Unbuilt → (d : Disk) (name : List ℕ) → IsOneFile (D.state device).now d name → ⊥) }
+    ensures unbuilt { IfErr result (λ e. e.0 ≡ OpenFault.Unbuilt → (d : Disk) (name : List ℕ)
+        → IsOneFile (D.state device).now d name → ⊥) }
     ensures back { IfErr result (λ e. D.state e.1 ≡ D.state device) }
 {
     let image = match read_image(alloc, &device) {

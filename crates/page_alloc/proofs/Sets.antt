@@ -91,11 +91,13 @@ slice_index-zeros n k = elim (cases_lt k n) [
 pub empty-set : (n pages : ℕ) → set_of (replicate n 0) pages ≡ record { pages = pages; free = [] }
 empty-set n pages = rw (marked-none (replicate n 0) pages (slice_index-zeros n)) refl
 
-pub empty-bitmap : (n pages : ℕ) → pages ≤ 64 * n → IsBitmap (replicate n 0) pages 0 0
-empty-bitmap n pages covers = record {
+pub empty-bitmap : (n m pages : ℕ) → pages ≤ 64 * n → n ≤ 64 * m → IsBitmap (replicate n 0) (replicate m 0) pages 0
+empty-bitmap n m pages covers summed = record {
   covers = rw length-replicate covers;
   exist = λ q is. absurd (true≢false (sym is ∙ rw (slice_index-zeros n (q / 64), bit_at-zero (q % 64)) refl));
   counted = rw (marked-none (replicate n 0) pages (slice_index-zeros n)) refl;
-  starts = omega arith;
-  skipped = λ k lt. absurd (omega arith);
+  summed = record {
+    covers = rw (length-replicate, length-replicate) summed;
+    tells = λ k. rw (slice_index-zeros m (k / 64), slice_index-zeros n k, bit_at-zero (k % 64)) refl;
+  };
 }

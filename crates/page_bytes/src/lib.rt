@@ -6,4 +6,4 @@
 
 pub mod page;
 
-pub use page::{PAGE_BYTES, fill_page_bytes, read_page};
+pub use page::{fill_page_bytes, read_page};

@@ -1,5 +1,6 @@
 -- What layers above a device say of runs of its calls.
-use Rattle.std.proofs.Common.{◌≡◌, ◌⊎◌, inl, inr, ⊎_elim, ℕ, zero, suc, ◌+◌, ◌-◌, ◌<◌, ◌≤◌, Bool, true, List, [], ◌∷◌, length, refl, sym, ◌∙◌, ap, subst, arith}
+use Rattle.std.proofs.Common.{◌≡◌, ◌⊎◌, inl, inr, ⊎_elim, ℕ, zero, suc, ◌+◌, ◌-◌, ◌<◌, ◌≤◌, Bool, true, List, [], ◌∷◌, length, refl, sym, ◌∙◌, ap}
+use Rattle.std.proofs.Common.{subst, arith}
 use Rattle.std.specs.Prelude.{slice_index, Option}
 use Rattle.std.proofs.lemmas.Bool.{cases_lt}
 use Rattle.pm_device.specs.Past.{Past, moment, word_at}
@@ -17,7 +18,8 @@ use Rattle.pm_device.proofs.OneWord.{settled_if_left, reads-stores}
 pub settled_new : (words : List ℕ) (s : State) (a : ℕ) → IsNew words s → IsSettled s a
 unfolding word_at
 settled_new words s a new =
-    subst (λ (o : Option Past). OfWord o a (Each (IsRead s a))) (sym new.past) (λ i late lt. only_first i lt ∙ ap (λ xs. slice_index xs a) (sym new.now))
+    subst (λ (o : Option Past). OfWord o a (Each (IsRead s a))) (sym new.past)
+    (λ i late lt. only_first i lt ∙ ap (λ xs. slice_index xs a) (sym new.now))
   where
     only_first : (i : ℕ) → i < 1 → slice_index (slice_index words a ∷ []) i ≡ slice_index words a
     only_first zero lt = refl
@@ -34,11 +36,13 @@ leaves_only-then s t u P first next = record {
 }
 
 -- a run of calls that stores to the words W alone, where a fact of images doesn't look at them
-pub leaves_only-only : (W : ℕ → Type 0) (s t : State) (P : List ℕ → Type 0) → StoresOnly W s t → ((c : List ℕ) → IsOldBut W s c → P c) → LeavesOnly s t P
+pub leaves_only-only : (W : ℕ → Type 0) (s t : State) (P : List ℕ → Type 0) → StoresOnly W s t → ((c : List ℕ) → IsOldBut W s c → P c)
+    → LeavesOnly s t P
 leaves_only-only W s t P only gives = record { extends = only.extends; each = λ m c late left. gives c (only.images m c late left) }
 
 -- while other words are stored to, what is said reads the same in each image
-pub leaves_only-stores : (W : ℕ → Type 0) (s t : State) (says : ℕ → ℕ → Type 0) → StoresOnly W s t → ((a v : ℕ) → says a v → W a → ⊥) → Stands says s → LeavesOnly s t (Reads says)
+pub leaves_only-stores : (W : ℕ → Type 0) (s t : State) (says : ℕ → ℕ → Type 0) → StoresOnly W s t → ((a v : ℕ) → says a v → W a → ⊥)
+    → Stands says s → LeavesOnly s t (Reads says)
 leaves_only-stores W s t says only apart stands = record { extends = only.extends; each = reads-stores W s t only says apart stands }
 
 -- what stands is read in each image of now
@@ -48,14 +52,16 @@ leaves_now-stands s says agree stands c left a v told =
 
 -- a settled word stays settled while others are stored to
 pub settled-stores : (W : ℕ → Type 0) (s t : State) (a : ℕ) → StoresOnly W s t → (W a → ⊥) → IsSettled s a → IsSettled t a
-settled-stores W s t a only out = settled_if_left s.past t.past a (slice_index s.now a) (slice_index t.now a) only.extends (only.read a out) (λ v. only.left a v out)
+settled-stores W s t a only out =
+    settled_if_left s.past t.past a (slice_index s.now a) (slice_index t.now a) only.extends (only.read a out) (λ v. only.left a v out)
 
 -- what an actor prepared stays so while others store elsewhere, and while no fence of its own fails
-pub ready-stores : (Q W : ℕ → Type 0) (who : ℕ) (s t : State) (fresh : ℕ → ℕ → Type 0) → StoresOnly W s t → KeepsFlushed Q W s t → Q who → ((a v : ℕ) → fresh a v → W a → ⊥) → IsReady who fresh s → IsReady who fresh t
+pub ready-stores : (Q W : ℕ → Type 0) (who : ℕ) (s t : State) (fresh : ℕ → ℕ → Type 0) → StoresOnly W s t → KeepsFlushed Q W s t → Q who
+    → ((a v : ℕ) → fresh a v → W a → ⊥) → IsReady who fresh s → IsReady who fresh t
 ready-stores Q W who s t fresh only keeps is_kept apart ready = record {
   within = λ a v new. omega (arith, ready.within a v new, only.words);
   reads = λ a v new. only.read a (apart a v new) ∙ ready.reads a v new;
-  flushed = λ a v new. keeps.flushed who a is_kept (apart a v new) (ready.flushed a v new);
+  flushed = λ a v new. keeps.flushed who a is_kept (apart a v new) (ready.within a v new) (ready.flushed a v new);
 }
 
 pub stands-weaken : (s : State) (f g : ℕ → ℕ → Type 0) → ((a v : ℕ) → g a v → f a v) → Stands f s → Stands g s
@@ -95,10 +101,13 @@ stands_is_ready who s says stands = record {
 }
 
 -- a run that was written is prepared
-pub run_is_ready : (who at : ℕ) (values : List ℕ) (s : State) → at + length values ≤ length s.now → HoldsRun who at values s → IsReady who (SaysRun at values) s
+pub run_is_ready : (who at : ℕ) (values : List ℕ) (s : State) → at + length values ≤ length s.now → HoldsRun who at values s
+    → IsReady who (SaysRun at values) s
 run_is_ready who at values s fits holds = record {
   within = λ a v said. omega (arith, said.0.1, fits);
-  reads = λ a v said. let place = here a said.0.0 in ap (slice_index s.now) (sym place) ∙ holds.reads (a - at) (omega (arith, said.0.0, said.0.1)) ∙ sym said.1;
+  reads = λ a v said. let place = here a said.0.0 in
+      ap (slice_index s.now) (sym place) ∙ holds.reads (a - at) (omega (arith, said.0.0, said.0.1))
+      ∙ sym said.1;
   flushed = λ a v said. subst (IsFlushed who s) (here a said.0.0) (holds.flushed (a - at) (omega (arith, said.0.0, said.0.1)));
 }
   where
@@ -122,7 +131,8 @@ ready-fence s t who ok fresh went fences ready = record {
 }
 
 -- so it does after any run of calls that stored elsewhere and settled what its actor had flushed
-pub ready-settles : (W : ℕ → Type 0) (who : ℕ) (s t : State) (fresh : ℕ → ℕ → Type 0) → StoresOnly W s t → Settles who s t → ((a v : ℕ) → fresh a v → W a → ⊥) → IsReady who fresh s → Stands fresh t
+pub ready-settles : (W : ℕ → Type 0) (who : ℕ) (s t : State) (fresh : ℕ → ℕ → Type 0) → StoresOnly W s t → Settles who s t
+    → ((a v : ℕ) → fresh a v → W a → ⊥) → IsReady who fresh s → Stands fresh t
 ready-settles W who s t fresh only settles apart ready = record {
   within = λ a v new. omega (arith, ready.within a v new, only.words);
   reads = λ a v new. only.read a (apart a v new) ∙ ready.reads a v new;

@@ -1,15 +1,17 @@
 -- A word is stored, flushed and fenced: what images have on the way where it is settled before, and what is settled in the end.
-use Rattle.std.proofs.Common.{◌≡◌, ◌≢◌, ◌⊎◌, inl, inr, ℕ, ◌-◌, ◌/◌, ◌<◌, Bool, true, [], ◌∷◌, length, refl, ◌∙◌, ap, arith, length-set, get_or-set_same}
+use Rattle.std.proofs.Common.{◌≡◌, ◌≢◌, ◌⊎◌, inl, inr, ℕ, ◌-◌, ◌/◌, ◌<◌, Bool, true, [], ◌∷◌, length, refl, ◌∙◌, ap, arith, length-set}
+use Rattle.std.proofs.Common.{get_or-set_same}
 use Rattle.std.specs.Prelude.{slice_index, Result, Ok, Err, OnOk}
 use Rattle.pm_device.specs.Past.{Stored, Flushed, Fenced}
 use Rattle.pm_device.specs.State.{State, Stores, Flushes, Fences, Agree}
-use Rattle.pm_device.specs.Settled.{EachLeft, IsRead, IsSettled, LeavesOnly, LeavesNow, StoresOnly, KeepsFlushed, Anyone, Others}
+use Rattle.pm_device.specs.Settled.{EachLeft, IsRead, IsSettled, LeavesOnly, LeavesNow, StoresOnly, KeepsFlushed, Anyone, Others, SettlesAll}
 use Rattle.pm_device.specs.Commit.{IsDone, LeavesOneWord}
 use Rattle.pm_device.specs.Words.{IsIn}
-use Rattle.pm_device.proofs.Calls.{each_left-store_in, each_left-weaken, each_left-flush, each_left-fence, settled-store_out, settled-flush, settled-fence, flushed-fence, read-store_out, image_has, flush_flushes}
+use Rattle.pm_device.proofs.Calls.{each_left-store_in, each_left-weaken, each_left-flush, each_left-fence, settled-store_out, settled-flush}
+use Rattle.pm_device.proofs.Calls.{settled-fence, flushed-fence, read-store_out, image_has, flush_flushes}
 use Rattle.pm_device.proofs.Only.{stores_only-store, stores_only-flush, stores_only-fence, stores_only-then, stores_only-weaken}
-use Rattle.pm_device.proofs.Flushed.{keeps-store, keeps-flush, keeps-fence, keeps-then, keeps-weaken}
-use Rattle.pm_device.proofs.StoredRun.{flushed-store_out, flushed-flush}
+use Rattle.pm_device.proofs.Flushed.{flushed-store_out, flushed-flush, keeps-store, keeps-flush, keeps-fence, keeps-then, keeps-weaken}
+use Rattle.pm_device.proofs.AllFlushed.{settles_word}
 use Rattle.pm_device.proofs.Moments.{started, goes_on}
 
 -- a store of one word, a flush and a fence
@@ -35,13 +37,17 @@ module _ (who at value : ℕ) (s u v x : State) (ok : Bool) (is : Sets who at va
   apart a ne h = ne (omega (arith, h.0, h.1))
 
   rest_u : Rest u
-  rest_u a lt settled ne = (settled-store_out s u a at (value ∷ []) is.stores (apart a ne) settled, read-store_out s u a at (value ∷ []) is.stores (apart a ne))
+  rest_u a lt settled ne =
+      (settled-store_out s u a at (value ∷ []) is.stores (apart a ne) settled, read-store_out s u a at (value ∷ []) is.stores (apart a ne))
 
   rest_v : Rest v
-  rest_v a lt settled ne = (settled-flush u v a who (at / 8) 1 is.flushes (rest_u a lt settled ne).0, ap (λ xs. slice_index xs a) is.flushes.now ∙ (rest_u a lt settled ne).1)
+  rest_v a lt settled ne =
+      let u_rest = rest_u a lt settled ne in
+      (settled-flush u v a who (at / 8) 1 is.flushes u_rest.0, ap (λ xs. slice_index xs a) is.flushes.now ∙ u_rest.1)
 
   rest_x : Rest x
-  rest_x a lt settled ne = (settled-fence v x a who ok is.last (rest_v a lt settled ne).0, ap (λ xs. slice_index xs a) is.last.now ∙ (rest_v a lt settled ne).1)
+  rest_x a lt settled ne =
+      (settled-fence v x a who ok is.last (rest_v a lt settled ne).0, ap (λ xs. slice_index xs a) is.last.now ∙ (rest_v a lt settled ne).1)
 
   long_u : length u.now ≡ length s.now
   long_u = ap length is.stores.now ∙ length-set s.now at value
@@ -52,7 +58,8 @@ module _ (who at value : ℕ) (s u v x : State) (ok : Bool) (is : Sets who at va
   long_x : length x.now ≡ length s.now
   long_x = ap length is.last.now ∙ long_v
 
-  either_leaves : (y : State) → Agree y.now y.past → length y.now ≡ length s.now → EachLeft y at Either → Rest y → LeavesNow y (LeavesOneWord at value s)
+  either_leaves : (y : State) → Agree y.now y.past → length y.now ≡ length s.now → EachLeft y at Either → Rest y
+      → LeavesNow y (LeavesOneWord at value s)
   either_leaves y agree long either rest c left = record {
     word = image_has y c at Either agree left (omega (arith, long, is.inside)) either;
     others = λ a lt settled ne. image_has y c a (IsRead y a) agree left (omega (arith, long)) (rest a lt settled ne).0 ∙ (rest a lt settled ne).1;
@@ -84,9 +91,11 @@ module _ (who at value : ℕ) (s u v x : State) (ok : Bool) (is : Sets who at va
   pub done : ok ≡ true → IsDone who at value s x
   done went = record {
     now = is.last.now ∙ is.flushes.now ∙ is.stores.now;
-    word = flushed-fence v x at who ok went is.last (flush_flushes u v at who (at / 8) 1 is.agree_u is.flushes (omega arith) (omega arith) (omega (arith, long_u, is.inside)));
+    word =
+        flushed-fence v x at who ok went is.last
+        (flush_flushes u v at who (at / 8) 1 is.agree_u is.flushes (omega arith) (omega arith) (omega (arith, long_u, is.inside)));
     flushed = λ a lt flushed ne. flushed-fence v x a who ok went is.last
-        (flushed-flush u v a who (at / 8) 1 is.flushes who is.agree_u (omega (arith, long_u)) (flushed-store_out s u a who at (value ∷ []) is.stores (apart a ne) flushed));
+        (flushed-flush u v who a who (at / 8) 1 is.flushes (flushed-store_out s u who a at (value ∷ []) is.stores (apart a ne) flushed));
   }
 
   abbrev At : ℕ → Type 0
@@ -94,14 +103,20 @@ module _ (who at value : ℕ) (s u v x : State) (ok : Bool) (is : Sets who at va
 
   pub only : StoresOnly At s x
   only =
-      let one : StoresOnly At s u = stores_only-weaken (IsIn at 1) At s u (λ a h. omega (arith, h.0, h.1)) (stores_only-store s u at (value ∷ []) is.agree_s is.agree_u is.stores) in
-      stores_only-then At s v x (stores_only-then At s u v one (stores_only-flush At u v who (at / 8) 1 is.agree_u is.agree_v is.flushes)) (stores_only-fence At v x who ok is.agree_v is.agree_x is.last)
+      let run = stores_only-store s u at (value ∷ []) is.agree_s is.agree_u is.stores in
+      let one : StoresOnly At s u = stores_only-weaken (IsIn at 1) At s u (λ a h. omega (arith, h.0, h.1)) run in
+      let front = stores_only-then At s u v one (stores_only-flush At u v who (at / 8) 1 is.agree_u is.agree_v is.flushes) in
+      stores_only-then At s v x front (stores_only-fence At v x who ok is.agree_v is.agree_x is.last)
 
   pub others : KeepsFlushed (Others who) At s x
   others =
       let Q = Others who in
-      let one : KeepsFlushed Q At s u = keeps-weaken Anyone Q (IsIn at 1) At s u (λ q other. tt) (λ a h. omega (arith, h.0, h.1)) (keeps-store s u at (value ∷ []) is.stores) in
+      let run = keeps-store s u at (value ∷ []) is.stores in
+      let one : KeepsFlushed Q At s u = keeps-weaken Anyone Q (IsIn at 1) At s u (λ q other. tt) (λ a h. omega (arith, h.0, h.1)) run in
       keeps-then Q At s v x (keeps-then Q At s u v one (keeps-flush Q At u v who (at / 8) 1 is.flushes)) (keeps-fence At v x who ok is.last)
+
+  pub settles_all : ok ≡ true → SettlesAll who s x
+  settles_all went = settles_word who at value s x others (done went)
 
 pub on_ok_map : {T E : Type 0} (r : Result T E) (P Q : Type 0) → (P → Q) → OnOk r P → OnOk r Q
 on_ok_map (Ok x) P Q f holds = f holds

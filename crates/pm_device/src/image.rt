@@ -1,5 +1,5 @@
-// The image that a pick takes among those that a stop may leave. The record is read three times, and each word
-// has two numbers meanwhile: the place of its last value, and of the first that the stop may leave.
+// The image that a pick takes among those that a crash may leave. The record is read three times, and each word
+// has two numbers meanwhile: the place of its last value, and of the first that the crash may leave.
 ghost use Rattle.std.specs.Prelude.{◌≡◌, ℕ, ◌+◌, ◌-◌, ◌*◌, ◌^◌, ◌<◌, ◌≤◌, ◌&&◌, if◌then◌else◌, nat_lt, true, false, length, slice_index, vec_len, unwrap_or, IfOk, OnOk};
 ghost use Rattle.std.specs.List.{list_all};
 ghost use Rattle.std.specs.Ordering.{nat_cmp};
@@ -15,8 +15,10 @@ use std::collections::BTreeMap;
 
 // Notes a fence as its actor's next. Answers whether the entry is a flush whose actor's next fence succeeds.
 fn note_fence(next: &mut BTreeMap<u32, bool>, entry: Entry) -> Result<bool, AllocError>
-    ensures flush { IfOk result (λ b. b ≡ is_flush_by (λ who. unwrap_or (get nat_cmp next.old who) false) entry) }
-    ensures next { OnOk result ((who : ℕ) → unwrap_or (get nat_cmp next.new who) false ≡ fenced_by who entry (unwrap_or (get nat_cmp next.old who) false)) }
+    ensures flush { IfOk result
+        (λ b. b ≡ is_flush_by (λ who. unwrap_or (get nat_cmp next.old who) false) entry) }
+    ensures next { OnOk result ((who : ℕ) → unwrap_or (get nat_cmp next.new who) false ≡ fenced_by
+        who entry (unwrap_or (get nat_cmp next.old who) false)) }
 {
     match entry {
         Entry::Ran { .. } => Ok(false),
@@ -50,7 +52,9 @@ struct Places {
 fn add_one(counts: &mut Vec<u64>, at: usize, len: usize)
     requires inside { at + len ≤ vec_len counts.old }
     requires small { (a : ℕ) → slice_index counts.old.items a < 2 ^ 63 }
-    ensures each { (a : ℕ) → a < vec_len counts.old → slice_index counts.new.items a ≡ (if covers at len a then slice_index counts.old.items a + 1 else slice_index counts.old.items a) }
+    ensures each { (a : ℕ) → a < vec_len counts.old → slice_index counts.new.items
+        a ≡ (if covers at len a then slice_index counts.old.items a + 1 else slice_index
+        counts.old.items a) }
     ensures len { vec_len counts.new ≡ vec_len counts.old }
 {
     for a in at..at + len {
@@ -62,7 +66,9 @@ impl Places {
     // Nothing older than the last value of these words may be left in the end.
     fn settle(&mut self, at: usize, len: usize)
         requires inside { at + len ≤ vec_len self.old.last }
-        ensures each { (a : ℕ) → a < vec_len self.old.last → slice_index self.new.durable.items a ≡ (if covers at len a then slice_index self.old.last.items a else slice_index self.old.durable.items a) }
+        ensures each { (a : ℕ) → a < vec_len self.old.last → slice_index self.new.durable.items
+            a ≡ (if covers at len a then slice_index self.old.last.items a else slice_index
+            self.old.durable.items a) }
         ensures last { self.new.last ≡ self.old.last }
     {
         for a in at..at + len {
@@ -73,8 +79,11 @@ impl Places {
     fn note(&mut self, entry: Entry, fenced: bool)
         requires inside { is_inside (vec_len self.old.last) entry ≡ true }
         requires small { (a : ℕ) → slice_index self.old.last.items a < 2 ^ 63 }
-        ensures last { (a : ℕ) → a < vec_len self.old.last → slice_index self.new.last.items a ≡ last_after a (slice_index self.old.last.items a) entry }
-        ensures durable { (a : ℕ) → a < vec_len self.old.last → slice_index self.new.durable.items a ≡ durable_after a (slice_index self.old.last.items a) (slice_index self.old.durable.items a) entry fenced }
+        ensures last { (a : ℕ) → a < vec_len self.old.last → slice_index self.new.last.items
+            a ≡ last_after a (slice_index self.old.last.items a) entry }
+        ensures durable { (a : ℕ) → a < vec_len self.old.last → slice_index self.new.durable.items
+            a ≡ durable_after a (slice_index self.old.last.items a)
+            (slice_index self.old.durable.items a) entry fenced }
         ensures len { vec_len self.new.last ≡ vec_len self.old.last }
     {
         match entry {
@@ -128,8 +137,11 @@ fn picked_place(pick: u64, a: u64, count: u64) -> u64
 // The place that the pick takes in each word.
 fn choose(places: Places, pick: u64) -> Vec<u64>
     requires small { (a : ℕ) → slice_index places.last.items a < 2 ^ 63 }
-    requires durable { (a : ℕ) → slice_index places.durable.items a ≤ slice_index places.last.items a }
-    ensures each { (a : ℕ) → a < vec_len places.last → slice_index result.items a ≡ slice_index places.durable.items a + picked_place pick a (slice_index places.last.items a - slice_index places.durable.items a + 1) }
+    requires durable { (a : ℕ) → slice_index places.durable.items a ≤ slice_index places.last.items
+        a }
+    ensures each { (a : ℕ) → a < vec_len places.last → slice_index result.items a ≡ slice_index
+        places.durable.items a + picked_place pick a (slice_index places.last.items a - slice_index
+        places.durable.items a + 1) }
     ensures len { vec_len result ≡ vec_len places.last }
 {
     let Places { last, durable } = places;
@@ -145,8 +157,13 @@ fn choose(places: Places, pick: u64) -> Vec<u64>
 fn apply_run(image: &mut Vec<u64>, left: &mut Vec<u64>, at: usize, values: &[u64])
     requires inside { at + length values.now ≤ vec_len image.old }
     requires lengths { vec_len left.old ≡ vec_len image.old }
-    ensures values { (a : ℕ) → a < vec_len image.old → slice_index image.new.items a ≡ (if covers at (length values.now) a && nat_lt 0 (slice_index left.old.items a) then slice_index values.now (a - at) else slice_index image.old.items a) }
-    ensures left { (a : ℕ) → a < vec_len image.old → slice_index left.new.items a ≡ (if covers at (length values.now) a && nat_lt 0 (slice_index left.old.items a) then slice_index left.old.items a - 1 else slice_index left.old.items a) }
+    ensures values { (a : ℕ) → a < vec_len image.old → slice_index image.new.items
+        a ≡ (if covers at (length values.now) a && nat_lt 0 (slice_index left.old.items a) then
+        slice_index values.now (a - at) else slice_index image.old.items a) }
+    ensures left { (a : ℕ) → a < vec_len image.old
+        → slice_index left.new.items a ≡ (if covers at (length values.now) a && nat_lt 0
+        (slice_index left.old.items a) then slice_index left.old.items a - 1 else slice_index
+        left.old.items a) }
     ensures image_len { vec_len image.new ≡ vec_len image.old }
     ensures left_len { vec_len left.new ≡ vec_len left.old }
 {
@@ -162,8 +179,12 @@ fn apply_entry(image: &mut Vec<u64>, left: &mut Vec<u64>, kept: &[u64], entry: E
     requires whole { is_whole (length kept.now) entry ≡ true }
     requires inside { is_inside (vec_len image.old) entry ≡ true }
     requires lengths { vec_len left.old ≡ vec_len image.old }
-    ensures values { (a : ℕ) → a < vec_len image.old → slice_index image.new.items a ≡ (if is_applied a (slice_index left.old.items a) entry then value_in kept.now a entry else slice_index image.old.items a) }
-    ensures left { (a : ℕ) → a < vec_len image.old → slice_index left.new.items a ≡ (if is_applied a (slice_index left.old.items a) entry then slice_index left.old.items a - 1 else slice_index left.old.items a) }
+    ensures values { (a : ℕ) → a < vec_len image.old → slice_index image.new.items
+        a ≡ (if is_applied a (slice_index left.old.items a) entry then value_in kept.now a entry
+        else slice_index image.old.items a) }
+    ensures left { (a : ℕ) → a < vec_len image.old
+        → slice_index left.new.items a ≡ (if is_applied a (slice_index left.old.items a) entry then
+        slice_index left.old.items a - 1 else slice_index left.old.items a) }
     ensures image_len { vec_len image.new ≡ vec_len image.old }
     ensures left_len { vec_len left.new ≡ vec_len left.old }
 {
@@ -177,7 +198,8 @@ fn apply(image: &mut Vec<u64>, left: &mut Vec<u64>, kept: &[u64], entries: &[Ent
     requires whole { list_all (is_whole (length kept.now)) entries.now ≡ true }
     requires inside { list_all (is_inside (vec_len image.old)) entries.now ≡ true }
     requires lengths { vec_len left.old ≡ vec_len image.old }
-    ensures each { (a : ℕ) → a < vec_len image.old → slice_index image.new.items a ≡ value_after kept.now a (slice_index image.old.items a) (slice_index left.old.items a) entries.now }
+    ensures each { (a : ℕ) → a < vec_len image.old → slice_index image.new.items a ≡ value_after
+        kept.now a (slice_index image.old.items a) (slice_index left.old.items a) entries.now }
     ensures len { vec_len image.new ≡ vec_len image.old }
 {
     for k in 0..entries.len() {

@@ -1,4 +1,4 @@
-// Small runs of calls, with what a stop may leave of one word written down by hand.
+// Small runs of calls, with what a crash may leave of one word written down by hand.
 use crate::commit::commit;
 use crate::page::fill_page;
 use crate::run::store_words;

@@ -1,5 +1,35 @@
 -- A run of words that is copied into place, and flushes that are forgotten.
-use Rattle.std.proofs.Common.{◌≡◌, inl, inr, ℕ, ◌+◌, ◌-◌, ◌<◌, ◌≤◌, Bool, true, false, cond, List, [], ◌∷◌, ◌++◌, length, take, drop, refl, sym, ◌∙◌, ap, arith, length-append, length-take-le, length-drop, get_or-take, get_or-drop}
+use Rattle.std.proofs.Common.{
+  ◌≡◌,
+  inl,
+  inr,
+  ℕ,
+  ◌+◌,
+  ◌-◌,
+  ◌<◌,
+  ◌≤◌,
+  Bool,
+  true,
+  false,
+  cond,
+  List,
+  [],
+  ◌∷◌,
+  ◌++◌,
+  length,
+  take,
+  drop,
+  refl,
+  sym,
+  ◌∙◌,
+  ap,
+  arith,
+  length-append,
+  length-take-le,
+  length-drop,
+  get_or-take,
+  get_or-drop,
+}
 use Rattle.std.specs.Prelude.{slice_index}
 use Rattle.std.specs.List.{list_all, filter}
 use Rattle.std.proofs.lemmas.Bool.{cases_lt}
@@ -17,9 +47,18 @@ copied xs vs at fits = same_number_lists _ _ same_length each
     front = length-take-le at xs (omega arith)
 
     same_length : length (take at xs ++ (vs ++ drop (length vs) (drop at xs))) ≡ length (put_run xs at vs)
-    same_length = omega (arith, length-append (take at xs) (vs ++ drop (length vs) (drop at xs)), length-append vs (drop (length vs) (drop at xs)), length-drop (length vs) (drop at xs), length-drop at xs, length-put_run xs at vs, front)
+    same_length = omega (
+      arith,
+      length-append (take at xs) (vs ++ drop (length vs) (drop at xs)),
+      length-append vs (drop (length vs) (drop at xs)),
+      length-drop (length vs) (drop at xs),
+      length-drop at xs,
+      length-put_run xs at vs,
+      front,
+    )
 
-    each : (k : ℕ) → k < length (take at xs ++ (vs ++ drop (length vs) (drop at xs))) → slice_index (take at xs ++ (vs ++ drop (length vs) (drop at xs))) k ≡ slice_index (put_run xs at vs) k
+    each : (k : ℕ) → k < length (take at xs ++ (vs ++ drop (length vs) (drop at xs)))
+        → slice_index (take at xs ++ (vs ++ drop (length vs) (drop at xs))) k ≡ slice_index (put_run xs at vs) k
     each k lt =
         let long = length-put_run xs at vs in
         elim (cases_in at (length vs) k) [
@@ -28,7 +67,8 @@ copied xs vs at fits = same_number_lists _ _ same_length each
               ∙ get_or_append_left vs (drop (length vs) (drop at xs)) 0 (k - at) (omega (arith, in_run.0, in_run.1))
               ∙ sym (put_run_in xs at vs k in_run.0 in_run.1 (omega (arith, fits, in_run.1)))
           | inr out ↦ elim (cases_lt k at) [
-            | inl low ↦ get_or_append_left (take at xs) (vs ++ drop (length vs) (drop at xs)) 0 k (omega (arith, front, low)) ∙ get_or-take at xs k 0 low ∙ sym (put_run_out xs at vs k out)
+            | inl low ↦ get_or_append_left (take at xs) (vs ++ drop (length vs) (drop at xs)) 0 k (omega (arith, front, low)) ∙ get_or-take at xs k 0
+                low ∙ sym (put_run_out xs at vs k out)
             | inr high ↦
                 let past : at + length vs ≤ k = elim (cases_lt k (at + length vs)) [ inl lt ↦ absurd (out (high, lt)) | inr le ↦ le ] in
                 let back : at + (length vs + (k - at - length vs)) ≡ k = omega arith in
@@ -40,12 +80,15 @@ copied xs vs at fits = same_number_lists _ _ same_length each
         ]
 
 -- so it is where the part is lent and given back
-pub copied_back : (words vs part lent : List ℕ) (at n len : ℕ) → lent ≡ words → part ≡ vs → n ≡ length vs → len ≡ length words → at + length vs ≤ length words
+pub copied_back : (words vs part lent : List ℕ) (at n len : ℕ) → lent ≡ words → part ≡ vs → n ≡ length vs → len ≡ length words
+    → at + length vs ≤ length words
     → let new = take at lent ++ (part ++ drop n (drop at lent)) in take len (new ++ drop (length new) words) ≡ put_run words at vs
 copied_back words vs part lent at n len read given many all fits =
     ap (λ xs. take len ((take at xs ++ (part ++ drop n (drop at xs))) ++ drop (length (take at xs ++ (part ++ drop n (drop at xs)))) words)) read
-    ∙ ap (λ xs. take len ((take at words ++ (xs ++ drop n (drop at words))) ++ drop (length (take at words ++ (xs ++ drop n (drop at words)))) words)) given
-    ∙ ap (λ k. take len ((take at words ++ (vs ++ drop k (drop at words))) ++ drop (length (take at words ++ (vs ++ drop k (drop at words)))) words)) many
+    ∙ ap (λ xs. take len ((take at words ++ (xs ++ drop n (drop at words))) ++ drop (length (take at words ++ (xs ++ drop n (drop at words)))) words))
+    given
+    ∙ ap (λ k. take len ((take at words ++ (vs ++ drop k (drop at words))) ++ drop (length (take at words ++ (vs ++ drop k (drop at words)))) words))
+    many
     ∙ ap (λ xs. take len (xs ++ drop (length xs) words)) (copied words vs at fits)
     ∙ take_at (put_run words at vs) (drop (length (put_run words at vs)) words) len (omega (arith, all, length-put_run words at vs))
 

@@ -8,6 +8,7 @@ ghost use Rattle.pm_file.specs.Length.{is_length};
 use crate::OpenFault;
 use crate::transfer::{read_words, write_words};
 use pm_device::{Failed, Pm};
+use pm_layout::{MOST_PAGES, PAGE_BYTES};
 use std::alloc::AllocError;
 use std::fs::{File, Files, OpenFile, OpenOptions};
 use std::io;
@@ -79,7 +80,7 @@ fn raised(n: u64) -> u64
 fn check_length(bytes: u64) -> Result<(), OpenFault>
     ensures { result ≡ (if is_length bytes then Ok tt else Err (OpenFault.BadLength bytes)) }
 {
-    if bytes > 0 && bytes % 4096 == 0 && bytes <= 268_435_456 {
+    if bytes > 0 && bytes % PAGE_BYTES == 0 && bytes <= MOST_PAGES * PAGE_BYTES {
         Ok(())
     } else {
         Err(OpenFault::BadLength { bytes })
@@ -121,9 +122,12 @@ impl<F: Read + Write + Seek + OpenFile + Drop> FilePm<F> {
         wanted: Option<u64>,
     ) -> Result<FilePm<F>, OpenFault>
         ensures opened { IfOk result (λ d. IsOpened (⟦<FilePm<F> as Pm>⟧.state d)) }
-        ensures made { (n : ℕ) → wanted ≡ Some n → IfOk result (λ d. (⟦<FilePm<F> as Pm>⟧.state d).now ≡ replicate (512 * n) 0) }
-        ensures bad_length { (bytes : ℕ) → result ≡ Err (OpenFault.BadLength bytes) → is_length bytes ≡ false }
-        ensures bad_wanted { (n : ℕ) → wanted ≡ Some n → is_length (4096 * n) ≡ false → result ≡ Err (OpenFault.BadLength (min (4096 * n) (2 ^ 64 - 1))) }
+        ensures made { (n : ℕ) → wanted ≡ Some n
+            → IfOk result (λ d. (⟦<FilePm<F> as Pm>⟧.state d).now ≡ replicate (512 * n) 0) }
+        ensures bad_length { (bytes : ℕ) → result ≡ Err (OpenFault.BadLength bytes)
+            → is_length bytes ≡ false }
+        ensures bad_wanted { (n : ℕ) → wanted ≡ Some n → is_length (4096 * n) ≡ false
+            → result ≡ Err (OpenFault.BadLength (min (4096 * n) (2 ^ 64 - 1))) }
     {
         match wanted {
             Some(pages) => Self::make(rt, path, pages),
@@ -137,11 +141,14 @@ impl<F: Read + Write + Seek + OpenFile + Drop> FilePm<F> {
         pages: u64,
     ) -> Result<FilePm<F>, OpenFault>
         ensures opened { IfOk result (λ d. IsOpened (⟦<FilePm<F> as Pm>⟧.state d)) }
-        ensures made { IfOk result (λ d. (⟦<FilePm<F> as Pm>⟧.state d).now ≡ replicate (512 * pages) 0) }
-        ensures bad_length { (bytes : ℕ) → result ≡ Err (OpenFault.BadLength bytes) → is_length bytes ≡ false }
-        ensures bad_wanted { is_length (4096 * pages) ≡ false → result ≡ Err (OpenFault.BadLength (min (4096 * pages) (2 ^ 64 - 1))) }
+        ensures made { IfOk result (λ d. (⟦<FilePm<F> as Pm>⟧.state d).now ≡ replicate (512 * pages)
+            0) }
+        ensures bad_length { (bytes : ℕ) → result ≡ Err (OpenFault.BadLength bytes)
+            → is_length bytes ≡ false }
+        ensures bad_wanted { is_length (4096 * pages) ≡ false
+            → result ≡ Err (OpenFault.BadLength (min (4096 * pages) (2 ^ 64 - 1))) }
     {
-        let bytes = pages.saturating_mul(4096);
+        let bytes = pages.saturating_mul(PAGE_BYTES);
         check_length(bytes)?;
         let words = vec![in rt.alloc(); 0; (bytes / 8) as usize].map_err(|_| OpenFault::NoMemory)?;
         let file = make_file(rt, path, bytes).map_err(|_| OpenFault::Refused)?;
@@ -155,7 +162,8 @@ impl<F: Read + Write + Seek + OpenFile + Drop> FilePm<F> {
 
     fn load<R: Files<File = F> + AllocGlobal>(rt: &R, path: &str) -> Result<FilePm<F>, OpenFault>
         ensures opened { IfOk result (λ d. IsOpened (⟦<FilePm<F> as Pm>⟧.state d)) }
-        ensures bad_length { (bytes : ℕ) → result ≡ Err (OpenFault.BadLength bytes) → is_length bytes ≡ false }
+        ensures bad_length { (bytes : ℕ) → result ≡ Err (OpenFault.BadLength bytes)
+            → is_length bytes ≡ false }
     {
         let (mut file, bytes) = find_file(rt, path).map_err(|_| OpenFault::Refused)?;
         check_length(bytes)?;
@@ -197,9 +205,13 @@ impl<F: Write + Seek + OpenFile> Pm for FilePm<F> {
 
     fn ready(&mut self, units: u64) -> Result<(), AllocError>
         ensures ok { OnOk result (units ≤ (⟦<FilePm<F> as Pm>⟧.state self.new).spare) }
-        ensures err { OnErr result ((⟦<FilePm<F> as Pm>⟧.state self.new).spare ≡ (⟦<FilePm<F> as Pm>⟧.state self.old).spare) }
-        ensures same { IsSame (⟦<FilePm<F> as Pm>⟧.state self.old) (⟦<FilePm<F> as Pm>⟧.state self.new) }
-        ensures keeps { Keeps (⟦<FilePm<F> as Pm>⟧.state self.old) (⟦<FilePm<F> as Pm>⟧.may self.old) (⟦<FilePm<F> as Pm>⟧.may self.new) }
+        ensures err { OnErr result
+            ((⟦<FilePm<F> as Pm>⟧.state self.new).spare ≡
+            (⟦<FilePm<F> as Pm>⟧.state self.old).spare) }
+        ensures same { IsSame (⟦<FilePm<F> as Pm>⟧.state self.old)
+            (⟦<FilePm<F> as Pm>⟧.state self.new) }
+        ensures keeps { Keeps (⟦<FilePm<F> as Pm>⟧.state self.old)
+            (⟦<FilePm<F> as Pm>⟧.may self.old) (⟦<FilePm<F> as Pm>⟧.may self.new) }
         ensures pending { pending self.new ≡ pending self.old }
     {
         self.flushed.reserve(units as usize)
@@ -208,8 +220,10 @@ impl<F: Write + Seek + OpenFile> Pm for FilePm<F> {
     fn store(&mut self, at: u64, value: u64)
         requires inside { at < length (⟦<FilePm<F> as Pm>⟧.state self.old).now }
         requires room { 1 ≤ (⟦<FilePm<F> as Pm>⟧.state self.old).spare }
-        ensures stores { Stores at (value ∷ []) (⟦<FilePm<F> as Pm>⟧.state self.old) (⟦<FilePm<F> as Pm>⟧.state self.new) }
-        ensures keeps { Keeps (⟦<FilePm<F> as Pm>⟧.state self.old) (⟦<FilePm<F> as Pm>⟧.may self.old) (⟦<FilePm<F> as Pm>⟧.may self.new) }
+        ensures stores { Stores at (value ∷ []) (⟦<FilePm<F> as Pm>⟧.state self.old)
+            (⟦<FilePm<F> as Pm>⟧.state self.new) }
+        ensures keeps { Keeps (⟦<FilePm<F> as Pm>⟧.state self.old)
+            (⟦<FilePm<F> as Pm>⟧.may self.old) (⟦<FilePm<F> as Pm>⟧.may self.new) }
         ensures pending { pending self.new ≡ pending self.old }
     {
         self.words[at as usize] = value;
@@ -219,8 +233,10 @@ impl<F: Write + Seek + OpenFile> Pm for FilePm<F> {
         requires some { 1 ≤ length values.now }
         requires inside { at + length values.now ≤ length (⟦<FilePm<F> as Pm>⟧.state self.old).now }
         requires room { length values.now ≤ (⟦<FilePm<F> as Pm>⟧.state self.old).spare }
-        ensures stores { Stores at values.now (⟦<FilePm<F> as Pm>⟧.state self.old) (⟦<FilePm<F> as Pm>⟧.state self.new) }
-        ensures keeps { Keeps (⟦<FilePm<F> as Pm>⟧.state self.old) (⟦<FilePm<F> as Pm>⟧.may self.old) (⟦<FilePm<F> as Pm>⟧.may self.new) }
+        ensures stores { Stores at values.now (⟦<FilePm<F> as Pm>⟧.state self.old)
+            (⟦<FilePm<F> as Pm>⟧.state self.new) }
+        ensures keeps { Keeps (⟦<FilePm<F> as Pm>⟧.state self.old)
+            (⟦<FilePm<F> as Pm>⟧.may self.old) (⟦<FilePm<F> as Pm>⟧.may self.new) }
         ensures pending { pending self.new ≡ pending self.old }
     {
         let first = at as usize;
@@ -231,9 +247,12 @@ impl<F: Write + Seek + OpenFile> Pm for FilePm<F> {
         requires some { 1 ≤ lines }
         requires inside { 8 * (first_line + lines) ≤ length (⟦<FilePm<F> as Pm>⟧.state self.old).now }
         requires room { lines ≤ (⟦<FilePm<F> as Pm>⟧.state self.old).spare }
-        ensures flushes { Flushes who first_line lines (⟦<FilePm<F> as Pm>⟧.state self.old) (⟦<FilePm<F> as Pm>⟧.state self.new) }
-        ensures keeps { Keeps (⟦<FilePm<F> as Pm>⟧.state self.old) (⟦<FilePm<F> as Pm>⟧.may self.old) (⟦<FilePm<F> as Pm>⟧.may self.new) }
-        ensures pending { pending self.new ≡ pending self.old ++ (record { who = who; first = first_line; lines = lines }) ∷ [] }
+        ensures flushes { Flushes who first_line lines (⟦<FilePm<F> as Pm>⟧.state self.old)
+            (⟦<FilePm<F> as Pm>⟧.state self.new) }
+        ensures keeps { Keeps (⟦<FilePm<F> as Pm>⟧.state self.old)
+            (⟦<FilePm<F> as Pm>⟧.may self.old) (⟦<FilePm<F> as Pm>⟧.may self.new) }
+        ensures pending { pending self.new ≡ pending self.old ++
+            (record { who = who; first = first_line; lines = lines }) ∷ [] }
     {
         let _ = self.flushed.push(Flushed {
             who,
@@ -244,8 +263,10 @@ impl<F: Write + Seek + OpenFile> Pm for FilePm<F> {
 
     fn fence(&mut self, who: u32) -> Result<(), Failed>
         requires room { 1 ≤ (⟦<FilePm<F> as Pm>⟧.state self.old).spare }
-        ensures fences { Fences who (is_ok result) (⟦<FilePm<F> as Pm>⟧.state self.old) (⟦<FilePm<F> as Pm>⟧.state self.new) }
-        ensures keeps { Keeps (⟦<FilePm<F> as Pm>⟧.state self.old) (⟦<FilePm<F> as Pm>⟧.may self.old) (⟦<FilePm<F> as Pm>⟧.may self.new) }
+        ensures fences { Fences who (is_ok result) (⟦<FilePm<F> as Pm>⟧.state self.old)
+            (⟦<FilePm<F> as Pm>⟧.state self.new) }
+        ensures keeps { Keeps (⟦<FilePm<F> as Pm>⟧.state self.old)
+            (⟦<FilePm<F> as Pm>⟧.may self.old) (⟦<FilePm<F> as Pm>⟧.may self.new) }
         ensures pending { pending self.new ≡ without who (pending self.old) }
     {
         let written = write_flushed(&mut self.file, &self.words, &self.flushed, who);

@@ -4,12 +4,12 @@ ghost use Rattle.std.specs.List.{flat_map};
 ghost use Rattle.byteorder.specs.Endian.{IsRead, little_bytes, little_number};
 
 use byteorder::{ByteOrder, LittleEndian};
+use pm_layout::PAGE_BYTES;
 use std::io;
 use std::io::{Read, Seek, SeekFrom, Write};
 
-const PAGE_BYTES: usize = 4096;
-
-const PAGE_WORDS: usize = 512;
+// The words of a page, as many as are transferred at once.
+const PAGE_WORDS: usize = pm_layout::PAGE_WORDS as usize;
 
 // The words of these bytes.
 fn decode(bytes: &[u8], words: &mut [u64])
@@ -32,7 +32,7 @@ pub(crate) fn read_words<F: Read>(file: &mut F, words: &mut Vec<u64>) -> io::Res
     requires { vec_len words.old % 512 ≡ 0 }
     ensures { vec_len words.new ≡ vec_len words.old }
 {
-    let mut piece = [0u8; PAGE_BYTES];
+    let mut piece = [0u8; PAGE_BYTES as usize];
     for k in 0..words.len() / PAGE_WORDS {
         file.read_exact(&mut piece)?;
         decode(&piece, &mut words[PAGE_WORDS * k..PAGE_WORDS * (k + 1)]);
@@ -45,7 +45,7 @@ pub(crate) fn write_words<F: Write + Seek>(file: &mut F, at: u64, words: &[u64])
     requires { at ≤ 33554432 }
 {
     file.seek(SeekFrom::Start(8 * at))?;
-    let mut piece = [0u8; PAGE_BYTES];
+    let mut piece = [0u8; PAGE_BYTES as usize];
     for page in words.chunks(PAGE_WORDS) {
         let bytes = &mut piece[..8 * page.len()];
         encode(page, bytes);

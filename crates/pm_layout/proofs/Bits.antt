@@ -8,7 +8,8 @@ use Rattle.pm_layout.specs.Geometry.{IsAccepted, bits_from, bits_of, slots}
 
 pub bits_from-found : (k b P : ℕ) → P ≤ 2 ^ b → bits_from k b P ≡ b
 bits_from-found zero b P le = refl
-bits_from-found (suc k) b P le = let t : nat_le P (2 ^ b) ≡ true = grind (arith, nat_tests) in ap (λ (c : Bool). if c then b else bits_from k (b + 1) P) t
+bits_from-found (suc k) b P le = let t : nat_le P (2 ^ b) ≡ true = grind (arith, nat_tests) in
+    ap (λ (c : Bool). if c then b else bits_from k (b + 1) P) t
 
 pub bits_from-next : (k j b P : ℕ) → k ≡ j + 1 → 2 ^ b < P → bits_from k b P ≡ bits_from j (b + 1) P
 bits_from-next zero j b P e lt = absurd (omega arith)

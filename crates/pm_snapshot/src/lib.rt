@@ -32,7 +32,12 @@ impl SnapshotPm {
 
     /// A device with these words. It takes no memory beside them.
     pub fn of_words(words: Vec<u64>) -> SnapshotPm
-        ensures { ⟦<SnapshotPm as Pm>⟧.state result ≡ record { now = words.items; past = None; faults = 0; spare = 0 } }
+        ensures { ⟦<SnapshotPm as Pm>⟧.state result ≡ record {
+          now = words.items;
+          past = None;
+          faults = 0;
+          spare = 0;
+        } }
     {
         SnapshotPm { words, spare: 0 }
     }
@@ -62,9 +67,13 @@ impl Pm for SnapshotPm {
 
     fn ready(&mut self, units: u64) -> Result<(), AllocError>
         ensures ok { OnOk result (units ≤ (⟦<SnapshotPm as Pm>⟧.state self.new).spare) }
-        ensures err { OnErr result ((⟦<SnapshotPm as Pm>⟧.state self.new).spare ≡ (⟦<SnapshotPm as Pm>⟧.state self.old).spare) }
-        ensures same { IsSame (⟦<SnapshotPm as Pm>⟧.state self.old) (⟦<SnapshotPm as Pm>⟧.state self.new) }
-        ensures keeps { Keeps (⟦<SnapshotPm as Pm>⟧.state self.old) (⟦<SnapshotPm as Pm>⟧.may self.old) (⟦<SnapshotPm as Pm>⟧.may self.new) }
+        ensures err { OnErr result
+            ((⟦<SnapshotPm as Pm>⟧.state self.new).spare ≡
+            (⟦<SnapshotPm as Pm>⟧.state self.old).spare) }
+        ensures same { IsSame (⟦<SnapshotPm as Pm>⟧.state self.old)
+            (⟦<SnapshotPm as Pm>⟧.state self.new) }
+        ensures keeps { Keeps (⟦<SnapshotPm as Pm>⟧.state self.old)
+            (⟦<SnapshotPm as Pm>⟧.may self.old) (⟦<SnapshotPm as Pm>⟧.may self.new) }
     {
         self.spare = units;
         Ok(())
@@ -73,8 +82,10 @@ impl Pm for SnapshotPm {
     fn store(&mut self, at: u64, value: u64)
         requires inside { at < length (⟦<SnapshotPm as Pm>⟧.state self.old).now }
         requires room { 1 ≤ (⟦<SnapshotPm as Pm>⟧.state self.old).spare }
-        ensures stores { Stores at (value ∷ []) (⟦<SnapshotPm as Pm>⟧.state self.old) (⟦<SnapshotPm as Pm>⟧.state self.new) }
-        ensures keeps { Keeps (⟦<SnapshotPm as Pm>⟧.state self.old) (⟦<SnapshotPm as Pm>⟧.may self.old) (⟦<SnapshotPm as Pm>⟧.may self.new) }
+        ensures stores { Stores at (value ∷ []) (⟦<SnapshotPm as Pm>⟧.state self.old)
+            (⟦<SnapshotPm as Pm>⟧.state self.new) }
+        ensures keeps { Keeps (⟦<SnapshotPm as Pm>⟧.state self.old)
+            (⟦<SnapshotPm as Pm>⟧.may self.old) (⟦<SnapshotPm as Pm>⟧.may self.new) }
     {
         self.words[at as usize] = value;
     }
@@ -83,26 +94,33 @@ impl Pm for SnapshotPm {
         requires some { 1 ≤ length values.now }
         requires inside { at + length values.now ≤ length (⟦<SnapshotPm as Pm>⟧.state self.old).now }
         requires room { length values.now ≤ (⟦<SnapshotPm as Pm>⟧.state self.old).spare }
-        ensures stores { Stores at values.now (⟦<SnapshotPm as Pm>⟧.state self.old) (⟦<SnapshotPm as Pm>⟧.state self.new) }
-        ensures keeps { Keeps (⟦<SnapshotPm as Pm>⟧.state self.old) (⟦<SnapshotPm as Pm>⟧.may self.old) (⟦<SnapshotPm as Pm>⟧.may self.new) }
+        ensures stores { Stores at values.now (⟦<SnapshotPm as Pm>⟧.state self.old)
+            (⟦<SnapshotPm as Pm>⟧.state self.new) }
+        ensures keeps { Keeps (⟦<SnapshotPm as Pm>⟧.state self.old)
+            (⟦<SnapshotPm as Pm>⟧.may self.old) (⟦<SnapshotPm as Pm>⟧.may self.new) }
     {
         put_values(&mut self.words, at as usize, values);
     }
 
     fn flush(&mut self, who: u32, first_line: u64, lines: u64)
         requires some { 1 ≤ lines }
-        requires inside { 8 * (first_line + lines) ≤ length (⟦<SnapshotPm as Pm>⟧.state self.old).now }
+        requires inside { 8 * (first_line + lines) ≤ length
+            (⟦<SnapshotPm as Pm>⟧.state self.old).now }
         requires room { lines ≤ (⟦<SnapshotPm as Pm>⟧.state self.old).spare }
-        ensures flushes { Flushes who first_line lines (⟦<SnapshotPm as Pm>⟧.state self.old) (⟦<SnapshotPm as Pm>⟧.state self.new) }
-        ensures keeps { Keeps (⟦<SnapshotPm as Pm>⟧.state self.old) (⟦<SnapshotPm as Pm>⟧.may self.old) (⟦<SnapshotPm as Pm>⟧.may self.new) }
+        ensures flushes { Flushes who first_line lines (⟦<SnapshotPm as Pm>⟧.state self.old)
+            (⟦<SnapshotPm as Pm>⟧.state self.new) }
+        ensures keeps { Keeps (⟦<SnapshotPm as Pm>⟧.state self.old)
+            (⟦<SnapshotPm as Pm>⟧.may self.old) (⟦<SnapshotPm as Pm>⟧.may self.new) }
     {
         let _ = (who, first_line, lines);
     }
 
     fn fence(&mut self, who: u32) -> Result<(), Failed>
         requires room { 1 ≤ (⟦<SnapshotPm as Pm>⟧.state self.old).spare }
-        ensures fences { Fences who (is_ok result) (⟦<SnapshotPm as Pm>⟧.state self.old) (⟦<SnapshotPm as Pm>⟧.state self.new) }
-        ensures keeps { Keeps (⟦<SnapshotPm as Pm>⟧.state self.old) (⟦<SnapshotPm as Pm>⟧.may self.old) (⟦<SnapshotPm as Pm>⟧.may self.new) }
+        ensures fences { Fences who (is_ok result) (⟦<SnapshotPm as Pm>⟧.state self.old)
+            (⟦<SnapshotPm as Pm>⟧.state self.new) }
+        ensures keeps { Keeps (⟦<SnapshotPm as Pm>⟧.state self.old)
+            (⟦<SnapshotPm as Pm>⟧.may self.old) (⟦<SnapshotPm as Pm>⟧.may self.new) }
     {
         let _ = who;
         Ok(())

@@ -30,7 +30,8 @@ use Rattle.fact_counts.specs.Counted.{LeavesTables, SettlesTable}
 use Rattle.fact_counts.proofs.Counting.{row_small}
 use Rattle.dn_volume.specs.Accounts.{AccountsFor}
 use Rattle.dn_volume.specs.Planned.{slot_of_row}
-use Rattle.dn_volume.specs.Agrees.{StandsFast}
+use Rattle.dn_volume.specs.Agrees.{StandsFast, HasNoStale}
+use Rattle.dn_volume.proofs.Heads.{none_stale_kept}
 use Rattle.dn_volume.specs.Events.{IsBetween}
 use Rattle.dn_volume.specs.Rely.{KeepsRow, KeepsRest, of_table, LeavesRest}
 
@@ -137,6 +138,10 @@ module _ (f : Row → CountWord) (who : ℕ) (d : Disk) (t : Table) (row : Row) 
 
   row_still : (r : Row) → Contains (rows d) r → KeepsRow e r
   row_still r has = record { still = set r; there = moved.kept r has; slot = refl; page = refl; print = refl }
+
+  pub no_stale_after : HasNoStale d → HasNoStale e
+  no_stale_after = none_stale_kept d e refl (λ page. refl)
+      (λ r has. record { row = set r; there = moved.kept r has; page_is = refl })
 
   pub rest_after : KeepsRest [] [] d e
   rest_after = record {

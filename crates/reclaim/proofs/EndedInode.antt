@@ -34,7 +34,7 @@ use Rattle.reclaim.proofs.NodesChanged.{nodes_are, nodes_kept}
 use Rattle.reclaim.proofs.SpaceGained.{space_gained, slots_stay}
 use Rattle.reclaim.proofs.RoomWorked.{MovesRoom, room_worked}
 use Rattle.reclaim.proofs.StillWorks.{still_works}
-use Rattle.reclaim.proofs.SteppedDisk.{step_leaves, step_fast}
+use Rattle.reclaim.proofs.SteppedDisk.{step_pointers, step_leaves, step_fast}
 use Rattle.reclaim.proofs.UnitsLost.{no_places, units_dying, units_free, units_move}
 use Rattle.reclaim.proofs.FallEvent.{same_rows, other_room}
 use Rattle.reclaim.proofs.FreedPlace.{counts_stay}
@@ -167,6 +167,7 @@ module _ (d : Disk) (b b' : Parts) (s u : State) (v : IsVolume d b s) (ino : ℕ
       table = slots_stay d after b.fact b'.fact (same_geometry d ino Ends) (end_living d ino may).rows_same change.fact v.table;
       counts = counts_stay d after b b' change.kept change.zero_check change.raised change.releases (end_living d ino may).rows_same (λ row has. (end_drops d ino may).mappings_same row.page) v.counts;
       reclaiming = reclaiming;
+      pointers = step_pointers d ino Ends 0 0 (omega arith) (end_one d ino may) (end_living d ino may) may.in_table v.pointers;
       room = room_worked b b' s u change.kept moves v.room (other_room d b b' s v EndsState ino may.before may.dying change.inodes);
       still = still_works b b' s u (λ a. a ≡ inode_word ino 0) (λ a. cases_eq a (inode_word ino 0)) only others (λ a is. subst (IsSettled u) (sym is) done.word) v.flights.clients (flight_same b b' change.kept) v.still;
     }

@@ -1,6 +1,7 @@
 -- The event of a release, from what its calls give.
-use Rattle.std.proofs.Common.{◌≡◌, ℕ, ◌+◌, ◌<◌, ◌≤◌, false, List, [], ◌∷◌, length, refl, sym, ◌∙◌, ap, arith}
-use Rattle.std.specs.Prelude.{Option, None, Result, Ok, Err, IsErr, slice_index_or, vec_len, vec_capacity}
+use Rattle.std.proofs.Common.{◌≡◌, ◌⊎◌, ⊎_elim, ℕ, ◌+◌, ◌<◌, ◌≤◌, Bool, true, false, List, [], ◌∷◌, length, refl, sym, ◌∙◌, ap, arith}
+use Rattle.dedupe_queue.specs.declared.Work.{Work}
+use Rattle.std.specs.Prelude.{if◌then◌else◌, ◌==◌, Option, Some, None, IsSome, Result, Ok, Err, IsErr, slice_index_or, vec_len, vec_capacity}
 use Rattle.std.specs.VecDeque.{deque_len}
 use Rattle.pm_device.specs.State.{State, Agree, Rose}
 use Rattle.pm_device.specs.Settled.{StoresOnly, KeepsFlushed, Others}
@@ -10,10 +11,13 @@ use Rattle.dn_model.specs.Own.{Print}
 use Rattle.fact_counts.specs.Standing.{HasRowWith}
 use Rattle.fact_counts.specs.Counted.{down, MaySettleDown, LeavesTables, SettlesTable, SettlesOwn}
 use Rattle.dn_volume.specs.declared.background.DyingPlace.{DyingPlace}
+use Rattle.dn_volume.specs.declared.volume.Parts.{Parts}
 use Rattle.dn_volume.specs.declared.volume.Volume.{Volume}
+use Rattle.reclaim.specs.declared.release.TheConstants.{RELEASE_UNITS}
 use Rattle.dn_volume.specs.Reclaims.{one_if}
 use Rattle.dn_volume.specs.Agrees.{IsVolume, Agrees, agrees_with, is_stopped}
 use Rattle.dn_volume.specs.Events.{MovesOn, Breaks}
+use Rattle.dn_volume.specs.Works.{MayWork, ReclaimLowers, reclaim_stand}
 use Rattle.dn_volume.proofs.Tables.{running_disk}
 use Rattle.reclaim.specs.Released.{SettlesRelease, Stops, IsWordAfter}
 use Rattle.reclaim.proofs.Event.{event_moves, event_stopped, event_breaks}
@@ -32,6 +36,25 @@ pub first_and_rest : (xs : List ℕ) (x : ℕ) → 0 < length xs → x ≡ slice
 first_and_rest [] x some is = absurd (omega (arith, some))
 first_and_rest (y ∷ ys) x some is = ap (λ (z : ℕ). z ∷ ys) (sym is)
 
+-- a release that waits is work, and nothing is begun
+pub release_work : (d : Disk) (b : Parts) (s : State) → IsVolume d b s → 0 < deque_len b.reclaiming.releases
+    → b.reclaiming.raised ≡ None → MayWork (reclaim_stand b)
+release_work d b s v some unraised = record {
+  some = λ rests.
+      let waits = v.reclaiming.waiting in
+      let none : one_if b.reclaiming.raised ≡ 0 = ap (λ (x : Option DyingPlace). one_if x) unraised in
+      omega (arith, waits, none, rests, some, b.reclaiming.releases.ok.0);
+  loose = λ holder none. none;
+}
+
+pub not_begun : (b : Parts) → b.reclaiming.zero_check ≡ None → b.reclaiming.raised ≡ None
+    → IsSome b.reclaiming.zero_check ⊎ IsSome b.reclaiming.raised → ⊥
+not_begun b unchecked unraised begun = ⊎_elim (λ some. clash b.reclaiming.zero_check unchecked some) (λ some. clash b.reclaiming.raised unraised some) begun
+  where
+    clash : {X : Type 0} (o : Option X) → o ≡ None → IsSome o → ⊥
+    clash None none some = cc some
+    clash (Some x) none some = cc none
+
 module _ {D F : Type 0} (state : D → State) (w : Volume D F) (slot : ℕ) (some : 0 < deque_len w.parts.reclaiming.releases) (front : slot ≡ slice_index_or w.parts.reclaiming.releases.items 0 slot) where
   abbrev rest : List ℕ
   rest = behind w.parts.reclaiming.releases.items
@@ -49,6 +72,28 @@ module _ {D F : Type 0} (state : D → State) (w : Volume D F) (slot : ℕ) (som
       let none : one_if w.parts.reclaiming.raised ≡ 0 = ap (λ (x : Option DyingPlace). one_if x) unraised in
       let long : length w.parts.reclaiming.releases.items ≡ 1 + length rest = ap (λ (xs : List ℕ). length xs) split ∙ omega arith in
       omega (arith, waits, none, long)
+
+  -- there is work, and less of it afterwards
+  pub may_work : Agrees state w → w.parts.stopped ≡ false → w.parts.reclaiming.raised ≡ None
+      → MayWork (reclaim_stand w.parts)
+  may_work agrees running unraised = record {
+    some = λ rests. let two = two_wait agrees running unraised in omega (arith, two, rests);
+    loose = λ holder none. none;
+  }
+
+  pub lowers : (b' : Parts) (word : ℕ) → SettlesRelease slot word w.parts b'
+      → ReclaimLowers w.parts b' b'.reclaiming.waiting
+  lowers b' word change = record {
+    left_is = refl;
+    less = falls (word == 0) change.waiting;
+    queue = ap (λ (ws : List Work). length ws) change.kept.queue;
+    sharing = change.sharing;
+  }
+    where
+      falls : (t : Bool) → b'.reclaiming.waiting + (if t then 1 else 2) ≡ w.parts.reclaiming.waiting
+          → b'.reclaiming.waiting < w.parts.reclaiming.waiting
+      falls true is = omega (arith, is)
+      falls false is = omega (arith, is)
 
   module _ (w' : Volume D F) (only : StoresOnly (λ a. a ≡ slot_word w.parts.fact.geometry slot 4) (state w.device) (state w'.device))
       (agree : Agree (state w'.device).now (state w'.device).past) (leaves : LeavesTables down w.parts.fact slot (state w.device) (state w'.device)) (faults : (state w.device).faults ≤ (state w'.device).faults) where
@@ -69,7 +114,7 @@ module _ {D F : Type 0} (state : D → State) (w : Volume D F) (slot : ℕ) (som
     module _ (word : ℕ) (change : SettlesRelease slot word w.parts w'.parts) (unchecked : w.parts.reclaiming.zero_check ≡ None) (unraised : w.parts.reclaiming.raised ≡ None)
         (settles : SettlesTable down w.parts.fact slot (state w.device) (state w'.device)) (own : SettlesOwn w.parts.fact slot 16 (state w.device) (state w'.device))
         (others : KeepsFlushed (Others 16) (λ a. a ≡ slot_word w.parts.fact.geometry slot 4) (state w.device) (state w'.device))
-        (is_word : IsWordAfter down (state w.device).now w.parts.fact slot word) (units : w.parts.owed.units + 23 ≤ (state w.device).spare) (spare : (state w.device).spare ≤ (state w'.device).spare + 3)
+        (is_word : IsWordAfter down (state w.device).now w.parts.fact slot word) (units : w.parts.owed.units + RELEASE_UNITS ≤ (state w.device).spare) (spare : (state w.device).spare ≤ (state w'.device).spare + 3)
         (trace_room : vec_len w.parts.trace + w.parts.owed.trace + 1 ≤ vec_capacity w.parts.trace) where
       pub succeeds : (print : Print) (d : Disk) → IsVolume d w.parts (state w.device) → MovesOn state print 16 w w' d
       succeeds print d v =

@@ -1,8 +1,10 @@
 -- An event that gives one row other counts: the volume of after, from what the event's actor itself has to show.
-use Rattle.std.proofs.Common.{◌≡◌, ◌≢◌, inl, inr, ℕ, ◌+◌, ◌*◌, ◌<◌, ◌≤◌, List, [], ◌∷◌, ◌++◌, length, sym, ◌∙◌, ap, subst, arith}
+use Rattle.std.proofs.Common.{◌≡◌, ◌≢◌, inl, inr, ℕ, ◌+◌, ◌-◌, ◌*◌, ◌<◌, ◌≤◌, Option, List, [], ◌∷◌, ◌++◌, length, sym, ◌∙◌, ap, subst, arith}
 use Rattle.std.specs.Prelude.{Some, None, All}
 use Rattle.std.proofs.lemmas.Bool.{cases_eq}
+use Rattle.std.proofs.lemmas.List.{append-nil}
 use Rattle.std.proofs.lemmas.List.Elements.{All-push}
+use Rattle.dn_volume.proofs.Heads.{head_of, head_kept}
 use Rattle.std.specs.FinMap.{FinMap}
 use Rattle.std.specs.Ordering.{nat_cmp}
 use Rattle.std.specs.Cmp.Lexicographic.{slice_cmp}
@@ -24,11 +26,11 @@ use Rattle.fact_counts.specs.Counted.{LeavesTables, SettlesTable, SettlesOwn, co
 use Rattle.fact_counts.proofs.Counting.{row_kept, row_small}
 use Rattle.dn_volume.specs.declared.flight.Flight.{Flight}
 use Rattle.dn_volume.specs.declared.background.DyingPlace.{DyingPlace}
-use Rattle.dn_volume.specs.declared.outcome.CountChange.{CountChange}
+use Rattle.dn_model.specs.declared.op.CountChange.{CountChange}
 use Rattle.dn_volume.specs.declared.volume.InodeState.{InodeState}
 use Rattle.dn_volume.specs.declared.volume.Parts.{Parts}
 use Rattle.dn_volume.specs.declared.volume.Volume.{Volume}
-use Rattle.dn_volume.specs.Parties.{Flies, SameOthers, KeepsOps}
+use Rattle.dn_volume.specs.Parties.{Flies, SameOthers, KeepsOps, flight_at}
 use Rattle.dn_volume.specs.Inodes.{AreNamesOf, AreInodesOf}
 use Rattle.dn_volume.specs.Space.{AreSlotsOf}
 use Rattle.dn_volume.specs.Balance.{AreCounted}
@@ -36,7 +38,7 @@ use Rattle.dn_volume.specs.Flights.{IsFlight, AreFlights}
 use Rattle.dn_volume.specs.Shares.{Shares}
 use Rattle.dn_volume.specs.Reclaims.{one_if, dying_units, IsRaised}
 use Rattle.dn_volume.specs.Reserve.{HasRoom}
-use Rattle.dn_volume.specs.Agrees.{StandsFast, IsVolume, IsStopped, NamesSlots}
+use Rattle.dn_volume.specs.Agrees.{StandsFast, IsVolume, IsStopped, NamesSlots, HasHead}
 use Rattle.dn_volume.specs.Events.{Traces, Counts, MovesOn, Breaks}
 use Rattle.dn_volume.specs.Rely.{IsFor, LeavesRest, StayInHand}
 use Rattle.dn_volume.proofs.OthersStay.{others_stay}
@@ -47,7 +49,7 @@ use Rattle.dn_volume.proofs.Kept.{ops_same}
 use Rattle.reclaim.specs.Released.{KeepsParts, Stops}
 use Rattle.dn_volume.proofs.CountsMoved.{MovesCounts, counts_move}
 use Rattle.dn_volume.proofs.TraceWords.{words_follow}
-use Rattle.reclaim.proofs.CountDisk.{recount_accounts, fast_after, table_after, between, quiet, unused_after, unused_before, leaves_after}
+use Rattle.reclaim.proofs.CountDisk.{recount_accounts, fast_after, table_after, between, quiet, unused_after, unused_before, leaves_after, no_stale_after}
 use Rattle.dn_volume.proofs.Hands.{SameHands, names_stay, inodes_stay, holders_stay, space_stays, queue_stays, dying_same, table_stays}
 
 -- the row at the slot gets the counts that f makes of it, by a call of the table that succeeded
@@ -153,6 +155,7 @@ module _ (f : Row → CountWord) (who : ℕ) (d : Disk) (b b' : Parts) (s u : St
       zero_check = λ x at. row_kept d slot (f row).rfc (f row).uc x (is.checked x at);
       raised = raised_after;
     };
+    pointers = no_stale_after f who d t row slot s u b.geometry is.counted.at_slot v.fast (is_table d b s v) may is.counted.only v.pointers;
     room = is.room;
     trace = names_more b b' (record { slot = slot; word = word }) is.kept.geometry is.trace (slot_small f who d b s u slot row v may is.counted.at_slot) v.trace;
     still = still_settles who b b' s u (settles_one who (slot_word t.geometry slot 4) s u is.counted.only is.counted.others is.counted.own.word is.counted.own.flushed) is.same v.still;
@@ -164,6 +167,10 @@ module _ (f : Row → CountWord) (who : ℕ) (d : Disk) (b b' : Parts) (s u : St
     trace = is.trace;
     words = words_follow d slot (f row).rfc (f row).uc word row is.counted.at_slot.slot_is is.counted.at_slot.there is.word_is;
   }
+
+-- a count word is none of the head's
+slot_high : (g : Geometry) (slot a : ℕ) → a < 4 → a ≡ slot_word g slot 4 → ⊥
+slot_high g slot a low is = omega (arith, low, is)
 
 -- so the event keeps its promise
 module _ {D F : Type 0} (state : D → State) (print : Print) (f : Row → CountWord) (who : ℕ) (w w' : Volume D F) (d : Disk) (slot word : ℕ) (row : Row) (v : IsVolume d w.parts (state w.device)) where
@@ -194,6 +201,9 @@ module _ {D F : Type 0} (state : D → State) (print : Print) (f : Row → Count
       stopped = stops.stopped;
       accepted = subst IsAccepted (v.fast.geometry ∙ sym stops.geometry) v.fast.valid.accepted;
       long = only.words ∙ v.fast.long ∙ ap (λ (g : Geometry). 512 * g.pages) (v.fast.geometry ∙ sym stops.geometry);
+      head = head_kept (λ a. a ≡ slot_word w.parts.fact.geometry slot 4) w'.parts.geometry (state w.device) (state w'.device)
+          (λ a low is. slot_high w.parts.fact.geometry slot a low is) only
+          (subst (λ (g : Geometry). HasHead g (state w.device).now) (sym stops.geometry) (head_of d w.parts.geometry (state w.device) v.fast));
       trace = subst (λ (g : Geometry). All (λ (c : CountChange). c.slot < slots g) w'.parts.trace.items) (sym stops.geometry)
           (subst (All (λ (c : CountChange). c.slot < slots w.parts.geometry)) (sym stops.trace) v.trace);
     }
@@ -207,6 +217,12 @@ module _ {D F : Type 0} (state : D → State) (print : Print) (f : Row → Count
       rose = rose;
       quiet = λ none. quiet f who d w.parts.fact row slot (state w.device) (state w'.device) w.parts.geometry at_slot v.fast (is_table d w.parts (state w.device) v) may only;
       ops = ops_same w.parts w'.parts stops.flights;
+      others = record {
+        flights = λ q some other. ap (λ (fs : List (Option Flight)). flight_at fs (q - 1)) stops.flights;
+        sharing = λ other. stops.sharing;
+      };
+      trace = record { more = []; trace = stops.trace ∙ sym (append-nil w.parts.trace.items) };
+      geometry = stops.geometry;
       answering = λ op none. cc;
       answered = λ op none. cc;
       history = stops.history;

@@ -31,7 +31,7 @@ use Rattle.reclaim.proofs.NodesChanged.{nodes_kept}
 use Rattle.reclaim.proofs.SpaceGained.{space_gained, slots_stay}
 use Rattle.reclaim.proofs.RoomWorked.{MovesRoom, room_worked}
 use Rattle.reclaim.proofs.StillWorks.{still_works}
-use Rattle.reclaim.proofs.SteppedDisk.{step_leaves, step_fast}
+use Rattle.reclaim.proofs.SteppedDisk.{step_pointers, step_leaves, step_fast}
 use Rattle.reclaim.proofs.Fallen.{fall_one, fall_living, fall_nodes}
 
 live_or_dying : (u : Use) (cut : ℕ) → u ≡ Live → u ≡ Dying cut → ⊥
@@ -79,6 +79,7 @@ module _ (d : Disk) (b b' : Parts) (s u : State) (v : IsVolume d b s) (ino cut :
       table = slots_stay d e b.fact b'.fact (same_geometry d ino (Falls cut)) (fall_living d ino cut may).rows_same fact v.table;
       counts = counts;
       reclaiming = reclaiming;
+      pointers = step_pointers d ino (Falls cut) 3 cut (omega arith) (fall_one d ino cut may) (fall_living d ino cut may) may.in_table v.pointers;
       room = room_worked b b' s u kept moves v.room (other_room d b b' s v (FallsTo cut) ino may.before may.dying change);
       still = still_works b b' s u (λ a. a ≡ inode_word ino 3) (λ a. cases_eq a (inode_word ino 3)) only others (λ a is. subst (IsSettled u) (sym is) done.word) v.flights.clients (flight_same b b' kept) v.still;
     }

@@ -18,6 +18,8 @@ use Rattle.law_table_on_disk.proofs.Frame.{maps_same}
 use Rattle.fact_table.specs.Table.{IsAtSlot, HasRow}
 use Rattle.fact_counts.specs.Standing.{HasRowWith}
 use Rattle.fact_counts.specs.Counted.{raised as raised_counts, MayRaise, LeavesTables, SettlesTable, SettlesOwn, count_changed}
+use Rattle.dn_volume.specs.declared.units.TheConstants.{FALL_UNITS}
+use Rattle.reclaim.specs.declared.release.TheConstants.{RELEASE_UNITS}
 use Rattle.dn_volume.specs.declared.flight.Flight.{Flight}
 use Rattle.dn_volume.specs.declared.background.Sharing.{Sharing}
 use Rattle.dn_volume.specs.declared.background.DyingPlace.{DyingPlace}
@@ -31,6 +33,8 @@ use Rattle.dn_volume.specs.Reclaims.{one_if, dying_units, IsRaised}
 use Rattle.dn_volume.specs.Reserve.{owed_sum, units_to_share, changes_to_share, Owes, HasRoom}
 use Rattle.dn_volume.specs.Agrees.{IsVolume, Agrees, agrees_with, is_stopped}
 use Rattle.dn_volume.specs.Events.{MovesOn, Breaks}
+use Rattle.dn_volume.specs.Works.{ReclaimLowers}
+use Rattle.dedupe_queue.specs.declared.Work.{Work}
 use Rattle.dn_volume.proofs.CountsMoved.{MovesCounts}
 use Rattle.dn_volume.proofs.FewReleases.{dying_few}
 use Rattle.dn_volume.proofs.HandsKept.{hands_same, others_same, owed_same, added_same, flies_before}
@@ -127,9 +131,9 @@ module _ (d : Disk) (b b' : Parts) (s u : State) (v : IsVolume d b s) (p : Dying
     page = at.page;
   }
 
-  module _ (counted : CountsOne raised_counts 16 d b s u p.slot row) (is_word : IsWordAfter raised_counts s.now b.fact p.slot word) (units : b.owed.units + 23 ≤ s.spare) (spare : s.spare ≤ u.spare + 3)
+  module _ (counted : CountsOne raised_counts 16 d b s u p.slot row) (is_word : IsWordAfter raised_counts s.now b.fact p.slot word) (units : b.owed.units + RELEASE_UNITS ≤ s.spare) (spare : s.spare ≤ u.spare + 3)
       (trace_room : vec_len b.trace + b.owed.trace + 1 ≤ vec_capacity b.trace) (release_room : deque_len b.reclaiming.releases + b.owed.releases + 1 ≤ deque_capacity b.reclaiming.releases) where
-    owed_units : b'.owed.units ≡ b.owed.units + 20
+    owed_units : b'.owed.units ≡ b.owed.units + FALL_UNITS
     owed_units = ap (λ (r : Room). r.units) change.owed
 
     owed_trace : b'.owed.trace ≡ b.owed.trace
@@ -231,3 +235,12 @@ module _ {D F : Type 0} (state : D → State) (w : Volume D F) (p : DyingPlace) 
           event_moves state print raised_counts 16 w w' d p.slot word at.row v agree
           (place_event d w.parts w'.parts (state w.device) (state w'.device) v p word at change unraised no_items
           (record { at_slot = at.at_slot; only = only; leaves = leaves; settles = settles; own = own; others = others; faults = faults }) is_word room.units spare room.trace room.releases)
+
+-- less work is left
+pub place_lowers : (b b' : Parts) (p : DyingPlace) (word : ℕ) → RaisesPlace p word b b' → ReclaimLowers b b' b'.reclaiming.waiting
+place_lowers b b' p word change = record {
+  left_is = refl;
+  less = omega (arith, change.waiting);
+  queue = ap (λ (ws : List Work). length ws) change.kept.queue;
+  sharing = change.sharing;
+}

@@ -19,12 +19,12 @@ use Rattle.dn_volume.specs.declared.volume.Volume.{Volume}
 use Rattle.dn_volume.specs.Balance.{raised as raised_there, added, dropped}
 use Rattle.dn_volume.specs.Parties.{Flies}
 use Rattle.dn_volume.specs.Flights.{left_of}
-use Rattle.dn_volume.specs.Agrees.{IsVolume, Agrees, agrees_with}
+use Rattle.dn_volume.specs.Agrees.{IsVolume, Agrees, agrees_with, is_stopped}
 use Rattle.dn_volume.specs.Events.{MovesOn, Breaks, InFlight, answered_by}
 use Rattle.dn_volume.proofs.Tables.{is_table, running_disk}
 use Rattle.reclaim.specs.Released.{Stops, IsWordAfter}
 use Rattle.reclaim.specs.Raised.{IsToRaise, RaisesOne}
-use Rattle.reclaim.proofs.Event.{event_moves, event_breaks}
+use Rattle.reclaim.proofs.Event.{event_moves, event_stopped, event_breaks}
 use Rattle.dn_volume.proofs.RowSlots.{balance_at}
 use Rattle.reclaim.proofs.Flown.{one_more, same_flight}
 use Rattle.reclaim.proofs.RowsHere.{may_raise, next_row}
@@ -73,6 +73,9 @@ module _ {D F : Type 0} (state : D → State) (w : Volume D F) (who slot : ℕ) 
       (agree : Agree (state w'.device).now (state w'.device).past) (leaves : LeavesTables raised w.parts.fact slot (state w.device) (state w'.device)) (faults : (state w.device).faults ≤ (state w'.device).faults) where
     -- it failed: more than one event was left
     module _ (stops : Stops w.parts w'.parts) (print : Print) (d : Disk) (v : IsVolume d w.parts (state w.device)) where
+      pub raise_stops : Agrees state w'
+      raise_stops = is_stopped (event_stopped state print raised who w w' d slot 0 (row_at d v).row v (row_at d v).is (may d v) stops only)
+
       pub raise_fails : (g : Flight) → Flies w.parts who g → Rose (state w.device).faults (state w'.device).faults → Breaks state print who (answered_by (left_of g) g.op) w w' d
       raise_fails g flies rose =
           subst (λ (h : Flight). Breaks state print who (answered_by (left_of h) h.op) w w' d) (same_flight w.parts who to.flight g to.flies flies)

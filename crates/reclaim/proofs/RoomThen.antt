@@ -1,11 +1,11 @@
 -- An event after room was made for it.
-use Rattle.std.proofs.Common.{◌≡◌, ◌⊎◌, ℕ, ◌+◌, ◌-◌, ◌≤◌, List, ◌++◌, length, refl, sym, ◌∙◌, ap, subst}
+use Rattle.std.proofs.Common.{◌≡◌, ◌⊎◌, ℕ, ◌+◌, ◌-◌, ◌<◌, ◌≤◌, List, ◌++◌, length, refl, sym, ◌∙◌, ap, subst}
 use Rattle.std.specs.Prelude.{Option, None}
 use Rattle.pm_device.specs.State.{State, Agree}
 use Rattle.dn_model.specs.Disk.{Disk}
 use Rattle.dn_model.specs.Own.{Print}
 use Rattle.dn_model.specs.declared.op.Op.{Op}
-use Rattle.dn_volume.specs.declared.outcome.CountChange.{CountChange}
+use Rattle.dn_model.specs.declared.op.CountChange.{CountChange}
 use Rattle.dn_volume.specs.declared.outcome.Outcome.{Outcome}
 use Rattle.dn_volume.specs.declared.outcome.Outcome.TheVariants.{Running, Done, Busy, Released, Idle, NotYours, NoMemory, Stopped}
 use Rattle.dn_volume.specs.declared.volume.Parts.{Parts}
@@ -14,7 +14,10 @@ use Rattle.dn_volume.specs.Parties.{SameOthers, KeepsOps, flight_at}
 use Rattle.dn_volume.specs.Agrees.{IsVolume, Agrees, agrees_with}
 use Rattle.dn_volume.specs.Begins.{IsUntouched}
 use Rattle.dn_volume.specs.Events.{Counts, Moves, MovesOn, Breaks}
-use Rattle.dn_volume.specs.Works.{Works, ReclaimRests}
+use Rattle.dn_volume.specs.Kept.{SameButRoom, OfInodes, IsSameInode}
+use Rattle.dn_volume.specs.Works.{Works, Stand, ReclaimWorks, ReclaimLowers, reclaim_stand}
+use Rattle.dn_volume.specs.declared.volume.InodeState.{InodeState}
+use Rattle.dn_volume.proofs.SameRoom.{inodes_same, room_joins}
 use Rattle.reclaim.specs.RoomMade.{MakesRoom}
 use Rattle.reclaim.proofs.Roomy.{leaves_since, rose_since, room_volume}
 
@@ -25,17 +28,33 @@ module _ {D F : Type 0} (state : D → State) (w w1 : Volume D F) (made : MakesR
   same_part : {X : Type 0} (f : Parts → X) → f (record w.parts { trace = w1.parts.trace; reclaiming = record w.parts.reclaiming { releases = w1.parts.reclaiming.releases } }) ≡ f w.parts → f w1.parts ≡ f w.parts
   same_part f same = ap f made.parts ∙ same
 
+  same_room : SameButRoom w.parts w1.parts
+  same_room = record {
+    work = record {
+      geometry = same_part (λ p. p.geometry) refl;
+      names = same_part (λ p. p.names.map) refl;
+      fact = same_part (λ p. p.fact) refl;
+      queue = same_part (λ p. p.queue.items) refl;
+      sharing = same_part (λ p. p.sharing) refl;
+      zero_check = same_part (λ p. p.reclaiming.zero_check) refl;
+      raised = same_part (λ p. p.reclaiming.raised) refl;
+      releases = made.releases;
+      waiting = same_part (λ p. p.reclaiming.waiting) refl;
+      trace = made.trace;
+      stopped = same_part (λ p. p.stopped) refl;
+    };
+    free = same_part (λ p. p.free) refl;
+    inodes = subst (λ (ns : List InodeState). OfInodes IsSameInode w.parts.inodes.items ns) (sym (same_part (λ p. p.inodes.items) refl)) (inodes_same w.parts.inodes.items);
+    flights = same_part (λ p. p.flights.items) refl;
+  }
+
   pub room_untouched : Agree (state w.device).now (state w.device).past → (d : Disk) → IsVolume d w.parts (state w.device) → IsUntouched state w w1 d
   room_untouched agree d v = record {
     volume = room_is agree d v;
     device = made.same;
+    same = same_room;
     history = same_part (λ p. p.history.items) refl;
-    trace = made.trace;
-    flights = same_part (λ p. p.flights) refl;
-    sharing = same_part (λ p. p.sharing) refl;
-    queue = same_part (λ p. p.queue.items) refl;
-    waiting = same_part (λ p. p.reclaiming.waiting) refl;
-    free = same_part (λ p. length p.free.free) refl;
+    made = same_part (λ p. p.made) refl;
   }
 
   module _ (w2 : Volume D F) (print : Print) (who : ℕ) (d : Disk) where
@@ -84,6 +103,9 @@ module _ {D F : Type 0} (state : D → State) (w w1 : Volume D F) (made : MakesR
       answering = is.answering;
       answered = is.answered;
       history = is.history ∙ same_part (λ p. p.history.items) refl;
+      others = others_since is.others;
+      trace = record { more = is.trace.more; trace = is.trace.trace ∙ ap (λ (xs : List CountChange). xs ++ is.trace.more) made.trace };
+      geometry = is.geometry ∙ same_part (λ p. p.geometry) refl;
       counts = counts_since is.counts;
       faults = faults_since _ is.faults;
     }
@@ -92,30 +114,33 @@ module _ {D F : Type 0} (state : D → State) (w w1 : Volume D F) (made : MakesR
     untouched_since is = record {
       volume = is.volume;
       device = record { now = is.device.now ∙ made.same.now; past = is.device.past ∙ made.same.past; faults = is.device.faults ∙ made.same.faults };
+      same = room_joins w.parts w1.parts w2.parts same_room is.same;
       history = is.history ∙ same_part (λ p. p.history.items) refl;
-      trace = is.trace ∙ made.trace;
-      flights = is.flights ∙ same_part (λ p. p.flights) refl;
-      sharing = is.sharing ∙ same_part (λ p. p.sharing) refl;
-      queue = is.queue ∙ same_part (λ p. p.queue.items) refl;
-      waiting = is.waiting ∙ same_part (λ p. p.reclaiming.waiting) refl;
-      free = is.free ∙ same_part (λ p. length p.free.free) refl;
+      made = is.made ∙ same_part (λ p. p.made) refl;
     }
 
-    pub works_since : (left : Volume D F → ℕ → Type 0) (rests : Type 0) (held : ℕ → Type 0) (outcome : Outcome) → Works state print who left rests held w1 w2 d outcome → Works state print who left rests held w w2 d outcome
-    works_since left rests held (Running n) is = (moves_on_since is.0, is.1)
-    works_since left rests held (Done reply) is = absurd is
-    works_since left rests held (Busy holder) is = (untouched_since is.0, is.1)
-    works_since left rests held (Released waiting) is = absurd is
-    works_since left rests held Idle is = (untouched_since is.0, is.1)
-    works_since left rests held NotYours is = absurd is
-    works_since left rests held NoMemory is = untouched_since is
-    works_since left rests held Stopped is = breaks_since None is
+    -- a work's event, where its stand is the same
+    works_since : (stand : Stand) (lowers : Parts → Parts → ℕ → Type 0) → ((n : ℕ) → lowers w1.parts w2.parts n → lowers w.parts w2.parts n)
+        → (outcome : Outcome) → Works state print who stand lowers w1 w2 d outcome → Works state print who stand lowers w w2 d outcome
+    works_since stand lowers on (Running n) is = (moves_on_since is.0, is.1, on n is.2)
+    works_since stand lowers on (Done reply) is = absurd is
+    works_since stand lowers on (Busy holder) is = (untouched_since is.0, is.1)
+    works_since stand lowers on (Released waiting) is = absurd is
+    works_since stand lowers on Idle is = (untouched_since is.0, is.1)
+    works_since stand lowers on NotYours is = absurd is
+    works_since stand lowers on NoMemory is = (untouched_since is.0, is.1, is.2)
+    works_since stand lowers on Stopped is = (breaks_since None is.0, is.1)
 
-  -- so it is where it rests as nothing waits
-  pub rests_since : (w2 : Volume D F) (print : Print) (who : ℕ) (d : Disk) (left : Volume D F → ℕ → Type 0) (held : ℕ → Type 0) (outcome : Outcome)
-      → Works state print who left (ReclaimRests w1.parts) held w1 w2 d outcome → Works state print who left (ReclaimRests w.parts) held w w2 d outcome
-  rests_since w2 print who d left held outcome is =
-      works_since w2 print who d left (ReclaimRests w.parts) held outcome (subst (λ (n : ℕ). Works state print who left (n ≡ 0) held w1 w2 d outcome) (same_part (λ p. p.reclaiming.waiting) refl) is)
+  pub reclaim_since : (w2 : Volume D F) (print : Print) (d : Disk) (outcome : Outcome) → ReclaimWorks state print w1 w2 d outcome → ReclaimWorks state print w w2 d outcome
+  reclaim_since w2 print d outcome is =
+      works_since w2 print 16 d (reclaim_stand w.parts) ReclaimLowers
+      (λ n less. record {
+        left_is = less.left_is;
+        less = subst (λ (k : ℕ). w2.parts.reclaiming.waiting < k) (same_part (λ p. p.reclaiming.waiting) refl) less.less;
+        queue = less.queue ∙ same_part (λ p. length p.queue.items) refl;
+        sharing = less.sharing ∙ same_part (λ p. p.sharing) refl;
+      }) outcome
+      (subst (λ (p : Parts). Works state print 16 (reclaim_stand p) ReclaimLowers w1 w2 d outcome) made.parts is)
 
   pub room_agrees : Agree (state w.device).now (state w.device).past → (d : Disk) → IsVolume d w.parts (state w.device) → Agrees state w1
   room_agrees agree d v = agrees_with d (room_is agree d v)

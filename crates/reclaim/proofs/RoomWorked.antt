@@ -11,14 +11,14 @@ use Rattle.dn_volume.specs.declared.volume.Parts.{Parts}
 use Rattle.dn_volume.specs.declared.volume.Room.{Room}
 use Rattle.dn_volume.specs.Parties.{Flies}
 use Rattle.dn_volume.specs.Reclaims.{one_if}
-use Rattle.dn_volume.specs.Reserve.{owed_sum, units_to_share, changes_to_share, Owes, HasRoom}
+use Rattle.dn_volume.specs.Reserve.{owed_sum, units_to_reclaim, units_to_share, changes_to_share, Owes, HasRoom}
 use Rattle.dn_volume.proofs.HandsKept.{owed_same}
 use Rattle.reclaim.specs.Worked.{KeepsWork}
 use Rattle.reclaim.proofs.WorkEvent.{flies_back}
 
 -- how what is owed to reclaim moves: `owes` units before and after, and the releases
 pub record MovesRoom (b b' : Parts) (s u : State) : Type 0 where
-  pub units : b'.owed.units + 20 * one_if b.reclaiming.raised + 20 * one_if b.reclaiming.zero_check ≡ b.owed.units + 20 * one_if b'.reclaiming.raised + 20 * one_if b'.reclaiming.zero_check
+  pub units : b'.owed.units + units_to_reclaim b ≡ b.owed.units + units_to_reclaim b'
   pub spare : b'.owed.units ≤ u.spare
   pub releases : b'.owed.releases + one_if b.reclaiming.raised ≡ b.owed.releases + one_if b'.reclaiming.raised
   pub room : deque_len b'.reclaiming.releases + b'.owed.releases ≤ deque_len b.reclaiming.releases + b.owed.releases

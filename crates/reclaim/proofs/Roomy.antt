@@ -11,7 +11,7 @@ use Rattle.pm_device.proofs.Only.{stores_only-same}
 use Rattle.pm_device.proofs.Flushed.{keeps-same}
 use Rattle.dn_model.specs.Disk.{Disk, DiskSays}
 use Rattle.dn_volume.specs.declared.flight.Flight.{Flight}
-use Rattle.dn_volume.specs.declared.outcome.CountChange.{CountChange}
+use Rattle.dn_model.specs.declared.op.CountChange.{CountChange}
 use Rattle.dn_volume.specs.declared.volume.Parts.{Parts}
 use Rattle.dn_volume.specs.Parties.{Flies, Holds, by_client, by_daemon, Takes, for_client}
 use Rattle.dn_volume.specs.Flights.{IsFlight}
@@ -151,6 +151,7 @@ module _ (d : Disk) (b c : Parts) (s t : State) (v : IsVolume d b s) (same : IsS
     queue = record { waits = λ ino idx m place undone. waits_still ino m.slot (v.queue.waits ino idx m place undone) };
     sharing = v.sharing;
     reclaiming = record { waiting = omega (arith, v.reclaiming.waiting, same_length); zero_check = v.reclaiming.zero_check; raised = v.reclaiming.raised };
+    pointers = v.pointers;
     room = room;
     trace = subst (All (λ (change : CountChange). change.slot < slots b.geometry)) (sym items) v.trace;
     still = still_same b b' s t same (λ q f flies. record { client = flies.client; is = flies.is }) v.still;

@@ -19,6 +19,8 @@ use Rattle.dn_volume.specs.declared.volume.InodeState.{InodeState}
 use Rattle.dn_volume.specs.declared.volume.Parts.{Parts}
 use Rattle.dn_volume.specs.declared.volume.Room.{Room}
 use Rattle.dn_volume.specs.Parties.{Flies, flight_at, opened}
+use Rattle.dn_volume.specs.declared.units.TheConstants.{ZERO_CHECK_UNITS}
+use Rattle.reclaim.specs.declared.release.TheConstants.{RELEASE_UNITS}
 use Rattle.dn_volume.specs.Balance.{times, raised, added, dropped}
 use Rattle.dn_volume.specs.Reclaims.{one_if, dying_units}
 use Rattle.dn_volume.specs.Reserve.{owed_sum, units_to_share, changes_to_share, Owes, HasRoom}
@@ -68,7 +70,7 @@ module _ (d : Disk) (b b' : Parts) (s u : State) (v : IsVolume d b s) (slot word
   abbrev its : Row
   its = found.row
 
-  module _ (counted : CountsOne down 16 d b s u slot its) (is_word : IsWordAfter down s.now b.fact slot word) (units : b.owed.units + 23 ≤ s.spare) (spare : s.spare ≤ u.spare + 3)
+  module _ (counted : CountsOne down 16 d b s u slot its) (is_word : IsWordAfter down s.now b.fact slot word) (units : b.owed.units + RELEASE_UNITS ≤ s.spare) (spare : s.spare ≤ u.spare + 3)
       (trace_room : vec_len b.trace + b.owed.trace + 1 ≤ vec_capacity b.trace) where
     word_is : word ≡ (its.rfc - 1) * 2 ^ 32 + (its.uc - 1)
     word_is = is_word d its (is_table d b s v) found.is
@@ -77,7 +79,7 @@ module _ (d : Disk) (b b' : Parts) (s u : State) (v : IsVolume d b s) (slot word
       is : word ≡ 0
       checked : b'.reclaiming.zero_check ≡ Some slot
       fell : b'.reclaiming.waiting + 1 ≡ b.reclaiming.waiting
-      owed : b'.owed.units ≡ b.owed.units + 20
+      owed : b'.owed.units ≡ b.owed.units + ZERO_CHECK_UNITS
 
     record IsSome : Type 0 where
       is : word ≢ 0
@@ -85,7 +87,7 @@ module _ (d : Disk) (b b' : Parts) (s u : State) (v : IsVolume d b s) (slot word
       fell : b'.reclaiming.waiting + 2 ≡ b.reclaiming.waiting
       owed : b'.owed.units ≡ b.owed.units + 0
 
-    owed_units : b'.owed.units ≡ b.owed.units + (if word == 0 then 20 else 0)
+    owed_units : b'.owed.units ≡ b.owed.units + (if word == 0 then ZERO_CHECK_UNITS else 0)
     owed_units = ap (λ (r : Room). r.units) change.owed
 
     cases : IsZero ⊎ IsSome
@@ -94,13 +96,13 @@ module _ (d : Disk) (b b' : Parts) (s u : State) (v : IsVolume d b s) (slot word
         is = none;
         checked = change.zero_check ∙ ap (λ (t : Bool). if t then Some slot else b.reclaiming.zero_check) test;
         fell = ap (λ (t : Bool). b'.reclaiming.waiting + (if t then 1 else 2)) (sym test) ∙ change.waiting;
-        owed = owed_units ∙ ap (λ (t : Bool). b.owed.units + (if t then 20 else 0)) test;
+        owed = owed_units ∙ ap (λ (t : Bool). b.owed.units + (if t then ZERO_CHECK_UNITS else 0)) test;
       })
       | inr some ↦ inr (let test = other_test word 0 some in record {
         is = some;
         checked = change.zero_check ∙ ap (λ (t : Bool). if t then Some slot else b.reclaiming.zero_check) test ∙ unchecked;
         fell = ap (λ (t : Bool). b'.reclaiming.waiting + (if t then 1 else 2)) (sym test) ∙ change.waiting;
-        owed = owed_units ∙ ap (λ (t : Bool). b.owed.units + (if t then 20 else 0)) test;
+        owed = owed_units ∙ ap (λ (t : Bool). b.owed.units + (if t then ZERO_CHECK_UNITS else 0)) test;
       })
     ]
 

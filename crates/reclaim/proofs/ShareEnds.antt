@@ -1,6 +1,6 @@
 -- The event of a settling, from what its calls give.
-use Rattle.std.proofs.Common.{◌≡◌, ℕ, ◌+◌, ◌<◌, ◌≤◌, false, subst}
-use Rattle.std.specs.Prelude.{None, Some, vec_len, vec_capacity}
+use Rattle.std.proofs.Common.{◌≡◌, ℕ, ◌+◌, ◌-◌, ◌*◌, ◌<◌, ◌≤◌, Bool, true, false, List, length, refl, ◌∙◌, ap, subst, arith}
+use Rattle.std.specs.Prelude.{Option, None, Some, if◌then◌else◌, nat_lt, vec_len, vec_capacity}
 use Rattle.pm_device.specs.State.{State, Agree, Rose}
 use Rattle.pm_device.specs.Settled.{StoresOnly, KeepsFlushed, Others}
 use Rattle.pm_layout.specs.Geometry.{slot_word}
@@ -10,13 +10,35 @@ use Rattle.fact_counts.specs.Standing.{HasRowWith}
 use Rattle.fact_counts.specs.Counted.{up, MaySettleUp, LeavesTables, SettlesTable, SettlesOwn}
 use Rattle.dn_volume.specs.declared.background.Sharing.{Sharing}
 use Rattle.dn_volume.specs.declared.volume.Volume.{Volume}
-use Rattle.dn_volume.specs.Agrees.{IsVolume, Agrees, agrees_with}
+use Rattle.dn_volume.specs.Agrees.{IsVolume, Agrees, agrees_with, is_stopped}
 use Rattle.dn_volume.specs.Events.{MovesOn, Breaks}
+use Rattle.dn_volume.specs.Works.{MayWork, DaemonLowers, daemon_stand, sharing_events, step_events}
+use Rattle.dn_volume.specs.declared.background.SharingStep.{SharingStep}
+use Rattle.dn_volume.specs.declared.background.SharingStep.TheVariants.{Look, Settle}
+use Rattle.dn_volume.specs.declared.volume.Parts.{Parts}
+use Rattle.dedupe_queue.specs.declared.Work.{Work}
+use Rattle.std.proofs.lemmas.Bool.Decides.{nat_tests}
 use Rattle.dn_volume.proofs.Tables.{running_disk}
 use Rattle.reclaim.specs.Released.{Stops, IsWordAfter}
 use Rattle.reclaim.specs.Shared.{IsAtSettle, SettlesShare}
-use Rattle.reclaim.proofs.Event.{event_moves, event_breaks}
+use Rattle.reclaim.proofs.Event.{event_moves, event_stopped, event_breaks}
 use Rattle.reclaim.proofs.ShareParts.{same_sharing, to_settle, settle_some, settle_with, settle_recounts, share_owes_units, share_owes_change, share_has_trace, share_has_units, share_event}
+
+less_test : (a b : ℕ) → a < b → nat_lt a b ≡ true
+less_test a b lt = grind (arith, nat_tests, lt)
+
+is_less : (a b : ℕ) → nat_lt a b ≡ true → a < b
+is_less a b is = grind (arith, nat_tests, is)
+
+-- an item that is begun is work, and nobody holds it up
+pub share_work : (d : Disk) (b : Parts) (slot : ℕ) → IsAtSettle b slot → MayWork (daemon_stand d b)
+share_work d b slot to = record {
+  some = λ rests. clash b.sharing rests.none_begun to.begun;
+  loose = λ holder held. clash b.sharing held.none_begun to.begun;
+}
+  where
+    clash : (o : Option Sharing) → o ≡ None → o ≡ Some to.sharing → ⊥
+    clash o none some = cc
 
 module _ {D F : Type 0} (state : D → State) (w : Volume D F) (slot : ℕ) (to : IsAtSettle w.parts slot) where
   module _ (agrees : Agrees state w) (running : w.parts.stopped ≡ false) where
@@ -40,9 +62,46 @@ module _ {D F : Type 0} (state : D → State) (w : Volume D F) (slot : ℕ) (to 
         let found = running_disk state w running agrees in
         subst (λ (x : Sharing). x.done < x.count) (same_sharing w.parts to.sharing sharing to.begun is) (settle_some found.0 w.parts (state w.device) found.1 slot to)
 
+  pub share_lowers : (b' : Parts) (word : ℕ) → SettlesShare slot word w.parts b'
+      → Agrees state w → w.parts.stopped ≡ false → DaemonLowers w.parts b' (sharing_events b'.sharing)
+  share_lowers b' word change agrees running = record {
+    left_is = refl;
+    less =
+        let queued = ap (λ (ws : List Work). length ws) change.kept.queue in
+        let before = ap (λ (o : Option Sharing). sharing_events o) to.begun in
+        let after = ap (λ (o : Option Sharing). sharing_events o) (change.sharing to.sharing to.begun) in
+        let one = falls to.sharing to.step (share_some agrees running to.sharing to.begun) in
+        omega (arith, queued, before, after, one);
+    waiting = change.waiting;
+  }
+    where
+      falls : (x : Sharing) → x.step ≡ Settle slot → x.done < x.count
+          → sharing_events (Some (record x { done = x.done + 1; step = Look })) < sharing_events (Some x)
+      falls x step some =
+          let test = less_test x.done x.count some in
+          let was : sharing_events (Some x) ≡ 3 * (x.count - x.done - 1) + 1 + 1 =
+          ap (λ (t : Bool). if t then 3 * (x.count - x.done - 1) + step_events x.step + 1 else 1) test
+          ∙ ap (λ (st : SharingStep). 3 * (x.count - x.done - 1) + step_events st + 1) step in
+          by (nat_lt (x.done + 1) x.count) refl was
+        where
+          by : (t : Bool) → nat_lt (x.done + 1) x.count ≡ t → sharing_events (Some x) ≡ 3 * (x.count - x.done - 1) + 1 + 1
+              → sharing_events (Some (record x { done = x.done + 1; step = Look })) < sharing_events (Some x)
+          by true is was =
+              let now = ap (λ (t : Bool). if t then 3 * (x.count - (x.done + 1) - 1) + 3 + 1 else 1) is in
+              let lt = is_less (x.done + 1) x.count is in
+              omega (arith, now, was, lt)
+          by false is was =
+              let now = ap (λ (t : Bool). if t then 3 * (x.count - (x.done + 1) - 1) + 3 + 1 else 1) is in
+              omega (arith, now, was)
+
   module _ (w' : Volume D F) (only : StoresOnly (λ a. a ≡ slot_word w.parts.fact.geometry slot 4) (state w.device) (state w'.device))
       (agree : Agree (state w'.device).now (state w'.device).past) (leaves : LeavesTables up w.parts.fact slot (state w.device) (state w'.device)) (faults : (state w.device).faults ≤ (state w'.device).faults) where
     module _ (stops : Stops w.parts w'.parts) (print : Print) (d : Disk) (v : IsVolume d w.parts (state w.device)) where
+      pub share_stops : Agrees state w'
+      share_stops =
+          let has = to_settle d w.parts (state w.device) v slot to in
+          is_stopped (event_stopped state print up 15 w w' d slot 0 has.row v has.at_slot (settle_recounts d w.parts (state w.device) v slot to) stops only)
+
       pub share_fails : Rose (state w.device).faults (state w'.device).faults → Breaks state print 15 None w w' d
       share_fails rose =
           let has = to_settle d w.parts (state w.device) v slot to in

@@ -19,6 +19,7 @@ use Rattle.law_table_on_disk.proofs.Frame.{maps_same}
 use Rattle.fact_table.specs.Table.{IsAtSlot, HasRow}
 use Rattle.fact_counts.specs.Standing.{HasRowWith}
 use Rattle.fact_counts.specs.Counted.{up, MaySettleUp, count_changed}
+use Rattle.dn_volume.specs.declared.units.TheConstants.{END_UNITS, PLACE_UNITS, LOOK_UNITS, REMAP_UNITS}
 use Rattle.dn_volume.specs.declared.flight.Flight.{Flight}
 use Rattle.dn_volume.specs.declared.background.Sharing.{Sharing}
 use Rattle.dn_volume.specs.declared.background.SharingStep.{SharingStep}
@@ -98,8 +99,8 @@ module _ (d : Disk) (b : Parts) (s : State) (v : IsVolume d b s) (slot : ℕ) (t
       (record { updates = omega (arith, balance.updates, added_here); references = omega (arith, balance.references, added_here) }) (settle_may to_settle.row to_settle.at_slot).1).may
 
   -- what it is owed is there
-  units_was : units_to_share b.sharing ≡ 20 + 100 * (to.sharing.count - to.sharing.done) - 60
-  units_was = ap (λ (r : Option Sharing). units_to_share r) to.begun ∙ ap (λ (st : SharingStep). 20 + 100 * (to.sharing.count - to.sharing.done) - units_spent st) to.step
+  units_was : units_to_share b.sharing ≡ END_UNITS + PLACE_UNITS * (to.sharing.count - to.sharing.done) - (LOOK_UNITS + REMAP_UNITS)
+  units_was = ap (λ (r : Option Sharing). units_to_share r) to.begun ∙ ap (λ (st : SharingStep). END_UNITS + PLACE_UNITS * (to.sharing.count - to.sharing.done) - units_spent st) to.step
 
   changes_was : changes_to_share b.sharing ≡ 2 * (to.sharing.count - to.sharing.done) - 1
   changes_was = ap (λ (r : Option Sharing). changes_to_share r) to.begun ∙ ap (λ (st : SharingStep). 2 * (to.sharing.count - to.sharing.done) - changes_spent st) to.step
@@ -251,7 +252,7 @@ module _ (d : Disk) (b : Parts) (s : State) (v : IsVolume d b s) (slot : ℕ) (t
     shares item is = subst (IsSharing e) (same_now item is) item_now
 
     -- the room
-    units_now : units_to_share b'.sharing ≡ 20 + 100 * (to.sharing.count - (to.sharing.done + 1)) - 0
+    units_now : units_to_share b'.sharing ≡ END_UNITS + PLACE_UNITS * (to.sharing.count - (to.sharing.done + 1)) - 0
     units_now = ap (λ (r : Option Sharing). units_to_share r) now_is
 
     changes_now : changes_to_share b'.sharing ≡ 2 * (to.sharing.count - (to.sharing.done + 1)) - 0

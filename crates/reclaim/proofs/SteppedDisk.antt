@@ -17,13 +17,14 @@ use Rattle.law_table.proofs.Words.{nothing_ready}
 use Rattle.law_table_on_disk.specs.OneWord.{IsOneWord}
 use Rattle.law_table_on_disk.proofs.OneWord.{one_word_stands, one_word_any_order, one_word_may_commit}
 use Rattle.law_dying.specs.Dying.{Step, stepped, KeepsLiving}
-use Rattle.law_dying.proofs.Stepped.{at_other, same_geometry, same_word}
+use Rattle.law_dying.proofs.Stepped.{at_other, same_pointer, same_word}
 use Rattle.dn_volume.specs.Planned.{slot_of_row}
 use Rattle.dn_volume.specs.Accounts.{AccountsFor}
-use Rattle.dn_volume.specs.Agrees.{StandsFast}
+use Rattle.dn_volume.specs.Agrees.{StandsFast, HasNoStale}
 use Rattle.dn_volume.specs.Events.{word_in}
 use Rattle.dn_volume.specs.Rely.{KeepsRest, IsWordOf, of_inode, LeavesRest}
 use Rattle.dn_volume.proofs.Between.{old_or_new}
+use Rattle.dn_volume.proofs.Heads.{none_stale_kept}
 use Rattle.reclaim.proofs.WorkEvent.{WorkShown}
 
 module _ (d : Disk) (ino : ℕ) (step : Step) where
@@ -52,6 +53,10 @@ module _ (d : Disk) (ino : ℕ) (step : Step) (field value : ℕ) (small : field
     slots = λ i idx m lt out is. ap (λ (rs : List Row). slot_of_row (row_of rs m.block)) living.rows_same;
     counting = λ row has some. record { still = row; there = subst (λ (rs : List Row). Contains rs row) (sym living.rows_same) has; slot = refl; page = refl; print = refl };
   }
+
+  pub step_pointers : HasNoStale d → HasNoStale e
+  step_pointers = none_stale_kept d e one.geometry (same_pointer d ino step)
+      (λ row has. record { row = row; there = subst (λ (rs : List Row). Contains rs row) (sym living.rows_same) has; page_is = refl })
 
   accounts : (print : Print) → AccountsFor print d e
   accounts print = record {

@@ -17,15 +17,17 @@ use Rattle.law_dying.specs.Dying.{Falls, Ends, stepped, MayEnd}
 use Rattle.law_dying.proofs.SteppedFiles.{own_kept}
 use Rattle.law_dying.proofs.Steps.{fall_steps, end_steps}
 use Rattle.fact_table.specs.Table.{IsTable, HasNoneOf}
+use Rattle.dn_volume.specs.declared.units.TheConstants.{FALL_UNITS}
 use Rattle.dn_volume.specs.declared.background.DyingPlace.{DyingPlace}
 use Rattle.dn_volume.specs.declared.volume.Parts.{Parts}
 use Rattle.dn_volume.specs.declared.volume.Volume.{Volume}
 use Rattle.dn_volume.specs.Reclaims.{one_if, dying_units}
 use Rattle.dn_volume.specs.Agrees.{IsVolume, Agrees, agrees_with, is_stopped}
 use Rattle.dn_volume.specs.Events.{MovesOn, Breaks}
+use Rattle.dn_volume.specs.Works.{MayWork, ReclaimLowers, reclaim_stand}
 use Rattle.dn_volume.proofs.Tables.{is_table, running_disk}
 use Rattle.reclaim.specs.Released.{Stops}
-use Rattle.reclaim.specs.Worked.{Gives, DropsPlace, FreesPlace, EndsInode}
+use Rattle.reclaim.specs.Worked.{KeepsWork, Gives, DropsPlace, FreesPlace, EndsInode}
 use Rattle.reclaim.specs.Walked.{LeadsThrough}
 use Rattle.reclaim.specs.Dying.{IsAt, IsLastOf, IsUnmapped}
 use Rattle.reclaim.proofs.WorkEvent.{WorkShown, work_moves, work_stopped, work_breaks}
@@ -48,6 +50,14 @@ pub record SetsWord (at value : ℕ) (s u : State) : Type 0 where
 
 pub sets_at : (at word value : ℕ) (s u : State) → at ≡ word → SetsWord at value s u → SetsWord word value s u
 sets_at at word value s u same = subst (λ (a : ℕ). SetsWord a value s u) same
+
+-- there is work
+pub some_work : (b : Parts) → 1 ≤ b.reclaiming.waiting → MayWork (reclaim_stand b)
+some_work b some = record { some = λ rests. omega (arith, some, rests); loose = λ holder none. none }
+
+-- and less of it afterwards
+pub less_work : (b b' : Parts) → KeepsWork b b' → b'.reclaiming.waiting < b.reclaiming.waiting → ReclaimLowers b b' b'.reclaiming.waiting
+less_work b b' kept less = record { left_is = refl; less = less; queue = ap (λ (q : _). length q.items) kept.queue; sharing = kept.sharing }
 
 pub done_at : (at word value : ℕ) (s u : State) → at ≡ word → IsDone 16 at value s u → IsDone 16 word value s u
 done_at at word value s u same = subst (λ (a : ℕ). IsDone 16 a value s u) same
@@ -86,7 +96,7 @@ module _ {D F : Type 0} (state : D → State) (w : Volume D F) where
         in_file_of : (d : Disk) (v : IsVolume d w.parts (state w.device)) → p.place < 4096
         in_file_of d v = maps-in_file d v.fast.valid p.ino p.place (v.reclaiming.raised p raised_is).by (v.reclaiming.raised p raised_is).in_table (v.reclaiming.raised p raised_is).mapped
 
-    pub drop_units : Agrees state w → w.parts.stopped ≡ false → 20 ≤ w.parts.owed.units
+    pub drop_units : Agrees state w → w.parts.stopped ≡ false → FALL_UNITS ≤ w.parts.owed.units
     drop_units agrees running =
         let found = running_disk state w running agrees in
         let one : one_if w.parts.reclaiming.raised ≡ 1 = ap (λ (r : Option DyingPlace). one_if r) raised_is in
@@ -121,7 +131,7 @@ module _ {D F : Type 0} (state : D → State) (w : Volume D F) where
           (drop_event d w.parts w'.parts (state w.device) (state w'.device) v p raised_is change sets.spare sets.only sets.others done)
 
       pub drop_breaks : Stops w.parts w'.parts → Rose (state w.device).faults (state w'.device).faults → Breaks state print 16 None w w' d
-      drop_breaks stops rose = work_breaks state print w w' d (stepped d p.ino (Falls p.place)) v drop_shown stops sets.only.words rose
+      drop_breaks stops rose = work_breaks state print w w' d (stepped d p.ino (Falls p.place)) v drop_shown stops (λ a. a ≡ inode_word p.ino 3) sets.only (λ a low is. omega (arith, low, is)) rose
 
   -- the last place, on a page without a row
   module _ (ino place page : ℕ) (last : IsAt (λ n. IsLastOf n place page) w.parts.inodes.items ino) (none : (d : Disk) → IsTable d (state w.device).now w.parts.fact → HasNoneOf d page)
@@ -174,7 +184,7 @@ module _ {D F : Type 0} (state : D → State) (w : Volume D F) where
           (free_event d w.parts w'.parts (state w.device) (state w'.device) v ino place page (last_of d v) (none_of d v) unraised change units sets.spare sets.only sets.others done)
 
       pub free_breaks : Stops w.parts w'.parts → Rose (state w.device).faults (state w'.device).faults → Breaks state print 16 None w w' d
-      free_breaks stops rose = work_breaks state print w w' d (stepped d ino (Falls place)) v free_shown stops sets.only.words rose
+      free_breaks stops rose = work_breaks state print w w' d (stepped d ino (Falls place)) v free_shown stops (λ a. a ≡ inode_word ino 3) sets.only (λ a low is. omega (arith, low, is)) rose
 
   -- no place is left
   module _ (ino : ℕ) (none : IsAt IsUnmapped w.parts.inodes.items ino) (unraised : w.parts.reclaiming.raised ≡ None) where
@@ -215,7 +225,7 @@ module _ {D F : Type 0} (state : D → State) (w : Volume D F) where
           (end_event d w.parts w'.parts (state w.device) (state w'.device) v ino (ends_of d v) unraised change gives units sets.spare sets.only sets.others done)
 
       pub end_breaks : Stops w.parts w'.parts → Rose (state w.device).faults (state w'.device).faults → Breaks state print 16 None w w' d
-      end_breaks stops rose = work_breaks state print w w' d (stepped d ino Ends) v end_shown stops sets.only.words rose
+      end_breaks stops rose = work_breaks state print w w' d (stepped d ino Ends) v end_shown stops (λ a. a ≡ inode_word ino 0) sets.only (λ a low is. omega (arith, low, is)) rose
 
 -- the pages of its log came free
 pub end_gives : (b : Parts) (s : State) (d : Disk) (v : IsVolume d b s) (ino : ℕ) (none : IsAt IsUnmapped b.inodes.items ino) (mid after : FreePages)

@@ -1,12 +1,12 @@
 -- An event of reclaim that leaves what operations and the daemon have: the volume of after, from what the event has to
 -- show of the disk and of what is kept in memory.
-use Rattle.std.proofs.Common.{◌≡◌, ◌≢◌, ◌⊎◌, inl, inr, ⊎_elim, ℕ, ◌+◌, ◌*◌, ◌<◌, ◌≤◌, List, [], length, refl, sym, ◌∙◌, ap, subst, arith}
+use Rattle.std.proofs.Common.{◌≡◌, ◌≢◌, ◌⊎◌, inl, inr, ⊎_elim, ℕ, ◌+◌, ◌-◌, ◌*◌, ◌<◌, ◌≤◌, List, [], length, refl, sym, ◌∙◌, ap, subst, arith}
 use Rattle.std.specs.Prelude.{slice_get, Option, Some, None, All, Contains, vec_len, vec_capacity}
 use Rattle.std.specs.FinMap.{get}
 use Rattle.std.proofs.lemmas.List.{append-nil}
 use Rattle.std.proofs.lemmas.Bool.{cases_eq}
 use Rattle.pm_device.specs.State.{State, Agree, Rose}
-use Rattle.pm_device.specs.Settled.{LeavesOnly}
+use Rattle.pm_device.specs.Settled.{LeavesOnly, StoresOnly}
 use Rattle.pm_layout.specs.declared.Geometry.{Geometry}
 use Rattle.pm_layout.specs.Geometry.{IsAccepted, slots}
 use Rattle.dn_model.specs.Maps.{Mapping}
@@ -14,7 +14,7 @@ use Rattle.dn_model.specs.Disk.{Disk, Dying}
 use Rattle.dn_model.specs.Files.{files, named, IsSameFiles}
 use Rattle.dn_model.specs.Own.{Print, IsOwn, LivePlace}
 use Rattle.dn_volume.specs.declared.flight.Flight.{Flight}
-use Rattle.dn_volume.specs.declared.outcome.CountChange.{CountChange}
+use Rattle.dn_model.specs.declared.op.CountChange.{CountChange}
 use Rattle.dn_volume.specs.declared.volume.InodeState.{InodeState}
 use Rattle.dn_volume.specs.declared.volume.Parts.{Parts}
 use Rattle.dn_volume.specs.declared.volume.Volume.{Volume}
@@ -27,11 +27,12 @@ use Rattle.dn_volume.specs.Shares.{IsWaiting, in_queue, is_begun, IsQueued}
 use Rattle.dn_volume.specs.Reclaims.{IsReclaiming}
 use Rattle.dn_volume.specs.Reserve.{HasRoom}
 use Rattle.dn_volume.specs.Accounts.{AccountsFor}
-use Rattle.dn_volume.specs.Agrees.{StandsFast, IsVolume, IsStopped, NamesSlots}
+use Rattle.dn_volume.specs.Agrees.{StandsFast, IsVolume, IsStopped, NamesSlots, HasHead, HasNoStale}
 use Rattle.dn_volume.specs.Events.{IsBetween, Counts, Moves, MovesOn, Breaks, word_at}
 use Rattle.dn_volume.specs.Rely.{IsFor, LeavesRest, StayInHand}
 use Rattle.dn_volume.specs.StillLaws.{SettlesAll}
 use Rattle.dn_volume.specs.Stills.{IsStillBut}
+use Rattle.dn_volume.proofs.Heads.{head_of, head_kept}
 use Rattle.dn_volume.proofs.Kept.{ops_same}
 use Rattle.dn_volume.proofs.OthersStay.{others_stay}
 use Rattle.reclaim.specs.Released.{Stops}
@@ -58,6 +59,7 @@ pub record WorkEvent (inodes : List ℕ) (d e : Disk) (b b' : Parts) (s u : Stat
   pub table : AreSlotsOf e b'.fact
   pub counts : AreCounted e b'
   pub reclaiming : IsReclaiming e b'
+  pub pointers : HasNoStale e
   pub room : HasRoom b' u
   pub still : IsStillBut b' u
 
@@ -137,6 +139,7 @@ module _ (inodes : List ℕ) (d e : Disk) (b b' : Parts) (s u : State) (v : IsVo
     queue = record { waits = λ ino idx m place undone. waits_on ino m.slot (v.queue.waits ino idx m (is.live ino idx m place) undone) };
     sharing = stay.1.sharing (omega arith);
     reclaiming = is.reclaiming;
+    pointers = is.pointers;
     room = is.room;
     trace = trace_after;
     still = is.still;
@@ -171,12 +174,14 @@ module _ {D F : Type 0} (state : D → State) (print : Print) (w w' : Volume D F
     history = ap (λ (h : _). h.items) is.kept.history;
   }
 
-  module _ (stops : Stops w.parts w'.parts) (long : length (state w'.device).now ≡ length (state w.device).now) where
+  module _ (stops : Stops w.parts w'.parts) (W : ℕ → Type 0) (only : StoresOnly W (state w.device) (state w'.device)) (high : (a : ℕ) → a < 4 → W a → ⊥) where
     pub work_stopped : IsStopped w'.parts (state w'.device)
     work_stopped = record {
       stopped = stops.stopped;
       accepted = subst IsAccepted (v.fast.geometry ∙ sym stops.geometry) v.fast.valid.accepted;
-      long = long ∙ v.fast.long ∙ ap (λ (g : Geometry). 512 * g.pages) (v.fast.geometry ∙ sym stops.geometry);
+      long = only.words ∙ v.fast.long ∙ ap (λ (g : Geometry). 512 * g.pages) (v.fast.geometry ∙ sym stops.geometry);
+      head = head_kept W w'.parts.geometry (state w.device) (state w'.device) high only
+          (subst (λ (g : Geometry). HasHead g (state w.device).now) (sym stops.geometry) (head_of d w.parts.geometry (state w.device) v.fast));
       trace = subst (λ (g : Geometry). All (λ (c : CountChange). c.slot < slots g) w'.parts.trace.items) (sym stops.geometry)
           (subst (All (λ (c : CountChange). c.slot < slots w.parts.geometry)) (sym stops.trace) v.trace);
     }
@@ -189,6 +194,12 @@ module _ {D F : Type 0} (state : D → State) (print : Print) (w w' : Volume D F
       rose = rose;
       quiet = λ none. shown.quiet;
       ops = ops_same w.parts w'.parts stops.flights;
+      others = record {
+        flights = λ q some other. ap (λ (fs : List (Option Flight)). flight_at fs (q - 1)) stops.flights;
+        sharing = λ other. stops.sharing;
+      };
+      trace = record { more = []; trace = stops.trace ∙ sym (append-nil w.parts.trace.items) };
+      geometry = stops.geometry;
       answering = λ op none. cc;
       answered = λ op none. cc;
       history = stops.history;

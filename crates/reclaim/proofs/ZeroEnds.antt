@@ -12,8 +12,9 @@ use Rattle.dn_model.specs.Own.{Print}
 use Rattle.law_table_on_disk.proofs.NextDisk.{table_said}
 use Rattle.fact_table.specs.Table.{Table, IsTable, HasTable, IsAtSlot, HasRow}
 use Rattle.fact_counts.proofs.Counting.{row_small}
-use Rattle.fact_changes.specs.Removal.{HasZero, MayRemoveAt, MakesRemoved, SettlesRemoved, LeavesRemoved, RemovesOnly, KeepsThrough}
+use Rattle.fact_changes.specs.Removal.{IsRemoveWord, HasZero, MayRemoveAt, MakesRemoved, SettlesRemoved, LeavesRemoved, RemovesOnly, KeepsThrough}
 use Rattle.fact_rows.specs.Gone.{cleared}
+use Rattle.dn_volume.specs.declared.units.TheConstants.{ZERO_CHECK_UNITS}
 use Rattle.dn_volume.specs.declared.background.DyingPlace.{DyingPlace}
 use Rattle.dn_volume.specs.declared.volume.Parts.{Parts}
 use Rattle.dn_volume.specs.declared.volume.Volume.{Volume}
@@ -27,7 +28,7 @@ use Rattle.reclaim.specs.Zero.{IsZero, IsZeroRow, IsCountedRow}
 use Rattle.reclaim.proofs.WorkEvent.{WorkEvent, WorkShown, work_moves, work_stopped, work_breaks}
 use Rattle.reclaim.proofs.SpaceGained.{gives_one}
 use Rattle.reclaim.proofs.UnitsLost.{units_dying, units_some}
-use Rattle.reclaim.proofs.ZeroEvent.{stays_event, stays_shown, may_remove, page_in, page_taken, gone_shown, gone_event}
+use Rattle.reclaim.proofs.ZeroEvent.{remove_high, stays_event, stays_shown, may_remove, page_in, page_taken, gone_shown, gone_event}
 
 module _ {D F : Type 0} (state : D → State) (w : Volume D F) (slot : ℕ) (pending : w.parts.reclaiming.zero_check ≡ Some slot) where
   pub zero_table : Agrees state w → w.parts.stopped ≡ false → HasTable (state w.device).now w.parts.fact
@@ -52,13 +53,13 @@ module _ {D F : Type 0} (state : D → State) (w : Volume D F) (slot : ℕ) (pen
       let one : one_if w.parts.reclaiming.zero_check ≡ 1 = ap (λ (x : Option ℕ). one_if x) pending in
       omega (arith, found.1.reclaiming.waiting, one, one_raised found.0 found.1 w.parts.reclaiming.raised refl)
 
-  pub zero_units : Agrees state w → w.parts.stopped ≡ false → 20 ≤ w.parts.owed.units
+  pub zero_units : Agrees state w → w.parts.stopped ≡ false → ZERO_CHECK_UNITS ≤ w.parts.owed.units
   zero_units agrees running =
       let found = running_disk state w running agrees in
       let one : one_if w.parts.reclaiming.zero_check ≡ 1 = ap (λ (x : Option ℕ). one_if x) pending in
       omega (arith, found.1.room.owes.units, one)
 
-  pub zero_spare : Agrees state w → w.parts.stopped ≡ false → 6 ≤ (state w.device).spare
+  pub zero_spare : Agrees state w → w.parts.stopped ≡ false → ZERO_CHECK_UNITS ≤ (state w.device).spare
   zero_spare agrees running = let found = running_disk state w running agrees in omega (arith, zero_units agrees running, found.1.room.units)
 
   -- its row is counted again
@@ -104,7 +105,7 @@ module _ {D F : Type 0} (state : D → State) (w : Volume D F) (slot : ℕ) (pen
         shown = gone_shown d w.parts (state w.device) (state w'.device) v slot has.row has.is zero_is.no_reference zero_is.no_update (only d has.row may) print agree faults (leaves d has.row may table_stands)
 
         pub gone_breaks : Stops w.parts w'.parts → Rose (state w.device).faults (state w'.device).faults → Breaks state print 16 None w w' d
-        gone_breaks stops rose = work_breaks state print w w' d (cleared d has.row) v shown stops (only d has.row may).words rose
+        gone_breaks stops rose = work_breaks state print w w' d (cleared d has.row) v shown stops (IsRemoveWord d has.row) (only d has.row may) (remove_high d w.parts (state w.device) (state w'.device) v slot has.row has.is zero_is.no_reference zero_is.no_update) rose
 
         pub gone_moves : Checks w.parts w'.parts → KeepsThrough 16 w.parts.fact slot (state w.device) (state w'.device) → MakesRemoved w.parts.fact w'.parts.fact slot (state w.device) (state w'.device)
             → SettlesRemoved w.parts.fact slot (state w.device) (state w'.device) → Gives (λ p. p ≡ page) w.parts.free w'.parts.free → (state w.device).spare ≤ (state w'.device).spare + 6 → MovesOn state print 16 w w' d

@@ -34,7 +34,7 @@ use Rattle.dn_volume.specs.declared.volume.Parts.{Parts}
 use Rattle.dn_volume.specs.Inodes.{AreInodesOf}
 use Rattle.dn_volume.specs.Balance.{AreCounted}
 use Rattle.dn_volume.specs.Reclaims.{one_if, dying_units}
-use Rattle.dn_volume.specs.Agrees.{StandsFast, IsVolume}
+use Rattle.dn_volume.specs.Agrees.{StandsFast, HasNoStale, IsVolume}
 use Rattle.dn_volume.specs.Events.{IsBetween}
 use Rattle.dn_volume.specs.Rely.{IsWordOf, of_table, LeavesRest}
 use Rattle.dn_volume.proofs.Granted.{Decides}
@@ -89,6 +89,7 @@ module _ (d : Disk) (b b' : Parts) (s : State) (v : IsVolume d b s) (slot : ℕ)
         zero_check = λ x is. absurd (no_check x b'.reclaiming.zero_check checks.zero_check is);
         raised = λ p is. v.reclaiming.raised p (sym checks.raised ∙ is);
       };
+      pointers = v.pointers;
       room = room_worked b b' s s checks.kept (zero_moves b b' slot pending checks d s s v (omega arith)) v.room
           (λ who f c y flies is at. v.room.places who f c y flies is (ap (λ (ns : List InodeState). slice_get ns f.ino) (sym zero_inodes) ∙ at));
       still = still_works b b' s s (λ a. ⊥) (λ a. inr (λ none. none)) (stores_only-none (λ a. ⊥) s agree) (record { flushed = λ q a other out flushed. flushed }) (λ a none. absurd none) v.flights.clients
@@ -148,6 +149,21 @@ module _ (d : Disk) (b : Parts) (s u : State) (v : IsVolume d b s) (slot : ℕ) 
 
   within : (a : ℕ) → IsRemoveWord d row a → IsTableWord d.geometry a
   within a is = let told = word_told a is in said_within e (good_of e next.valid) a told.0 told.1
+
+  -- none of these words is the head's
+  pub remove_high : (a : ℕ) → a < 4 → IsRemoveWord d row a → ⊥
+  remove_high a low is = let word = within a is in omega (arith, low, word.0)
+
+  -- no pointer is stale: that of its page is cleared
+  pub none_stale : HasNoStale e
+  none_stale = record {
+    none = λ page lt some none. elim (cases_eq page row.page) [
+      | inl same ↦ some (ap (λ (t : Bool). if t then 0 else d.pointer page) (same_test page row.page same))
+      | inr ne ↦ v.pointers.none page lt (λ zero'. some (ap (λ (t : Bool). if t then 0 else d.pointer page) (other_test page row.page ne) ∙ zero'))
+          (λ r has is. ⊎_elim (λ (here : r ≡ row). ne (sym is ∙ ap (λ (x : Row). x.page) here)) (λ (still : Contains (rows e) r). none r still is)
+          ((gone d row v.fast.valid at_slot.there no_reference no_update).kept r has))
+    ];
+  }
 
   -- its page lies in the image, and isn't free
   pub page_in : row.page < b.free.pages
@@ -241,6 +257,7 @@ module _ (d : Disk) (b : Parts) (s u : State) (v : IsVolume d b s) (slot : ℕ) 
           zero_check = row_left;
           raised = λ p is. raised_stays [] [] d e v.fast.valid leaves_rest.rest b v.counts p (sym checks.raised ∙ is) (λ has. omega (arith, has.1)) (v.reclaiming.raised p (sym checks.raised ∙ is));
         };
+        pointers = none_stale;
         room = room_worked b b' s u checks.kept (zero_moves b b' slot pending checks d s u v spare) v.room
             (λ who f c y flies is at. v.room.places who f c y flies is (ap (λ (ns : _). slice_get ns.items f.ino) (sym checks.inodes) ∙ at));
         still = still_works b b' s u (IsRemoveWord d row) decide only others (λ a is. let told = word_told a is in settles.settled a told.0 told.1) v.flights.clients (flight_same b b' checks.kept) v.still;

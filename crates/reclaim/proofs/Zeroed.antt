@@ -72,10 +72,10 @@ checks_since b t f b' is = record {
 
 -- so it is where a fence failed
 pub stops_since : (b : Parts) (t : Table) (b' : Parts) → Stops (record b { fact = t }) b' → Stops b b'
-stops_since b t b' is = record { geometry = is.geometry; stopped = is.stopped; flights = is.flights; trace = is.trace; history = is.history; made = is.made }
+stops_since b t b' is = record { geometry = is.geometry; stopped = is.stopped; flights = is.flights; sharing = is.sharing; trace = is.trace; history = is.history; made = is.made }
 
 pub stops_freed : (b : Parts) (f : FreePages) (b' : Parts) → Stops (record b { free = f }) b' → Stops b b'
-stops_freed b f b' is = record { geometry = is.geometry; stopped = is.stopped; flights = is.flights; trace = is.trace; history = is.history; made = is.made }
+stops_freed b f b' is = record { geometry = is.geometry; stopped = is.stopped; flights = is.flights; sharing = is.sharing; trace = is.trace; history = is.history; made = is.made }
 
 some_one : (p q : ℕ) (o : Option ℕ) → o ≡ Some p → o ≡ Some q → p ≡ q
 some_one p q o a b = cc

@@ -6,6 +6,7 @@ use Rattle.fingerprint.specs.declared.count.CountWord.{CountWord}
 use Rattle.dn_model.specs.Table.{Row}
 use Rattle.dn_model.specs.Disk.{Disk}
 use Rattle.fact_table.specs.Table.{Table, IsTable, IsAtSlot}
+use Rattle.dn_volume.specs.declared.units.TheConstants.{ZERO_CHECK_UNITS}
 use Rattle.dn_volume.specs.declared.volume.Parts.{Parts}
 use Rattle.dn_volume.specs.Events.{Counts}
 
@@ -38,7 +39,7 @@ pub record SettlesRelease (slot word : ℕ) (b b' : Parts) : Type 0 where
   pub trace : b'.trace.items ≡ b.trace.items ++ record { slot = slot; word = word } ∷ []
   pub trace_len : vec_len b'.trace ≡ vec_len b.trace + 1
   pub trace_capacity : vec_capacity b'.trace ≡ vec_capacity b.trace
-  pub owed : b'.owed ≡ record b.owed { units = b.owed.units + (if word == 0 then 20 else 0) }
+  pub owed : b'.owed ≡ record b.owed { units = b.owed.units + (if word == 0 then ZERO_CHECK_UNITS else 0) }
   pub made : Counts b b'
 
 -- a fence failed
@@ -46,6 +47,7 @@ pub record Stops (b b' : Parts) : Type 0 where
   pub geometry : b'.geometry ≡ b.geometry
   pub stopped : b'.stopped ≡ true
   pub flights : b'.flights.items ≡ b.flights.items
+  pub sharing : b'.sharing ≡ b.sharing
   pub trace : b'.trace.items ≡ b.trace.items
   pub history : b'.history.items ≡ b.history.items
   pub made : Counts b b'

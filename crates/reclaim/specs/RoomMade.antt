@@ -3,6 +3,7 @@ use Rattle.std.specs.Prelude.{◌≡◌, ◌⊎◌, ◌+◌, ◌^◌, ◌<◌, �
 use Rattle.std.specs.VecDeque.{deque_len, deque_capacity}
 use Rattle.pm_device.specs.State.{State, IsSame}
 use Rattle.dn_volume.specs.declared.volume.Volume.{Volume}
+use Rattle.reclaim.specs.declared.release.TheConstants.{RELEASE_UNITS}
 
 -- nothing else differs
 pub record MakesRoom {D F : Type 0} (state : D → State) (w w' : Volume D F) : Type 0 where
@@ -18,8 +19,8 @@ pub record MakesRoom {D F : Type 0} (state : D → State) (w w' : Volume D F) : 
 
 -- there is room for a release or the next event of a dying file
 pub record HasRoomFor {D F : Type 0} (state : D → State) (w : Volume D F) : Type 0 where
-  pub owed : w.parts.owed.units + 23 < 2 ^ 64
-  pub units : w.parts.owed.units + 23 ≤ (state w.device).spare
+  pub owed : w.parts.owed.units + RELEASE_UNITS < 2 ^ 64
+  pub units : w.parts.owed.units + RELEASE_UNITS ≤ (state w.device).spare
   pub trace : vec_len w.parts.trace + w.parts.owed.trace + 1 ≤ vec_capacity w.parts.trace
   pub few : w.parts.owed.releases + 1 < 2 ^ 64
   pub releases : deque_len w.parts.reclaiming.releases + w.parts.owed.releases + 1 ≤ deque_capacity w.parts.reclaiming.releases

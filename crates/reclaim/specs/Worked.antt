@@ -3,6 +3,7 @@ use Rattle.std.specs.Prelude.{◌≡◌, ◌≢◌, ◌⊎◌, ◌↔◌, ℕ, �
 use Rattle.std.specs.VecDeque.{deque_len, deque_capacity}
 use Rattle.file_index.specs.Index.{CutsOff}
 use Rattle.page_alloc.specs.Free.{FreePages, IsInOrder, GivesBack}
+use Rattle.dn_volume.specs.declared.units.TheConstants.{FALL_UNITS, ZERO_CHECK_UNITS}
 use Rattle.dn_volume.specs.declared.background.DyingPlace.{DyingPlace}
 use Rattle.dn_volume.specs.declared.volume.InodeState.{InodeState}
 use Rattle.dn_volume.specs.declared.volume.InodeUse.TheVariants as used
@@ -62,7 +63,7 @@ pub record Checks (b b' : Parts) : Type 0 where
   pub raised : b'.reclaiming.raised ≡ b.reclaiming.raised
   pub releases : b'.reclaiming.releases ≡ b.reclaiming.releases
   pub waiting : b'.reclaiming.waiting + 1 ≡ b.reclaiming.waiting
-  pub units : b'.owed.units + 20 ≡ b.owed.units
+  pub units : b'.owed.units + ZERO_CHECK_UNITS ≡ b.owed.units
   pub owed_releases : b'.owed.releases ≡ b.owed.releases
 
 -- a place of a dying inode is raised, whose page's row has this word
@@ -78,7 +79,7 @@ pub record RaisesPlace (p : DyingPlace) (word : ℕ) (b b' : Parts) : Type 0 whe
   pub trace : b'.trace.items ≡ b.trace.items ++ record { slot = p.slot; word = word } ∷ []
   pub trace_len : vec_len b'.trace ≡ vec_len b.trace + 1
   pub trace_capacity : vec_capacity b'.trace ≡ vec_capacity b.trace
-  pub owed : b'.owed ≡ record b.owed { units = b.owed.units + 20; releases = b.owed.releases + 1 }
+  pub owed : b'.owed ≡ record b.owed { units = b.owed.units + FALL_UNITS; releases = b.owed.releases + 1 }
   pub made : Counts b b'
 
 -- the raised place is gone, and its row waits to be released
@@ -93,7 +94,7 @@ pub record DropsPlace (p : DyingPlace) (b b' : Parts) : Type 0 where
   pub len : deque_len b'.reclaiming.releases ≡ deque_len b.reclaiming.releases + 1
   pub capacity : deque_capacity b'.reclaiming.releases ≡ deque_capacity b.reclaiming.releases
   pub waiting : b'.reclaiming.waiting + 1 ≡ b.reclaiming.waiting
-  pub units : b'.owed.units + 20 ≡ b.owed.units
+  pub units : b'.owed.units + FALL_UNITS ≡ b.owed.units
   pub owed_releases : b'.owed.releases + 1 ≡ b.owed.releases
 
 -- a place on this page is gone, which is free

@@ -4,15 +4,16 @@ ghost use Rattle.std.specs.VecDeque.{deque_len};
 ghost use Rattle.dn_model.specs.Disk.{Disk};
 ghost use Rattle.dn_volume.specs.Reclaims.{IsRaised};
 ghost use Rattle.dn_volume.specs.Agrees.{Agrees, IsVolume};
-ghost use Rattle.dn_volume.specs.Works.{Works, ReclaimLeft, ReclaimRests};
+ghost use Rattle.dn_volume.specs.Works.{ReclaimWorks};
 ghost use Rattle.reclaim.specs.Worked.{RaisesPlace};
 ghost use Rattle.reclaim.specs.RoomMade.{HasRoomFor};
 ghost use Rattle.reclaim.specs.Dying.{IsDyingState, IsDying, IsLeastDying, IsLastOf, IsUnmapped};
 
 use crate::end::end_inode;
-use crate::fall::{RAISED_UNITS, free_place};
+use crate::fall::free_place;
 use crate::raise::raise_at;
 use crate::release::stop;
+use dn_volume::units::FALL_UNITS;
 use dn_volume::{CountChange, DyingPlace, InodeState, InodeUse, Outcome, Parts, RECLAIM, Volume};
 use fingerprint::Fingerprint;
 use pm_device::Pm;
@@ -21,14 +22,14 @@ use pm_device::Pm;
 fn note_place(parts: &mut Parts, p: DyingPlace, word: u64)
     requires waiting { 1 ≤ parts.old.reclaiming.waiting }
     requires trace { vec_len parts.old.trace < vec_capacity parts.old.trace }
-    requires units { parts.old.owed.units + RAISED_UNITS < 2 ^ 64 }
+    requires units { parts.old.owed.units + FALL_UNITS < 2 ^ 64 }
     requires releases { parts.old.owed.releases + 1 < 2 ^ 64 }
     ensures { RaisesPlace p word parts.old parts.new }
 {
     parts.reclaiming.raised = Some(p);
     parts.reclaiming.waiting -= 1;
     parts.trace.push_reserved(CountChange { slot: p.slot, word });
-    parts.owed.units += RAISED_UNITS;
+    parts.owed.units += FALL_UNITS;
     parts.owed.releases += 1;
     parts.made = parts.made.saturating_add(1);
 }
@@ -42,7 +43,7 @@ pub fn raise_place<D: Pm, F: Fingerprint>(v: &mut Volume<D, F>, p: DyingPlace) -
     requires place { (d : Disk) → IsVolume d v.old.parts (D.state v.old.device) → IsRaised d p }
     requires room { HasRoomFor D.state v.old }
     ensures agrees { Agrees D.state v.new }
-    ensures event { (d : Disk) → IsVolume d v.old.parts (D.state v.old.device) → Works D.state F.print 16 ReclaimLeft ⊥ (λ q. ⊥) v.old v.new d result }
+    ensures event { (d : Disk) → IsVolume d v.old.parts (D.state v.old.device) → ReclaimWorks D.state F.print v.old v.new d result }
 {
     match raise_at(&v.parts.fact, &mut v.device, RECLAIM, p.slot) {
         Ok(word) => {
@@ -101,7 +102,7 @@ fn go_on<D: Pm, F: Fingerprint>(v: &mut Volume<D, F>, ino: u64) -> Outcome
     requires none_wait { deque_len v.old.parts.reclaiming.releases ≡ 0 }
     requires room { HasRoomFor D.state v.old }
     ensures agrees { Agrees D.state v.new }
-    ensures event { (d : Disk) → IsVolume d v.old.parts (D.state v.old.device) → Works D.state F.print 16 ReclaimLeft ⊥ (λ q. ⊥) v.old v.new d result }
+    ensures event { (d : Disk) → IsVolume d v.old.parts (D.state v.old.device) → ReclaimWorks D.state F.print v.old v.new d result }
 {
     match last_place(&v.parts.inodes[ino as usize]) {
         None => end_inode(v, ino),
@@ -126,7 +127,7 @@ pub fn next_dying<D: Pm, F: Fingerprint>(v: &mut Volume<D, F>) -> Outcome
     requires none_wait { deque_len v.old.parts.reclaiming.releases ≡ 0 }
     requires room { HasRoomFor D.state v.old }
     ensures agrees { Agrees D.state v.new }
-    ensures event { (d : Disk) → IsVolume d v.old.parts (D.state v.old.device) → Works D.state F.print 16 ReclaimLeft (ReclaimRests v.old.parts) (λ q. ⊥) v.old v.new d result }
+    ensures event { (d : Disk) → IsVolume d v.old.parts (D.state v.old.device) → ReclaimWorks D.state F.print v.old v.new d result }
 {
     match least_dying(&v.parts.inodes) {
         Some(ino) => go_on(v, ino),

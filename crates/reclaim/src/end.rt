@@ -3,7 +3,7 @@ ghost use Rattle.std.specs.Prelude.{◌≡◌, ◌+◌, ◌*◌, ◌≤◌, ◌<
 ghost use Rattle.pm_layout.specs.Geometry.{IsAccepted};
 ghost use Rattle.dn_model.specs.Disk.{Disk};
 ghost use Rattle.dn_volume.specs.Agrees.{Agrees, IsVolume};
-ghost use Rattle.dn_volume.specs.Works.{Works, ReclaimLeft};
+ghost use Rattle.dn_volume.specs.Works.{ReclaimWorks};
 ghost use Rattle.reclaim.specs.Worked.{Gives, ChangesOne, EndsState, EndsInode};
 ghost use Rattle.reclaim.specs.Walked.{LeadsThrough, CanGiveLog};
 ghost use Rattle.reclaim.specs.Dying.{IsAt, IsUnmapped};
@@ -78,7 +78,7 @@ pub fn end_inode<D: Pm, F: Fingerprint>(v: &mut Volume<D, F>, ino: u64) -> Outco
     requires none { IsAt IsUnmapped v.old.parts.inodes.items ino }
     requires units { v.old.parts.owed.units + SET_UNITS ≤ (D.state v.old.device).spare }
     ensures agrees { Agrees D.state v.new }
-    ensures event { (d : Disk) → IsVolume d v.old.parts (D.state v.old.device) → Works D.state F.print 16 ReclaimLeft ⊥ (λ q. ⊥) v.old v.new d result }
+    ensures event { (d : Disk) → IsVolume d v.old.parts (D.state v.old.device) → ReclaimWorks D.state F.print v.old v.new d result }
 {
     let g = v.parts.geometry;
     give_back_log(&mut v.parts.free, &v.device, &g, ino);

@@ -4,19 +4,17 @@ ghost use Rattle.std.specs.VecDeque.{deque_len, deque_capacity};
 ghost use Rattle.dn_model.specs.Disk.{Disk};
 ghost use Rattle.fact_table.specs.Table.{IsTable, HasNoneOf};
 ghost use Rattle.dn_volume.specs.Agrees.{Agrees, IsVolume};
-ghost use Rattle.dn_volume.specs.Works.{Works, ReclaimLeft};
+ghost use Rattle.dn_volume.specs.Works.{ReclaimWorks};
 ghost use Rattle.reclaim.specs.Worked.{ChangesOne, FallsTo, DropsPlace, FreesPlace};
 ghost use Rattle.reclaim.specs.Dying.{IsAt, IsLastOf};
 
 use crate::release::stop;
+use dn_volume::units::FALL_UNITS;
 use dn_volume::{DyingPlace, InodeState, InodeUse, Outcome, Parts, RECLAIM, Volume};
 use fingerprint::Fingerprint;
 use inode_table::CUT;
 use pm_device::Pm;
 use pm_device::set::{SET_UNITS, set_word};
-
-/// The units of the device that a raised place is owed.
-pub const RAISED_UNITS: u64 = 20;
 
 // Nothing of a dying inode is mapped from this place on.
 fn fall_state(node: &mut InodeState, place: u64)
@@ -39,7 +37,7 @@ fn note_drop(parts: &mut Parts, p: DyingPlace)
     requires there { p.ino < length parts.old.inodes.items }
     requires room { deque_len parts.old.reclaiming.releases < deque_capacity parts.old.reclaiming.releases }
     requires waiting { 1 ≤ parts.old.reclaiming.waiting }
-    requires units { RAISED_UNITS ≤ parts.old.owed.units }
+    requires units { FALL_UNITS ≤ parts.old.owed.units }
     requires releases { 1 ≤ parts.old.owed.releases }
     ensures { DropsPlace p parts.old parts.new }
 {
@@ -47,7 +45,7 @@ fn note_drop(parts: &mut Parts, p: DyingPlace)
     parts.reclaiming.raised = None;
     parts.reclaiming.releases.push_back_reserved(p.slot);
     parts.reclaiming.waiting -= 1;
-    parts.owed.units -= RAISED_UNITS;
+    parts.owed.units -= FALL_UNITS;
     parts.owed.releases -= 1;
     parts.made = parts.made.saturating_add(1);
 }
@@ -73,7 +71,7 @@ pub fn drop_place<D: Pm, F: Fingerprint>(v: &mut Volume<D, F>) -> Outcome
     requires running { v.old.parts.stopped ≡ false }
     requires raised { IsSome v.old.parts.reclaiming.raised }
     ensures agrees { Agrees D.state v.new }
-    ensures event { (d : Disk) → IsVolume d v.old.parts (D.state v.old.device) → Works D.state F.print 16 ReclaimLeft ⊥ (λ q. ⊥) v.old v.new d result }
+    ensures event { (d : Disk) → IsVolume d v.old.parts (D.state v.old.device) → ReclaimWorks D.state F.print v.old v.new d result }
 {
     let Some(p) = v.parts.reclaiming.raised else {
         unreachable!();
@@ -103,7 +101,7 @@ pub fn free_place<D: Pm, F: Fingerprint>(v: &mut Volume<D, F>, ino: u64, place: 
     requires no_row { (d : Disk) → IsTable d (D.state v.old.device).now v.old.parts.fact → HasNoneOf d page }
     requires units { v.old.parts.owed.units + SET_UNITS ≤ (D.state v.old.device).spare }
     ensures agrees { Agrees D.state v.new }
-    ensures event { (d : Disk) → IsVolume d v.old.parts (D.state v.old.device) → Works D.state F.print 16 ReclaimLeft ⊥ (λ q. ⊥) v.old v.new d result }
+    ensures event { (d : Disk) → IsVolume d v.old.parts (D.state v.old.device) → ReclaimWorks D.state F.print v.old v.new d result }
 {
     let word = v.parts.geometry.inode_word(ino, CUT);
     match set_word(&mut v.device, RECLAIM, word, place) {

@@ -4,7 +4,7 @@ ghost use Rattle.std.specs.VecDeque.{deque_len, deque_capacity};
 ghost use Rattle.pm_device.specs.State.{IsSame};
 ghost use Rattle.dn_model.specs.Disk.{Disk};
 ghost use Rattle.dn_volume.specs.Agrees.{Agrees, IsVolume};
-ghost use Rattle.dn_volume.specs.Works.{Works, ReclaimLeft, ReclaimRests};
+ghost use Rattle.dn_volume.specs.Works.{ReclaimWorks};
 ghost use Rattle.reclaim.specs.RoomMade.{MakesRoom, HasRoomFor};
 
 use crate::dying::next_dying;
@@ -46,7 +46,7 @@ fn begin_work<D: Pm, F: Fingerprint>(v: &mut Volume<D, F>) -> Outcome
     requires unraised { v.old.parts.reclaiming.raised ≡ None }
     requires room { HasRoomFor D.state v.old }
     ensures agrees { Agrees D.state v.new }
-    ensures event { (d : Disk) → IsVolume d v.old.parts (D.state v.old.device) → Works D.state F.print 16 ReclaimLeft (ReclaimRests v.old.parts) (λ q. ⊥) v.old v.new d result }
+    ensures event { (d : Disk) → IsVolume d v.old.parts (D.state v.old.device) → ReclaimWorks D.state F.print v.old v.new d result }
 {
     if v.parts.reclaiming.releases.is_empty() {
         next_dying(v)
@@ -63,7 +63,7 @@ pub fn reclaim<D: Pm, F: Fingerprint>(v: &mut Volume<D, F>) -> Outcome
     requires agrees { Agrees D.state v.old }
     requires running { v.old.parts.stopped ≡ false }
     ensures agrees { Agrees D.state v.new }
-    ensures event { (d : Disk) → IsVolume d v.old.parts (D.state v.old.device) → Works D.state F.print 16 ReclaimLeft (ReclaimRests v.old.parts) (λ q. ⊥) v.old v.new d result }
+    ensures event { (d : Disk) → IsVolume d v.old.parts (D.state v.old.device) → ReclaimWorks D.state F.print v.old v.new d result }
 {
     if v.parts.reclaiming.zero_check.is_some() {
         return check_zero(v);

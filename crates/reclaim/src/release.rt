@@ -8,20 +8,19 @@ ghost use Rattle.dn_model.specs.Disk.{Disk};
 ghost use Rattle.fact_counts.specs.Standing.{HasRowWith};
 ghost use Rattle.fact_counts.specs.Counted.{down, MaySettleDown, SettlesTable, SettlesOwn, LeavesTables};
 ghost use Rattle.dn_volume.specs.Agrees.{Agrees, IsVolume};
-ghost use Rattle.dn_volume.specs.Works.{Works, ReclaimLeft};
+ghost use Rattle.dn_volume.specs.Works.{ReclaimWorks};
 ghost use Rattle.reclaim.specs.Released.{SettlesRelease, Stops, IsWordAfter};
 
+use dn_volume::units::ZERO_CHECK_UNITS;
 use dn_volume::{CountChange, Outcome, Parts, RECLAIM, Volume};
+use fact_counts::counts::COUNT_UNITS;
 use fact_counts::settle_down;
 use fact_table::Fact;
 use fingerprint::Fingerprint;
 use pm_device::{Failed, Pm};
 
-/// The units of the device that a zero check is owed.
-pub const ZERO_CHECK_UNITS: u64 = 20;
-
 /// The units of the device that a release takes, with those that a zero check is owed then.
-pub const RELEASE_UNITS: u64 = 23;
+pub const RELEASE_UNITS: u64 = COUNT_UNITS + ZERO_CHECK_UNITS;
 
 // The row at a slot is settled down: the word that its counts have then.
 fn settle_row<D: Pm>(fact: &Fact, device: &mut D, slot: u64) -> Result<u64, Failed>
@@ -88,7 +87,7 @@ pub fn settle_release<D: Pm, F: Fingerprint>(v: &mut Volume<D, F>) -> Outcome
     requires units { v.old.parts.owed.units + RELEASE_UNITS ≤ (D.state v.old.device).spare }
     requires trace { vec_len v.old.parts.trace + v.old.parts.owed.trace + 1 ≤ vec_capacity v.old.parts.trace }
     ensures agrees { Agrees D.state v.new }
-    ensures event { (d : Disk) → IsVolume d v.old.parts (D.state v.old.device) → Works D.state F.print 16 ReclaimLeft ⊥ (λ q. ⊥) v.old v.new d result }
+    ensures event { (d : Disk) → IsVolume d v.old.parts (D.state v.old.device) → ReclaimWorks D.state F.print v.old v.new d result }
 {
     let slot = v.parts.reclaiming.releases[0];
     match settle_row(&v.parts.fact, &mut v.device, slot) {

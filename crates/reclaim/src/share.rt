@@ -9,7 +9,7 @@ ghost use Rattle.fact_counts.specs.Counted.{up, MaySettleUp, SettlesTable, Settl
 ghost use Rattle.dn_volume.specs.declared.background.Sharing.{Sharing as KeptSharing};
 ghost use Rattle.dn_volume.specs.declared.background.SharingStep.TheVariants.{Look};
 ghost use Rattle.dn_volume.specs.Agrees.{Agrees, IsVolume};
-ghost use Rattle.dn_volume.specs.Works.{Works, DaemonLeft, sharing_events};
+ghost use Rattle.dn_volume.specs.Works.{DaemonWorks, sharing_events};
 ghost use Rattle.reclaim.specs.Released.{IsWordAfter};
 ghost use Rattle.reclaim.specs.Shared.{IsAtSettle, SettlesShare};
 
@@ -116,7 +116,7 @@ pub fn settle_share<D: Pm, F: Fingerprint>(v: &mut Volume<D, F>) -> Outcome
     requires settle { (slot : ℕ) × IsAtSettle v.old.parts slot }
     requires few { (sharing : KeptSharing) → v.old.parts.sharing ≡ Some sharing → sharing.count < 2 ^ 32 }
     ensures agrees { Agrees D.state v.new }
-    ensures event { (d : Disk) → IsVolume d v.old.parts (D.state v.old.device) → Works D.state F.print 15 DaemonLeft ⊥ (λ q. ⊥) v.old v.new d result }
+    ensures event { (d : Disk) → IsVolume d v.old.parts (D.state v.old.device) → DaemonWorks D.state F.print v.old v.new d result }
 {
     let slot = slot_to_settle(&v.parts);
     match settle_row_up(&v.parts.fact, &mut v.device, slot) {

@@ -4,11 +4,12 @@ ghost use Rattle.pm_layout.specs.Geometry.{slots};
 ghost use Rattle.dn_model.specs.Disk.{Disk};
 ghost use Rattle.fact_table.specs.Table.{HasTable};
 ghost use Rattle.dn_volume.specs.Agrees.{Agrees, IsVolume};
-ghost use Rattle.dn_volume.specs.Works.{Works, ReclaimLeft};
+ghost use Rattle.dn_volume.specs.Works.{ReclaimWorks};
 ghost use Rattle.reclaim.specs.Worked.{Checks};
 ghost use Rattle.reclaim.specs.Zero.{IsZeroRow, IsCountedRow};
 
-use crate::release::{ZERO_CHECK_UNITS, stop};
+use crate::release::stop;
+use dn_volume::units::ZERO_CHECK_UNITS;
 use dn_volume::{Outcome, Parts, RECLAIM, Volume};
 use fact_changes::remove_zero;
 use fact_table::Fact;
@@ -51,7 +52,7 @@ fn remove_row<D: Pm, F: Fingerprint>(v: &mut Volume<D, F>, slot: u64, page: u64)
     requires pending { v.old.parts.reclaiming.zero_check ≡ Some slot }
     requires zero { IsZeroRow (D.state v.old.device).now v.old.parts.fact slot page }
     ensures agrees { Agrees D.state v.new }
-    ensures event { (d : Disk) → IsVolume d v.old.parts (D.state v.old.device) → Works D.state F.print 16 ReclaimLeft ⊥ (λ q. ⊥) v.old v.new d result }
+    ensures event { (d : Disk) → IsVolume d v.old.parts (D.state v.old.device) → ReclaimWorks D.state F.print v.old v.new d result }
 {
     match remove_zero(&mut v.parts.fact, &mut v.device, RECLAIM, slot) {
         Ok(()) => {
@@ -75,7 +76,7 @@ pub fn check_zero<D: Pm, F: Fingerprint>(v: &mut Volume<D, F>) -> Outcome
     requires running { v.old.parts.stopped ≡ false }
     requires pending { IsSome v.old.parts.reclaiming.zero_check }
     ensures agrees { Agrees D.state v.new }
-    ensures event { (d : Disk) → IsVolume d v.old.parts (D.state v.old.device) → Works D.state F.print 16 ReclaimLeft ⊥ (λ q. ⊥) v.old v.new d result }
+    ensures event { (d : Disk) → IsVolume d v.old.parts (D.state v.old.device) → ReclaimWorks D.state F.print v.old v.new d result }
 {
     let Some(slot) = v.parts.reclaiming.zero_check else {
         unreachable!();

@@ -139,16 +139,23 @@ no_files g name = refl
 pub own : EmptyDisksAreOwn
 own g print = record {
   zeros = λ ino idx k m place past lt. absurd (live_place g ino idx m place);
-  prints = no_rows g (All (λ row. row.print ≡ print (page_bytes (empty_disk g) row.page))) (All-nil (λ (row : Row). row.print ≡ print (page_bytes (empty_disk g) row.page)));
+  prints = no_rows g (All (λ row. row.print ≡ print (page_bytes (empty_disk g) row.page)))
+      (All-nil (λ (row : Row). row.print ≡ print (page_bytes (empty_disk g) row.page)));
   complete = λ ino idx m place e. absurd (live_place g ino idx m place);
 }
 
 -- the numbers from a on
 range_has : (a n page : ℕ) → Contains (range_with_len a n) page → (a ≤ page) × (page < a + n)
-range_has a n page (k, lt, e) = let small : k < n = omega (arith, lt, length-range_with_len a n) in let is = get_or-range_with_len a n k page small in (omega (arith, is, e), omega (arith, is, e, small))
+range_has a n page (k, lt, e) = let small : k < n = omega (arith, lt, length-range_with_len a n) in let is = get_or-range_with_len a n k page small in
+    (omega (arith, is, e), omega (arith, is, e, small))
 
 in_range : (a n page : ℕ) → a ≤ page → page < a + n → Contains (range_with_len a n) page
-in_range a n page low high = (page - a, omega (arith, length-range_with_len a n), get_or-range_with_len a n (page - a) page (omega arith) ∙ omega arith)
+in_range a n page low high = (
+  page - a,
+  omega (arith, length-range_with_len a n),
+  get_or-range_with_len a n (page - a) page (omega arith) ∙ omega
+      arith,
+)
 
 range_apart : (a n : ℕ) → AllPairs (λ p q. p ≢ q) (range_with_len a n)
 range_apart a n i j x lt il e =
@@ -159,8 +166,10 @@ pub free : EmptyDisksAreFree
 free g = (
   range_with_len (first_data g) (g.pages - first_data g),
   (λ page. (
-    (λ has. let range = range_has (first_data g) (g.pages - first_data g) page has in free_in_data g page (record { low = range.0; high = omega (arith, range.0, range.1) })),
-    (λ is_free. in_range (first_data g) (g.pages - first_data g) page is_free.data_page.low (omega (arith, is_free.data_page.low, is_free.data_page.high))),
+    (λ has. let range = range_has (first_data g) (g.pages - first_data g) page has in free_in_data g page
+        (record { low = range.0; high = omega (arith, range.0, range.1) })),
+    (λ is_free. in_range (first_data g) (g.pages - first_data g) page is_free.data_page.low
+        (omega (arith, is_free.data_page.low, is_free.data_page.high))),
   )),
   range_apart (first_data g) (g.pages - first_data g),
   length-range_with_len (first_data g) (g.pages - first_data g),

@@ -1,5 +1,24 @@
 -- What a stop leaves while a device is formatted, and what stands after.
-use Rattle.std.proofs.Common.{◌≡◌, ◌≢◌, inl, inr, ⊎_elim, ℕ, ◌*◌, ◌<◌, List, length, refl, sym, ◌∙◌, ap, subst, arith, get_or-set_same, get_or-set_other}
+use Rattle.std.proofs.Common.{
+  ◌≡◌,
+  ◌≢◌,
+  inl,
+  inr,
+  ⊎_elim,
+  ℕ,
+  ◌*◌,
+  ◌<◌,
+  List,
+  length,
+  refl,
+  sym,
+  ◌∙◌,
+  ap,
+  subst,
+  arith,
+  get_or-set_same,
+  get_or-set_other,
+}
 use Rattle.std.specs.Prelude.{slice_index, Option, Result, Ok, Err, OnOk}
 use Rattle.std.proofs.lemmas.Bool.{cases_eq}
 use Rattle.std.proofs.lemmas.Grind.{same_number_lists}
@@ -29,7 +48,14 @@ use Rattle.recovery.proofs.Parts.{IsMagic, Made, made, kept}
 
 -- an image that may be left has as many words as the device
 leaves_long : (s t : State) (P : List ℕ → Type 0) → Agree t.now t.past → LeavesOnly s t P → LeavesOnly s t (λ c. P c × (length c ≡ length t.now))
-leaves_long s t P agree leaves = record { extends = leaves.extends; each = λ m c le left. (leaves.each m c le left, length-left t.past t.now m c agree left) }
+leaves_long s t P agree leaves = record {
+  extends = leaves.extends;
+  each = λ m c le left. (
+    leaves.each m c le left,
+    length-left t.past t.now m c agree
+        left,
+  );
+}
 
 not_image : (c : List ℕ) → slice_index c 0 ≡ 0 → FaultOf c NotAnImage
 not_image c e = not_an_image (λ is. omega (arith, e, is.magic))
@@ -37,7 +63,8 @@ not_image c e = not_an_image (λ is. omega (arith, e, is.magic))
 -- a call that changes nothing but the spare units
 module _ (s t : State) (same : IsSame s t) where
   pub same_still : Agree s.now s.past → Still s → Still t
-  same_still agree still a lt = settled-stores Nowhere s t a (stores_only-same Nowhere s t agree same) (λ none. none) (still a (omega (arith, lt, ap length same.now)))
+  same_still agree still a lt = settled-stores Nowhere s t a (stores_only-same Nowhere s t agree same) (λ none. none)
+      (still a (omega (arith, lt, ap length same.now)))
 
   leaves_after : (P : List ℕ → Type 0) → LeavesOnly s s P → LeavesOnly s t P
   leaves_after P leaves = record {
@@ -49,7 +76,8 @@ module _ (s t : State) (same : IsSame s t) where
 pub still_leaves : (g : Geometry) (s : State) → Agree s.now s.past → Still s → LeavesOnly s s (IsFormatting g s.now)
 still_leaves g s agree still = started s (IsFormatting g s.now) (λ c left.
     let long = length-left s.past s.now (moment s.past) c agree left in
-    inl (same_number_lists c s.now long (λ a lt. let within : a < length s.now = omega (arith, lt, long) in image_has s c a (IsRead s a) agree left within (still a within))))
+    inl (same_number_lists c s.now long (λ a lt. let within : a < length s.now = omega (arith, lt, long) in image_has s c a (IsRead s a) agree left
+    within (still a within))))
 
 pub same_leaves : (g : Geometry) (s t : State) → IsSame s t → Agree s.now s.past → Still s → LeavesOnly s t (IsFormatting g s.now)
 same_leaves g s t same agree still = leaves_after s t same (IsFormatting g s.now) (still_leaves g s agree still)
@@ -69,7 +97,8 @@ module _ (g : Geometry) (who : ℕ) (s t : State) (still : Still s) (some : 0 < 
       ]
 
   pub clear_leaves : Agree t.now t.past → LeavesOnly s t (IsCommitted who 0 0 s) → LeavesOnly s t (IsFormatting g s.now)
-  clear_leaves agree leaves = leaves_only-weaken s t _ (IsFormatting g s.now) (λ c is. clearing c (is.1 ∙ long) is.0) (leaves_long s t (IsCommitted who 0 0 s) agree leaves)
+  clear_leaves agree leaves = leaves_only-weaken s t _ (IsFormatting g s.now) (λ c is. clearing c (is.1 ∙ long) is.0)
+      (leaves_long s t (IsCommitted who 0 0 s) agree leaves)
 
   module _ (done : IsDone who 0 0 s t) where
     pub cleared_still : Still t
@@ -91,7 +120,8 @@ module _ (g : Geometry) (who : ℕ) (s t : State) (still : Still s) (some : 0 < 
 abbrev NoMagic : ℕ → ℕ → Type 0
 NoMagic a v = (a ≡ 0) × (v ≡ 0)
 
-module _ (g : Geometry) (w : List ℕ) (t u : State) (still : Still t) (some : 0 < length t.now) (zero_t : slice_index t.now 0 ≡ 0) (only : StoresOnly IsBehindMagic t u) where
+module _ (g : Geometry) (w : List ℕ) (t u : State) (still : Still t) (some : 0 < length t.now) (zero_t : slice_index t.now 0 ≡ 0)
+    (only : StoresOnly IsBehindMagic t u) where
   no_magic : Stands NoMagic t
   no_magic = record {
     within = λ a v is. omega (arith, is.0, some);
@@ -112,18 +142,22 @@ module _ (g : Geometry) (w : List ℕ) (t u : State) (still : Still t) (some : 0
   made_settled = no_magic_yet.settled 0 0 (refl, refl)
 
   pub making_leaves : LeavesOnly t u (IsFormatting g w)
-  making_leaves = leaves_only-weaken t u (Reads NoMagic) (IsFormatting g w) (λ c reads. inr (inl (not_image c (reads 0 0 (refl, refl))))) (leaves_only-stores IsBehindMagic t u NoMagic only apart no_magic)
+  making_leaves = leaves_only-weaken t u (Reads NoMagic) (IsFormatting g w) (λ c reads. inr (inl (not_image c (reads 0 0 (refl, refl)))))
+      (leaves_only-stores IsBehindMagic t u NoMagic only apart no_magic)
 
 -- the magic is stored
-module _ (g : Geometry) (who : ℕ) (w : List ℕ) (before : List ℕ) (u v : State) (accepted : IsAccepted g) (size : length u.now ≡ 512 * g.pages) (has : HasParts g before u.now)
+module _ (g : Geometry) (who : ℕ) (w : List ℕ) (before : List ℕ) (u v : State) (accepted : IsAccepted g) (size : length u.now ≡ 512 * g.pages)
+    (has : HasParts g before u.now)
     (zero_u : slice_index u.now 0 ≡ 0) (flushed : AllFlushed who u) (long : length v.now ≡ length u.now) where
-  reads_empty : (c : List ℕ) → slice_index c 0 ≡ 0x313041564F4E4544 → ((a : ℕ) → a < length u.now → a ≢ 0 → slice_index c a ≡ slice_index u.now a) → Reads (DiskSays (empty_disk g)) c
+  reads_empty : (c : List ℕ) → slice_index c 0 ≡ 0x313041564F4E4544 → ((a : ℕ) → a < length u.now → a ≢ 0 → slice_index c a ≡ slice_index u.now a)
+      → Reads (DiskSays (empty_disk g)) c
   reads_empty c magic others a v told = ⊎_elim
       (λ (is : IsMagic a v). ap (slice_index c) is.0 ∙ magic ∙ sym is.1)
       (λ (is : Made g u.now a v). others a (omega (arith, is.low, size, accepted.room)) is.behind ∙ is.is)
       (made g before u.now accepted has a v (omega (arith, some_tables g accepted.inodes)) told)
 
-  stands_empty : (c : List ℕ) → length c ≡ length u.now → slice_index c 0 ≡ 0x313041564F4E4544 → ((a : ℕ) → a < length u.now → a ≢ 0 → slice_index c a ≡ slice_index u.now a) → StandsFor c (empty_disk g)
+  stands_empty : (c : List ℕ) → length c ≡ length u.now → slice_index c 0 ≡ 0x313041564F4E4544
+      → ((a : ℕ) → a < length u.now → a ≢ 0 → slice_index c a ≡ slice_index u.now a) → StandsFor c (empty_disk g)
   stands_empty c same magic others = stands_for_read (empty_disk g) c (valid g accepted) (reads_empty c magic others) (same ∙ size)
 
   committing : (c : List ℕ) → length c ≡ length u.now → IsCommitted who 0 0x313041564F4E4544 u c → IsFormatting g w c
@@ -134,7 +168,8 @@ module _ (g : Geometry) (who : ℕ) (w : List ℕ) (before : List ℕ) (u v : St
 
   pub magic_leaves : Agree v.now v.past → LeavesOnly u v (IsCommitted who 0 0x313041564F4E4544 u) → LeavesOnly u v (IsFormatting g w)
   magic_leaves agree leaves =
-      leaves_only-weaken u v _ (IsFormatting g w) (λ c is. committing c (is.1 ∙ long) is.0) (leaves_long u v (IsCommitted who 0 0x313041564F4E4544 u) agree leaves)
+      leaves_only-weaken u v _ (IsFormatting g w) (λ c is. committing c (is.1 ∙ long) is.0) (leaves_long u v (IsCommitted who 0 0x313041564F4E4544 u)
+      agree leaves)
 
   module _ (done : IsDone who 0 0x313041564F4E4544 u v) (kept_before : (a : ℕ) → a ≢ 0 → slice_index before a ≡ slice_index w a) where
     magic : slice_index v.now 0 ≡ 0x313041564F4E4544
@@ -205,7 +240,8 @@ module _ (g : Geometry) (who : ℕ) (s t u v : State) (is : Formats g who s t u 
 
   pub formats_done : IsDone who 0 0x313041564F4E4544 u v → IsFormatted g s.now v
   formats_done done =
-      formatted g who s.now t.now u v is.accepted size_u is.made zero_u is.flushed is.last_words done (cleared_others g who s t is.still some_s is.first_words is.cleared)
+      formatted g who s.now t.now u v is.accepted size_u is.made zero_u is.flushed is.last_words done
+      (cleared_others g who s t is.still some_s is.first_words is.cleared)
 
 pub on_ok_map : {T E : Type 0} (r : Result T E) (P Q : Type 0) → (P → Q) → OnOk r P → OnOk r Q
 on_ok_map (Ok x) P Q gives holds = gives holds

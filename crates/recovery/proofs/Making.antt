@@ -37,10 +37,12 @@ pub table_word-zero : (g : Geometry) (a old : ℕ) → is_table_part g a ≡ tru
 table_word-zero g a old part ne = table_word-in g a old part ∙ zero_elsewhere a ne
 
 -- a run was stored and flushed, and the rest was flushed before
-pub all_flushed-run : (who at n : ℕ) (s t : State) → ((k : ℕ) → k < n → IsFlushed who t (at + k)) → KeepsFlushed Anyone (IsIn at n) s t → length t.now ≡ length s.now → AllFlushed who s → AllFlushed who t
+pub all_flushed-run : (who at n : ℕ) (s t : State) → ((k : ℕ) → k < n → IsFlushed who t (at + k)) → KeepsFlushed Anyone (IsIn at n) s t
+    → length t.now ≡ length s.now → AllFlushed who s → AllFlushed who t
 all_flushed-run who at n s t flushed keeps long all a lt = elim (cases_in at n a) [
-  | inl here ↦ let place : at + (a - at) ≡ a = omega (arith, here.0) in subst (IsFlushed who t) place (flushed (a - at) (omega (arith, here.0, here.1)))
-  | inr out ↦ keeps.flushed who a tt out (all a (omega (arith, long, lt)))
+  | inl here ↦ let place : at + (a - at) ≡ a = omega (arith, here.0) in subst (IsFlushed who t) place
+      (flushed (a - at) (omega (arith, here.0, here.1)))
+  | inr out ↦ keeps.flushed who a tt out (omega (arith, long, lt)) (all a (omega (arith, long, lt)))
 ]
 
 pub head_only : (s t u : State) → StoresOnly (IsIn 1 3) s t → StoresOnly (IsIn 512 1) t u → StoresOnly IsBehindMagic s u
@@ -59,14 +61,16 @@ tables-none g who s agree all = record {
 }
 
 -- a page more
-module _ (g : Geometry) (who page : ℕ) (s t u : State) (words : List ℕ) (low : 2 ≤ page) (so_far : TablesMade g who page s t) (only : StoresOnly (IsInPage page) t u)
+module _ (g : Geometry) (who page : ℕ) (s t u : State) (words : List ℕ) (low : 2 ≤ page) (so_far : TablesMade g who page s t)
+    (only : StoresOnly (IsInPage page) t u)
     (spelled : (j : ℕ) → j < 512 → slice_index words j ≡ table_word g (512 * page + j) (slice_index t.now (512 * page + j)))
     (reads : (j : ℕ) → j < 512 → slice_index u.now (512 * page + j) ≡ slice_index words j) where
   here : (a : ℕ) → IsInPage page a → slice_index u.now a ≡ table_word g a (slice_index t.now a)
   here a inside =
       let place : 512 * page + (a - 512 * page) ≡ a = omega (arith, inside.0) in
       let small : a - 512 * page < 512 = omega (arith, inside.0, inside.1) in
-      subst (λ (b : ℕ). slice_index u.now b ≡ table_word g b (slice_index t.now b)) place (reads (a - 512 * page) small ∙ spelled (a - 512 * page) small)
+      subst (λ (b : ℕ). slice_index u.now b ≡ table_word g b (slice_index t.now b)) place (reads (a - 512 * page) small ∙ spelled (a - 512 * page)
+      small)
 
   apart : (a : ℕ) → (IsInPage page a → ⊥) → slice_index u.now a ≡ slice_index t.now a
   apart a out = only.read a out
@@ -82,7 +86,8 @@ module _ (g : Geometry) (who page : ℕ) (s t u : State) (words : List ℕ) (low
 
   pub tables-next : AllFlushed who u → t.spare ≤ u.spare + 576 → t.faults ≤ u.faults → TablesMade g who (page + 1) s u
   tables-next flushed spare faults = record {
-    only = stores_only-then IsBehindMagic s t u so_far.only (stores_only-weaken (IsInPage page) IsBehindMagic t u (λ a inside. omega (arith, inside.0)) only);
+    only = stores_only-then IsBehindMagic s t u so_far.only (stores_only-weaken (IsInPage page) IsBehindMagic t u
+        (λ a inside. omega (arith, inside.0)) only);
     made = record {
       words = only.words ∙ so_far.made.words;
       made = made_to;

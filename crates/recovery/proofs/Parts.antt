@@ -1,5 +1,32 @@
 -- Words that were made are all that is read of a file system without files.
-use Rattle.std.proofs.Common.{◌≡◌, ◌≢◌, ◌⊎◌, inl, inr, ⊎_elim, ℕ, zero, suc, ◌+◌, ◌-◌, ◌*◌, ◌/◌, ◌%◌, ◌<◌, ◌≤◌, Bool, true, false, List, [], refl, sym, ◌∙◌, ap, arith}
+use Rattle.std.proofs.Common.{
+  ◌≡◌,
+  ◌≢◌,
+  ◌⊎◌,
+  inl,
+  inr,
+  ⊎_elim,
+  ℕ,
+  zero,
+  suc,
+  ◌+◌,
+  ◌-◌,
+  ◌*◌,
+  ◌/◌,
+  ◌%◌,
+  ◌<◌,
+  ◌≤◌,
+  Bool,
+  true,
+  false,
+  List,
+  [],
+  refl,
+  sym,
+  ◌∙◌,
+  ap,
+  arith,
+}
 use Rattle.std.specs.Prelude.{slice_index, ◌||◌}
 use Rattle.std.proofs.lemmas.Bool.{cases_lt, cases_eq}
 use Rattle.std.proofs.lemmas.Bool.Decides.{nat_tests}
@@ -8,7 +35,26 @@ use Rattle.pm_layout.specs.declared.Geometry.{Geometry}
 use Rattle.pm_layout.specs.Geometry.{IsAccepted, first_data, directs, inode_word, slot_word, pointer_word, gate_word}
 use Rattle.dn_model.specs.Log.{no_log, LogSays, at_tail, at_head, at_footer, at_slot, count, tail_at}
 use Rattle.dn_model.specs.Table.{ChainSays, at_direct_page, at_direct_next, at_row}
-use Rattle.dn_model.specs.Disk.{DiskSays, IsUsed, Dying, state_number, of_head, of_inodes, of_logs, of_chains, of_pointers, of_pages, HeadSays, at_magic, at_version, at_pages, at_inodes, at_gate, at_state, at_cut}
+use Rattle.dn_model.specs.Disk.{
+  DiskSays,
+  IsUsed,
+  Dying,
+  state_number,
+  of_head,
+  of_inodes,
+  of_logs,
+  of_chains,
+  of_pointers,
+  of_pages,
+  HeadSays,
+  at_magic,
+  at_version,
+  at_pages,
+  at_inodes,
+  at_gate,
+  at_state,
+  at_cut,
+}
 use Rattle.dn_model.proofs.Regions.{inode_word_low}
 use Rattle.law_write.proofs.Unread.{slot_word_low, pointer_word_low}
 use Rattle.dn_model.specs.Empty.{empty_inode, empty_disk}
@@ -82,10 +128,20 @@ pub record Made (g : Geometry) (u : List ℕ) (a v : ℕ) : Type 0 where
 
 module _ (g : Geometry) (w u : List ℕ) (accepted : IsAccepted g) (has : HasParts g w u) where
   at_word : (a b v x : ℕ) → a ≡ b → v ≡ x → b < 1024 → b ≢ 0 → slice_index u b ≡ x → 2 ≤ first_data g → Made g u a v
-  at_word a b v x place value small behind is some = record { low = omega arith; behind = λ e. behind (sym place ∙ e); is = ap (slice_index u) place ∙ is ∙ sym value }
+  at_word a b v x place value small behind is some = record {
+    low = omega arith;
+    behind = λ e. behind (sym place ∙ e);
+    is = ap (slice_index u)
+        place ∙ is ∙ sym value;
+  }
 
   made_zero : (a v : ℕ) → 1024 < a → a < 512 * first_data g → is_table_part g a ≡ true → v ≡ 0 → Made g u a v
-  made_zero a v high low part value = record { low = low; behind = λ e. omega arith; is = has.tables a (omega arith) low ∙ table_word-zero g a (slice_index w a) part (λ e. omega arith) ∙ sym value }
+  made_zero a v high low part value = record {
+    low = low;
+    behind = λ e. omega arith;
+    is = has.tables a (omega arith) low ∙ table_word-zero g a
+        (slice_index w a) part (λ e. omega arith) ∙ sym value;
+  }
 
   made_head : (a v : ℕ) → HeadSays (empty_disk g) a v → 2 ≤ first_data g → IsMagic a v ⊎ Made g u a v
   made_head a v (at_magic place value) some = inl (place, value)
@@ -101,7 +157,8 @@ module _ (g : Geometry) (w u : List ℕ) (accepted : IsAccepted g) (has : HasPar
         low = low;
         behind = λ e. omega (arith, place, e);
         is = has.tables a (omega (arith, place)) low
-            ∙ table_word-root g a (slice_index w a) (inode_part g a (omega (arith, place)) (omega (arith, place, lt)) (inl (omega (arith, place)))) (omega (arith, place)) ∙ sym value;
+            ∙ table_word-root g a (slice_index w a) (inode_part g a (omega (arith, place)) (omega (arith, place, lt)) (inl (omega (arith, place))))
+            (omega (arith, place)) ∙ sym value;
       }
   made_state (suc k) a v lt place value =
       made_zero a v (omega (arith, place)) (omega (arith, place, inode_word_low g (suc k) 0 lt (omega arith)))
@@ -132,7 +189,8 @@ module _ (g : Geometry) (w u : List ℕ) (accepted : IsAccepted g) (has : HasPar
   made_pointer : (page a v : ℕ) → page < g.pages → a ≡ pointer_word g page → v ≡ 0 → Made g u a v
   made_pointer page a v lt place value =
       let at = pointer_at g page in let high = pointer_high g accepted.inodes in
-      made_zero a v (omega (arith, place, at, high)) (omega (arith, place, pointer_word_low g page lt)) (pointer_part g a (omega (arith, place, at)) (omega (arith, place, at, lt))) value
+      made_zero a v (omega (arith, place, at, high)) (omega (arith, place, pointer_word_low g page lt)) (pointer_part g a (omega (arith, place, at))
+      (omega (arith, place, at, lt))) value
 
   pub made : (a v : ℕ) → 2 ≤ first_data g → DiskSays (empty_disk g) a v → IsMagic a v ⊎ Made g u a v
   made a v some (of_head says) = made_head a v says some
@@ -148,8 +206,14 @@ module _ (g : Geometry) (w u : List ℕ) (accepted : IsAccepted g) (has : HasPar
   said_inode a part =
       let is = of_inode_part g a part in
       ⊎_elim
-      (λ (whole : a % 16 ≡ 0). record { value = state_number (empty_inode ((a - 1024) / 16)).use_of; told = of_inodes (at_state ((a - 1024) / 16) (omega (arith, is.0, is.1, whole)) (omega (arith, is.0, whole)) refl) })
-      (λ (tail : a ≡ 1026). record { value = tail_at [] (count no_log); told = of_logs (record { ino = 0; in_table = omega (arith, accepted.inodes); used = tt; says = at_tail tail refl }) })
+      (λ (whole : a % 16 ≡ 0). record {
+        value = state_number (empty_inode ((a - 1024) / 16)).use_of;
+        told = of_inodes (at_state ((a - 1024) / 16) (omega (arith, is.0, is.1, whole)) (omega (arith, is.0, whole)) refl);
+      })
+      (λ (tail : a ≡ 1026). record {
+        value = tail_at [] (count no_log);
+        told = of_logs (record { ino = 0; in_table = omega (arith, accepted.inodes); used = tt; says = at_tail tail refl });
+      })
       is.2
 
   said_direct : (a : ℕ) → is_direct_part g a ≡ true → Said (DiskSays (empty_disk g)) a
@@ -158,14 +222,24 @@ module _ (g : Geometry) (w u : List ℕ) (accepted : IsAccepted g) (has : HasPar
       let slot : ℕ = (a - slot_word g 0 0) / 8 in
       let lt : slot < directs g = omega (arith, is.0, is.1) in
       ⊎_elim
-      (λ (page : a % 8 ≡ 0). record { value = 0; told = of_chains (record { prefix = slot; direct = lt; says = at_direct_page (omega (arith, is.0, page)) refl }) })
-      (λ (next : a % 8 ≡ 5). record { value = 0; told = of_chains (record { prefix = slot; direct = lt; says = at_direct_next (omega (arith, is.0, next)) refl }) })
+      (λ (page : a % 8 ≡ 0). record
+      { value = 0; told = of_chains (record { prefix = slot; direct = lt; says = at_direct_page (omega (arith, is.0, page)) refl }) })
+      (λ (next : a % 8 ≡ 5). record
+      { value = 0; told = of_chains (record { prefix = slot; direct = lt; says = at_direct_next (omega (arith, is.0, next)) refl }) })
       is.2
 
   said_pointer : (a : ℕ) → is_pointer g a ≡ true → Said (DiskSays (empty_disk g)) a
   said_pointer a part =
       let is = of_pointer g a part in
-      record { value = 0; told = of_pointers (record { page = a - pointer_word g 0; in_image = omega (arith, is.0, is.1); place = omega (arith, is.0, pointer_at g (a - pointer_word g 0)); value = refl }) }
+      record {
+        value = 0;
+        told = of_pointers (record {
+          page = a - pointer_word g 0;
+          in_image = omega (arith, is.0, is.1);
+          place = omega (arith, is.0, pointer_at g (a - pointer_word g 0));
+          value = refl;
+        });
+      }
 
   said_part : (a : ℕ) → is_table_part g a ≡ true → Said (DiskSays (empty_disk g)) a
   said_part a part = elim (or_cases (is_inode_part g a) (is_direct_part g a) (is_pointer g a) part) [
@@ -174,7 +248,8 @@ module _ (g : Geometry) (w u : List ℕ) (accepted : IsAccepted g) (has : HasPar
     | inr (inr pointer) ↦ said_pointer a pointer
   ]
 
-  kept_part : (a : ℕ) → (Said (DiskSays (empty_disk g)) a → ⊥) → (b : Bool) → is_table_part g a ≡ b → 1024 ≤ a → a < 512 * first_data g → slice_index u a ≡ slice_index w a
+  kept_part : (a : ℕ) → (Said (DiskSays (empty_disk g)) a → ⊥) → (b : Bool) → is_table_part g a ≡ b → 1024 ≤ a → a < 512 * first_data g
+      → slice_index u a ≡ slice_index w a
   kept_part a none true part high low = absurd (none (said_part a part))
   kept_part a none false part high low = has.tables a high low ∙ table_word-out g a (slice_index w a) part
 

@@ -1,5 +1,26 @@
--- The words of the inode table, the direct slots and the delete pointers in a file system without files.
-use Rattle.std.specs.Prelude.{◌≡◌, ◌≢◌, ◌⊎◌, ℕ, ◌+◌, ◌*◌, ◌%◌, ◌<◌, ◌≤◌, Bool, ◌&&◌, ◌||◌, if◌then◌else◌, nat_le, nat_lt, ◌==◌, List, length, slice_index}
+-- The words of the inode table, the direct slots and the delete pointers in a file system without
+-- files.
+use Rattle.std.specs.Prelude.{
+  ◌≡◌,
+  ◌≢◌,
+  ◌⊎◌,
+  ℕ,
+  ◌+◌,
+  ◌*◌,
+  ◌%◌,
+  ◌<◌,
+  ◌≤◌,
+  Bool,
+  ◌&&◌,
+  ◌||◌,
+  if◌then◌else◌,
+  nat_le,
+  nat_lt,
+  ◌==◌,
+  List,
+  length,
+  slice_index,
+}
 use Rattle.pm_device.specs.State.{State}
 use Rattle.pm_device.specs.Settled.{IsFlushed, StoresOnly}
 use Rattle.pm_layout.specs.declared.Geometry.{Geometry}
@@ -11,7 +32,8 @@ is_inode_part g a = nat_le 1024 a && (nat_lt a (1024 + 16 * g.inodes) && (a % 16
 
 -- the word is the page or the next word of a direct slot
 abbrev pub is_direct_part : Geometry → ℕ → Bool
-is_direct_part g a = nat_le (slot_word g 0 0) a && (nat_lt a (slot_word g 0 0 + 8 * directs g) && (a % 8 == 0 || a % 8 == 5))
+is_direct_part g a = nat_le (slot_word g 0 0) a && (nat_lt a (slot_word g 0 0 + 8 * directs g) &&
+    (a % 8 == 0 || a % 8 == 5))
 
 -- the word is a delete pointer
 abbrev pub is_pointer : Geometry → ℕ → Bool
@@ -28,10 +50,12 @@ table_word g a old = if is_table_part g a then (if a == 1024 then 1 else 0) else
 abbrev pub AllFlushed : ℕ → State → Type 0
 AllFlushed who s = (a : ℕ) → a < length s.now → IsFlushed who s a
 
--- the words of the pages below `page` are made so, from the third page on, and the others are as they were
+-- the words of the pages below `page` are made so, from the third page on, and the others are as
+-- they were
 pub record TablesTo (g : Geometry) (page : ℕ) (old new : List ℕ) : Type 0 where
   pub words : length new ≡ length old
-  pub made : (a : ℕ) → 1024 ≤ a → a < 512 * page → slice_index new a ≡ table_word g a (slice_index old a)
+  pub made : (a : ℕ) → 1024 ≤ a → a < 512 * page → slice_index new a ≡ table_word g a
+      (slice_index old a)
   pub before : (a : ℕ) → a < 1024 → slice_index new a ≡ slice_index old a
   pub behind : (a : ℕ) → 512 * page ≤ a → slice_index new a ≡ slice_index old a
 
@@ -47,14 +71,17 @@ pub record HasHead (g : Geometry) (old new : List ℕ) : Type 0 where
   pub gate : slice_index new gate_word ≡ 0
   pub others : (a : ℕ) → (a < 1) ⊎ (3 < a) → a ≢ gate_word → slice_index new a ≡ slice_index old a
 
--- all words behind the magic that are read are those of a file system without files, and the others are as they were
+-- all words behind the magic that are read are those of a file system without files, and the others
+-- are as they were
 pub record HasParts (g : Geometry) (old new : List ℕ) : Type 0 where
   pub version : slice_index new 1 ≡ 1
   pub pages : slice_index new 2 ≡ g.pages
   pub inodes : slice_index new 3 ≡ g.inodes
   pub gate : slice_index new gate_word ≡ 0
-  pub tables : (a : ℕ) → 1024 ≤ a → a < 512 * first_data g → slice_index new a ≡ table_word g a (slice_index old a)
-  pub others : (a : ℕ) → (a < 1) ⊎ (3 < a) → a ≢ gate_word → (a < 1024) ⊎ (512 * first_data g ≤ a) → slice_index new a ≡ slice_index old a
+  pub tables : (a : ℕ) → 1024 ≤ a → a < 512 * first_data g → slice_index new a ≡ table_word g a
+      (slice_index old a)
+  pub others : (a : ℕ) → (a < 1) ⊎ (3 < a) → a ≢ gate_word → (a < 1024) ⊎ (512 * first_data g ≤ a)
+      → slice_index new a ≡ slice_index old a
 
 -- the tables are made so far, in the order of their pages
 pub record TablesMade (g : Geometry) (who page : ℕ) (s t : State) : Type 0 where

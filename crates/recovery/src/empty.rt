@@ -5,20 +5,13 @@ ghost use Rattle.pm_device.specs.Settled.{Still, LeavesOnly};
 ghost use Rattle.pm_layout.specs.Geometry.{IsAccepted, first_data};
 ghost use Rattle.dn_model.specs.Empty.{IsFormatting, IsFormatted};
 
-use crate::tables::{PAGE_UNITS, make_parts};
+use crate::tables::make_parts;
+use dn_model::RECLAIM;
 use pm_device::commit::commit;
+use pm_device::page::PAGE_UNITS;
 use pm_device::{Failed, Pm};
-use pm_layout::{Geometry, PAGE_WORDS};
+use pm_layout::{Geometry, MAGIC, MAGIC_WORD, PAGE_WORDS};
 use thiserror::Error;
-
-/// The actor that formats and recovers.
-pub const RECOVERY: u32 = 16;
-
-/// The first word of each image; its bytes in a file read `DENOVA01`.
-pub const MAGIC: u64 = 0x3130_4156_4F4E_4544;
-
-/// The second word of each image.
-pub const VERSION: u64 = 1;
 
 /// Why no file system was made, or not for sure.
 #[derive(Clone, Copy, Debug, PartialEq, Eq, Error)]
@@ -38,14 +31,15 @@ fn make_image<D: Pm>(device: &mut D, g: &Geometry) -> Result<(), Failed>
     requires size { length (D.state device.old).now ≡ 512 * g.now.pages }
     requires room { PAGE_UNITS * first_data g.now ≤ (D.state device.old).spare }
     requires still { Still (D.state device.old) }
-    ensures any_moment { LeavesOnly (D.state device.old) (D.state device.new) (IsFormatting g.now (D.state device.old).now) }
+    ensures any_moment { LeavesOnly (D.state device.old) (D.state device.new)
+        (IsFormatting g.now (D.state device.old).now) }
     ensures done { OnOk result (IsFormatted g.now (D.state device.old).now (D.state device.new)) }
     ensures faults { (D.state device.old).faults ≤ (D.state device.new).faults }
     ensures failed { IsErr result → Rose (D.state device.old).faults (D.state device.new).faults }
 {
-    commit(device, RECOVERY, 0, 0)?;
+    commit(device, RECLAIM, MAGIC_WORD, 0)?;
     make_parts(device, g);
-    commit(device, RECOVERY, 0, MAGIC)
+    commit(device, RECLAIM, MAGIC_WORD, MAGIC)
 }
 
 /// Makes a file system without files, in which all pages of the data area are free. The words that are read of one
@@ -61,12 +55,17 @@ fn make_image<D: Pm>(device: &mut D, g: &Geometry) -> Result<(), Failed>
 pub fn format<D: Pm>(device: &mut D, g: Geometry) -> Result<(), FormatFault>
     requires accepted { IsAccepted g }
     requires still { Still (D.state device.old) }
-    ensures any_moment { LeavesOnly (D.state device.old) (D.state device.new) (IsFormatting g (D.state device.old).now) }
+    ensures any_moment { LeavesOnly (D.state device.old) (D.state device.new)
+        (IsFormatting g (D.state device.old).now) }
     ensures done { OnOk result (IsFormatted g (D.state device.old).now (D.state device.new)) }
-    ensures wrong_size { (n : ℕ) → (result ≡ Err (FormatFault.WrongSize n)) ↔ ((length (D.state device.old).now ≢ 512 * g.pages) × (n ≡ length (D.state device.old).now)) }
-    ensures wrong_size_stores_nothing { (n : ℕ) → result ≡ Err (FormatFault.WrongSize n) → IsSame (D.state device.old) (D.state device.new) }
-    ensures no_memory_stores_nothing { result ≡ Err FormatFault.NoMemory → IsSame (D.state device.old) (D.state device.new) }
-    ensures failed { result ≡ Err FormatFault.Failed → Rose (D.state device.old).faults (D.state device.new).faults }
+    ensures wrong_size { (n : ℕ) → (result ≡ Err (FormatFault.WrongSize n)) ↔
+        ((length (D.state device.old).now ≢ 512 * g.pages) × (n ≡ length (D.state device.old).now)) }
+    ensures wrong_size_stores_nothing { (n : ℕ) → result ≡ Err (FormatFault.WrongSize n)
+        → IsSame (D.state device.old) (D.state device.new) }
+    ensures no_memory_stores_nothing { result ≡ Err FormatFault.NoMemory
+        → IsSame (D.state device.old) (D.state device.new) }
+    ensures failed { result ≡ Err FormatFault.Failed → Rose (D.state device.old).faults
+        (D.state device.new).faults }
     ensures faults { (D.state device.old).faults ≤ (D.state device.new).faults }
 {
     let words = device.words();

@@ -5,24 +5,23 @@ ghost use Rattle.pm_device.specs.Pages.{IsInPage};
 ghost use Rattle.pm_layout.specs.Geometry.{IsAccepted, first_data, gate_word};
 ghost use Rattle.recovery.specs.Tables.{is_inode_part, is_direct_part, is_pointer, is_table_part, table_word, AllFlushed, TablesTo, IsBehindMagic, HasHead, HasParts};
 
-use crate::empty::{RECOVERY, VERSION};
+use dn_model::RECLAIM;
 use pm_device::Pm;
-use pm_device::page::fill_page;
+use pm_device::page::{PAGE_UNITS, fill_page};
 use pm_device::run::store_words;
-use pm_layout::Geometry;
-
-// The word of the journal's gate.
-const GATE: u64 = 512;
-
-// The units of the device that a page takes at most.
-pub(crate) const PAGE_UNITS: u64 = 576;
+use pm_layout::{
+    FACT_NEXT, FACT_PAGE, FACT_WORDS, GATE_WORD, Geometry, INODE_WORDS, INODES_AT, LIVE,
+    PAGE_WORDS, STATE, TAIL, VERSION, VERSION_WORD,
+};
 
 // Whether the word is the state of an inode, or the tail of the root.
 fn is_inode_part(g: &Geometry, at: u64) -> bool
     requires { IsAccepted g.now }
     ensures { result ≡ is_inode_part g.now at }
 {
-    at >= 1024 && at < 1024 + 16 * g.inodes && (at % 16 == 0 || at == 1026)
+    at >= INODES_AT
+        && at < INODES_AT + INODE_WORDS * g.inodes
+        && (at % INODE_WORDS == STATE || at == INODES_AT + TAIL)
 }
 
 // Whether the word is the page or the next word of a direct slot.
@@ -31,7 +30,9 @@ fn is_direct_part(g: &Geometry, at: u64) -> bool
     ensures { result ≡ is_direct_part g.now at }
 {
     let first = g.slot_word(0, 0);
-    at >= first && at < first + 8 * g.directs() && (at % 8 == 0 || at % 8 == 5)
+    at >= first
+        && at < first + FACT_WORDS * g.directs()
+        && (at % FACT_WORDS == FACT_PAGE || at % FACT_WORDS == FACT_NEXT)
 }
 
 // Whether the word is a delete pointer.
@@ -59,7 +60,7 @@ fn table_word(g: &Geometry, at: u64, old: u64) -> u64
     if !is_table_part(g, at) {
         return old;
     }
-    if at == 1024 { 1 } else { 0 }
+    if at == INODES_AT { LIVE } else { 0 }
 }
 
 // The words that a page is made of.
@@ -68,11 +69,12 @@ fn table_page<D: Pm>(device: &D, g: &Geometry, page: u64) -> [u64; 512]
     requires small { page < 65536 }
     requires inside { 512 * page + 512 ≤ length (D.state device.now).now }
     ensures whole { length result ≡ 512 }
-    ensures words { (j : ℕ) → j < 512 → slice_index result j ≡ table_word g.now (512 * page + j) (slice_index (D.state device.now).now (512 * page + j)) }
+    ensures words { (j : ℕ) → j < 512 → slice_index result j ≡ table_word g.now (512 * page + j)
+        (slice_index (D.state device.now).now (512 * page + j)) }
 {
-    let mut words = [0; 512];
+    let mut words = [0; PAGE_WORDS as usize];
     for (j, word) in words.iter_mut().enumerate() {
-        let at = 512 * page + j as u64;
+        let at = PAGE_WORDS * page + j as u64;
         *word = table_word(g, at, device.load(at));
     }
     words
@@ -83,10 +85,11 @@ fn has_page<D: Pm>(device: &D, page: u64, words: &[u64]) -> bool
     requires small { page < 65536 }
     requires whole { length words.now ≡ 512 }
     requires inside { 512 * page + 512 ≤ length (D.state device.now).now }
-    ensures { IsTrue result → (j : ℕ) → j < 512 → slice_index (D.state device.now).now (512 * page + j) ≡ slice_index words.now j }
+    ensures { IsTrue result → (j : ℕ) → j < 512 → slice_index (D.state device.now).now
+        (512 * page + j) ≡ slice_index words.now j }
 {
     for (j, word) in words.iter().enumerate() {
-        if device.load(512 * page + j as u64) != *word {
+        if device.load(PAGE_WORDS * page + j as u64) != *word {
             return false;
         }
     }
@@ -99,17 +102,18 @@ fn put_page<D: Pm>(device: &mut D, page: u64, words: &[u64])
     requires whole { length words.now ≡ 512 }
     requires inside { 512 * page + 512 ≤ length (D.state device.old).now }
     requires room { PAGE_UNITS ≤ (D.state device.old).spare }
-    requires flushed { AllFlushed RECOVERY (D.state device.old) }
+    requires flushed { AllFlushed RECLAIM (D.state device.old) }
     ensures only { StoresOnly (IsInPage page) (D.state device.old) (D.state device.new) }
-    ensures reads { (j : ℕ) → j < 512 → slice_index (D.state device.new).now (512 * page + j) ≡ slice_index words.now j }
-    ensures flushed { AllFlushed RECOVERY (D.state device.new) }
+    ensures reads { (j : ℕ) → j < 512 → slice_index (D.state device.new).now (512 * page + j) ≡
+        slice_index words.now j }
+    ensures flushed { AllFlushed RECLAIM (D.state device.new) }
     ensures spare { (D.state device.old).spare ≤ (D.state device.new).spare + PAGE_UNITS }
     ensures faults { (D.state device.old).faults ≤ (D.state device.new).faults }
 {
     if has_page(device, page, words) {
         return;
     }
-    fill_page(device, RECOVERY, page, words);
+    fill_page(device, RECLAIM, page, words);
 }
 
 // Makes the words of the tables: of all pages from the third one to the data area. Words that are so already, or that
@@ -118,11 +122,13 @@ fn make_tables<D: Pm>(device: &mut D, g: &Geometry)
     requires accepted { IsAccepted g.now }
     requires size { length (D.state device.old).now ≡ 512 * g.now.pages }
     requires room { PAGE_UNITS * first_data g.now ≤ (D.state device.old).spare + 1152 }
-    requires flushed { AllFlushed RECOVERY (D.state device.old) }
+    requires flushed { AllFlushed RECLAIM (D.state device.old) }
     ensures only { StoresOnly IsBehindMagic (D.state device.old) (D.state device.new) }
-    ensures made { TablesTo g.now (first_data g.now) (D.state device.old).now (D.state device.new).now }
-    ensures flushed { AllFlushed RECOVERY (D.state device.new) }
-    ensures spare { (D.state device.old).spare + 1152 ≤ (D.state device.new).spare + PAGE_UNITS * first_data g.now }
+    ensures made { TablesTo g.now (first_data g.now) (D.state device.old).now
+        (D.state device.new).now }
+    ensures flushed { AllFlushed RECLAIM (D.state device.new) }
+    ensures spare { (D.state device.old).spare + 1152 ≤ (D.state device.new).spare + PAGE_UNITS
+        * first_data g.now }
     ensures faults { (D.state device.old).faults ≤ (D.state device.new).faults }
 {
     for page in 2..g.first_data() {
@@ -136,15 +142,15 @@ fn make_head<D: Pm>(device: &mut D, g: &Geometry)
     requires accepted { IsAccepted g.now }
     requires size { length (D.state device.old).now ≡ 512 * g.now.pages }
     requires room { 6 ≤ (D.state device.old).spare }
-    requires flushed { AllFlushed RECOVERY (D.state device.old) }
+    requires flushed { AllFlushed RECLAIM (D.state device.old) }
     ensures only { StoresOnly IsBehindMagic (D.state device.old) (D.state device.new) }
     ensures made { HasHead g.now (D.state device.old).now (D.state device.new).now }
-    ensures flushed { AllFlushed RECOVERY (D.state device.new) }
+    ensures flushed { AllFlushed RECLAIM (D.state device.new) }
     ensures spare { (D.state device.old).spare ≤ (D.state device.new).spare + 6 }
     ensures faults { (D.state device.old).faults ≤ (D.state device.new).faults }
 {
-    store_words(device, RECOVERY, 1, &[VERSION, g.pages, g.inodes]);
-    store_words(device, RECOVERY, GATE, &[0]);
+    store_words(device, RECLAIM, VERSION_WORD, &[VERSION, g.pages, g.inodes]);
+    store_words(device, RECLAIM, GATE_WORD, &[0]);
 }
 
 // Makes all words behind the magic those of a file system without files, and flushes them.
@@ -152,11 +158,12 @@ pub(crate) fn make_parts<D: Pm>(device: &mut D, g: &Geometry)
     requires accepted { IsAccepted g.now }
     requires size { length (D.state device.old).now ≡ 512 * g.now.pages }
     requires room { PAGE_UNITS * first_data g.now ≤ (D.state device.old).spare + 1146 }
-    requires flushed { AllFlushed RECOVERY (D.state device.old) }
+    requires flushed { AllFlushed RECLAIM (D.state device.old) }
     ensures only { StoresOnly IsBehindMagic (D.state device.old) (D.state device.new) }
     ensures made { HasParts g.now (D.state device.old).now (D.state device.new).now }
-    ensures flushed { AllFlushed RECOVERY (D.state device.new) }
-    ensures spare { (D.state device.old).spare + 1146 ≤ (D.state device.new).spare + PAGE_UNITS * first_data g.now }
+    ensures flushed { AllFlushed RECLAIM (D.state device.new) }
+    ensures spare { (D.state device.old).spare + 1146 ≤ (D.state device.new).spare + PAGE_UNITS
+        * first_data g.now }
     ensures faults { (D.state device.old).faults ≤ (D.state device.new).faults }
 {
     make_head(device, g);

@@ -18,7 +18,21 @@ use Rattle.fact_scan.specs.Seen.{as_row}
 use Rattle.fact_scan.specs.declared.row.Row.{Row as RowValue}
 use Rattle.fact_table.specs.Table.{Table}
 use Rattle.fact_calls.specs.Made.{IsSameBut}
-use Rattle.table_repair.specs.Settling.{SettlesFrom, HasSettling, StandsWith, IsRowToSettle, HasRowToSettle, RowIsSettled, IsTableToSettle, HasTableToSettle, CountsAreSettled, LeavesRow, SettlesRow, LeavesTable, SettlesCounts}
+use Rattle.table_repair.specs.Settling.{
+  SettlesFrom,
+  HasSettling,
+  StandsWith,
+  IsRowToSettle,
+  HasRowToSettle,
+  RowIsSettled,
+  IsTableToSettle,
+  HasTableToSettle,
+  CountsAreSettled,
+  LeavesRow,
+  SettlesRow,
+  LeavesTable,
+  SettlesCounts,
+}
 use Rattle.table_repair.proofs.Later.{leaves_none, leaves_then}
 use Rattle.table_repair.proofs.Changes.{settles_same, settles_then, same_mappings}
 
@@ -55,13 +69,15 @@ front_begins found mapped t s agree = record {
     disk = d;
     settles = settles_same d;
     stands = is.stands;
-    images = leaves_none SettlesFrom d s (settles_same d) is.stands.valid is.stands.stands agree (is.stands.table.size ∙ ap (λ (g : Geometry). 512 * g.pages) (sym is.stands.table.geometry));
+    images = leaves_none SettlesFrom d s (settles_same d) is.stands.valid is.stands.stands agree
+        (is.stands.table.size ∙ ap (λ (g : Geometry). 512 * g.pages) (sym is.stands.table.geometry));
     ahead = λ row at. listed_at (rows d) at.k row at.at;
     behind = λ row has. inr (record { k = has.0; late = omega arith; at = at_listed (rows d) row has });
   };
 }
 
-module _ (found : List RowValue) (mapped : List ℕ) (i : ℕ) (t0 t : Table) (s0 s : State) (part : IsPartSettled found mapped i t0 t s0 s) (here : RowValue) (at : slice_get found i ≡ Some here) where
+module _ (found : List RowValue) (mapped : List ℕ) (i : ℕ) (t0 t : Table) (s0 s : State) (part : IsPartSettled found mapped i t0 t s0 s)
+    (here : RowValue) (at : slice_get found i ≡ Some here) where
   module _ (d : Disk) (is : IsTableToSettle d t0 found mapped s0) where
     abbrev front : IsFront d i t s0 s
     front = part.front d is
@@ -93,7 +109,8 @@ module _ (found : List RowValue) (mapped : List ℕ) (i : ℕ) (t0 t : Table) (s
       pub next_images : LeavesRow t row (slice_index mapped here.page) s u → LeavesOnly s0 u (HasSettling d)
       next_images leaves = leaves_then SettlesFrom settles_then d front.disk front.settles s0 s u front.images (leaves front.disk next_row)
 
-      module _ (t' : Table) (leaves : LeavesRow t row (slice_index mapped here.page) s u) (settled : SettlesRow t t' row (slice_index mapped here.page) s u) where
+      module _ (t' : Table) (leaves : LeavesRow t row (slice_index mapped here.page) s u)
+          (settled : SettlesRow t t' row (slice_index mapped here.page) s u) where
         abbrev next : RowIsSettled front.disk t' row.slot u
         next = settled front.disk next_row
 
@@ -109,7 +126,15 @@ module _ (found : List RowValue) (mapped : List ℕ) (i : ℕ) (t0 t : Table) (s
         exact_still r exact = (exact.0, exact.1 ∙ sym (same_mappings front.disk next.disk next.settles.same r.page), exact.2)
 
         farther : (r : Row) → r.slot ≢ row.slot → IsAhead d i r → IsAhead d (i + 1) r
-        farther r ne far = record { k = far.k; late = elim (cases_eq far.k i) [ inl e ↦ absurd (ne (slot_at e)) | inr other ↦ omega (arith, far.late, other) ]; at = far.at }
+        farther r ne far = record {
+          k = far.k;
+          late = elim (cases_eq far.k i) [
+            | inl e ↦ absurd (ne (slot_at e))
+            | inr other ↦ omega
+                (arith, far.late, other)
+          ];
+          at = far.at;
+        }
           where
             some_same : (x y : Row) → Some x ≡ Some y → x.slot ≡ y.slot
             some_same x y e = cc
@@ -120,7 +145,8 @@ module _ (found : List RowValue) (mapped : List ℕ) (i : ℕ) (t0 t : Table) (s
         still_behind : (r : Row) → Contains (rows next.disk) r → IsExact next.disk r ⊎ IsAhead d (i + 1) r
         still_behind r has = elim (cases_eq r.slot row.slot) [
           | inl e ↦ inl (next.exact r has e)
-          | inr ne ↦ ⊎_elim (λ (exact : IsExact front.disk r). inl (exact_still r exact)) (λ (far : IsAhead d i r). inr (farther r ne far)) (front.behind r (next.others.only r has ne))
+          | inr ne ↦ ⊎_elim (λ (exact : IsExact front.disk r). inl (exact_still r exact)) (λ (far : IsAhead d i r). inr (farther r ne far))
+              (front.behind r (next.others.only r has ne))
         ]
 
         pub next_front : IsFront d (i + 1) t' s0 u
@@ -136,11 +162,14 @@ module _ (found : List RowValue) (mapped : List ℕ) (i : ℕ) (t0 t : Table) (s
   pub has_next : HasTableToSettle t0 found mapped s0 → HasRowToSettle t (as_row here) (slice_index mapped here.page) s
   has_next has = record { disk = (part.front has.disk has.is).disk; is = next_row has.disk has.is }
 
-  pub next_only : HasTableToSettle t0 found mapped s0 → (u : State) → StoresOnly (IsTableWord t.geometry) s u → StoresOnly (IsTableWord t0.geometry) s0 u
-  next_only has u only = stores_only-then (IsTableWord t0.geometry) s0 s u part.only (subst (λ (g : Geometry). StoresOnly (IsTableWord g) s u) (next_geometry has.disk has.is) only)
+  pub next_only : HasTableToSettle t0 found mapped s0 → (u : State) → StoresOnly (IsTableWord t.geometry) s u → StoresOnly (IsTableWord t0.geometry)
+      s0 u
+  next_only has u only = stores_only-then (IsTableWord t0.geometry) s0 s u part.only (subst (λ (g : Geometry). StoresOnly (IsTableWord g) s u)
+      (next_geometry has.disk has.is) only)
 
 -- all of them are settled
-module _ (found : List RowValue) (mapped : List ℕ) (i : ℕ) (t0 t : Table) (s0 s : State) (part : IsPartSettled found mapped i t0 t s0 s) (end : length found ≤ i) where
+module _ (found : List RowValue) (mapped : List ℕ) (i : ℕ) (t0 t : Table) (s0 s : State) (part : IsPartSettled found mapped i t0 t s0 s)
+    (end : length found ≤ i) where
   module _ (d : Disk) (is : IsTableToSettle d t0 found mapped s0) where
     abbrev last : IsFront d i t s0 s
     last = part.front d is
@@ -150,7 +179,8 @@ module _ (found : List RowValue) (mapped : List ℕ) (i : ℕ) (t0 t : Table) (s
 
     all_exact : (row : Row) → Contains (rows last.disk) row → IsExact last.disk row
     all_exact row has = ⊎_elim (λ (exact : IsExact last.disk row). exact)
-        (λ (far : IsAhead d i row). absurd (let lt = slice_get_within (rows d) far.k row far.at in omega (arith, lt, count, far.late, end))) (last.behind row has)
+        (λ (far : IsAhead d i row). absurd (let lt = slice_get_within (rows d) far.k row far.at in omega (arith, lt, count, far.late, end)))
+        (last.behind row has)
 
     pub front_ends : CountsAreSettled d t s
     front_ends = record {

@@ -14,7 +14,8 @@ use Rattle.table_repair.specs.Later.{HasLater}
 
 module _ (R : Disk → Disk → Type 0) where
   -- where nothing is stored each image stands for the disk
-  pub leaves_none : (d : Disk) (s : State) → R d d → IsValid d → Stands (DiskSays d) s → Agree s.now s.past → length s.now ≡ 512 * d.geometry.pages → LeavesOnly s s (HasLater R d)
+  pub leaves_none : (d : Disk) (s : State) → R d d → IsValid d → Stands (DiskSays d) s → Agree s.now s.past → length s.now ≡ 512 * d.geometry.pages
+      → LeavesOnly s s (HasLater R d)
   leaves_none d s here valid stands agree size =
       leaves_only-weaken s s (λ c. StandsFor c d) (HasLater R d) (λ c for. record { disk = d; stands_for = for; is = here })
       (unread_images d 0 0 (λ a v told h. omega (arith, h.0, h.1)) s s (stores_only-none _ s agree) stands valid agree size)

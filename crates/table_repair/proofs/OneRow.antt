@@ -27,9 +27,33 @@ use Rattle.fact_calls.proofs.Called.{zero_may, zero_images, zero_made, counted_l
 use Rattle.law_table_calls.specs.Calls.{HasRows, IsOnDisk, MayMakeOn}
 use Rattle.law_table_calls.proofs.Disks.{call_images, call_made}
 use Rattle.table_repair.specs.Later.{HasLater}
-use Rattle.table_repair.specs.Settling.{SettlesFrom, HasSettling, StandsWith, IsRowToSettle, HasRowToSettle, RowIsCounted, RowIsSettled, with_count, AreSameElsewhere, LeavesRow, CountsRow, SettlesRow}
+use Rattle.table_repair.specs.Settling.{
+  SettlesFrom,
+  HasSettling,
+  StandsWith,
+  IsRowToSettle,
+  HasRowToSettle,
+  RowIsCounted,
+  RowIsSettled,
+  with_count,
+  AreSameElsewhere,
+  LeavesRow,
+  CountsRow,
+  SettlesRow,
+}
 use Rattle.table_repair.proofs.Later.{leaves_none, leaves_then}
-use Rattle.table_repair.proofs.Changes.{settles_same, settles_then, same_mappings, settles_rows, settles_count, counted_there, counted_others, settles_gone, gone_here, gone_others}
+use Rattle.table_repair.proofs.Changes.{
+  settles_same,
+  settles_then,
+  same_mappings,
+  settles_rows,
+  settles_count,
+  counted_there,
+  counted_others,
+  settles_gone,
+  gone_here,
+  gone_others,
+}
 
 -- a row's counts are near
 near_at : (d : Disk) → IsValid d → (row : Row) → Contains (rows d) row → IsNear d row
@@ -38,7 +62,8 @@ near_at d valid row has = All-contains (IsNear d) (rows d) row valid.near has
 -- a row without updates is counted already
 pub same_count : (row : Row) (n : ℕ) → n ≡ row.rfc → 0 ≡ row.uc → with_count row n ≡ row
 same_count row n rfc uc =
-    ap (λ (a : ℕ). record { slot = row.slot; print = row.print; page = row.page; rfc = a; uc = 0 }) rfc ∙ ap (λ (b : ℕ). record { slot = row.slot; print = row.print; page = row.page; rfc = row.rfc; uc = b }) uc
+    ap (λ (a : ℕ). record { slot = row.slot; print = row.print; page = row.page; rfc = a; uc = 0 }) rfc ∙ ap
+    (λ (b : ℕ). record { slot = row.slot; print = row.print; page = row.page; rfc = row.rfc; uc = b }) uc
 
 pub same_elsewhere : (slot : ℕ) (rs : List Row) → AreSameElsewhere slot rs rs
 same_elsewhere slot rs = record { kept = λ r has ne. has; only = λ r has ne. has }
@@ -69,7 +94,8 @@ module _ (d : Disk) (t : Table) (row : Row) (n : ℕ) (s : State) (is : IsRowToS
     image_settles c has = record {
       disk = has.disk;
       stands_for = has.stands_for;
-      is = ⊎_elim (λ (old : rows has.disk ≡ rows d). settles_rows d has.disk valid has.same old) (λ (new : CountsOne (counted n) row.slot (rows d) (rows has.disk)). counts_settle has.disk has.same new) has.are;
+      is = ⊎_elim (λ (old : rows has.disk ≡ rows d). settles_rows d has.disk valid has.same old)
+          (λ (new : CountsOne (counted n) row.slot (rows d) (rows has.disk)). counts_settle has.disk has.same new) has.are;
     }
 
     pub count_images : Agree u.now u.past → LeavesTables (counted n) t row.slot s u → LeavesOnly s u (HasSettling d)
@@ -89,7 +115,8 @@ module _ (d : Disk) (t : Table) (row : Row) (n : ℕ) (s : State) (is : IsRowToS
         }
 
   pub no_images : Agree s.now s.past → LeavesOnly s s (HasSettling d)
-  no_images agree = leaves_none SettlesFrom d s (settles_same d) valid is.stands.stands agree (is.stands.table.size ∙ ap (λ (g : Geometry). 512 * g.pages) (sym is.stands.table.geometry))
+  no_images agree = leaves_none SettlesFrom d s (settles_same d) valid is.stands.stands agree
+      (is.stands.table.size ∙ ap (λ (g : Geometry). 512 * g.pages) (sym is.stands.table.geometry))
 
   pub count_none : row.uc ≡ 0 → RowIsCounted d t row n s
   count_none still =
@@ -124,17 +151,20 @@ module _ (d : Disk) (t : Table) (row : Row) (n : ℕ) (s : State) (is : IsRowToS
       gone_image c has = record {
         disk = has.disk;
         stands_for = has.stands_for;
-        is = ⊎_elim (λ (old : rows has.disk ≡ rows d). settles_rows d has.disk valid has.same old) (λ (new : RemovesRow row.slot (rows d) (rows has.disk)). gone_settles has.disk has.same new) has.are;
+        is = ⊎_elim (λ (old : rows has.disk ≡ rows d). settles_rows d has.disk valid has.same old)
+            (λ (new : RemovesRow row.slot (rows d) (rows has.disk)). gone_settles has.disk has.same new) has.are;
       }
 
       pub gone_images : Agree u.now u.past → LeavesRemoved t row.slot s u → LeavesOnly s u (HasSettling d)
       gone_images agree leaves = leaves_only-weaken s u _ (HasSettling d) gone_image
-          (call_images d valid s u is.stands.stands t (RemoveZero row.slot) gone_may tt only agree (λ e may stands. zero_images e s t row.slot may.table may.may u leaves stands))
+          (call_images d valid s u is.stands.stands t (RemoveZero row.slot) gone_may tt only agree
+          (λ e may stands. zero_images e s t row.slot may.table may.may u leaves stands))
 
       pub gone_made : (t' : Table) → MakesRemoved t t' row.slot s u → SettlesRemoved t row.slot s u → RowIsSettled d t' row.slot u
       gone_made t' makes settles =
           let made : IsOnDisk d t' u (Follows d.geometry (rows d) (RemoveZero row.slot)) =
-          call_made d valid s u is.stands.stands t (RemoveZero row.slot) gone_may tt only t' (λ e may. zero_made e s t row.slot may.table may.may u t' makes settles) in
+          call_made d valid s u is.stands.stands t (RemoveZero row.slot) gone_may tt only t' (λ e may. zero_made e s t row.slot may.table may.may u t'
+          makes settles) in
           let takes = goes (rows made.disk) made.are in
           record {
             disk = made.disk;

@@ -29,7 +29,8 @@ use Rattle.table_repair.proofs.Later.{leaves_then}
 use Rattle.table_repair.proofs.Changes.{settles_then, settles_rows, same_mappings}
 
 -- the words tell which pointers are stale, where two disks that they hold have the same rows
-stale_same : (d e : Disk) (words : List ℕ) (t : Table) → IsTable d words t → IsTable e words t → rows e ≡ rows d → (page : ℕ) → IsStale d page → IsStale e page
+stale_same : (d e : Disk) (words : List ℕ) (t : Table) → IsTable d words t → IsTable e words t → rows e ≡ rows d → (page : ℕ) → IsStale d page
+    → IsStale e page
 stale_same d e words t first second are page stale =
     let lt : page < t.geometry.pages = subst (λ (g : Geometry). page < g.pages) first.geometry stale.in_image in
     record {
@@ -48,7 +49,8 @@ module _ (d : Disk) (t : Table) (s : State) (counts : CountsAreSettled d t s) (u
   pub clear_only : StoresOnly (IsTableWord t.geometry) s u
   clear_only = stale_in e t.geometry is.table.geometry s u (stores e is.table)
 
-  pub tidy_only : (t0 : Table) → d.geometry ≡ t0.geometry → (s0 : State) → StoresOnly (IsTableWord t0.geometry) s0 s → StoresOnly (IsTableWord t0.geometry) s0 u
+  pub tidy_only : (t0 : Table) → d.geometry ≡ t0.geometry → (s0 : State) → StoresOnly (IsTableWord t0.geometry) s0 s
+      → StoresOnly (IsTableWord t0.geometry) s0 u
   tidy_only t0 begun s0 first =
       let here : t.geometry ≡ t0.geometry = sym is.table.geometry ∙ ap (λ (x : Disk). x.geometry) counts.settles.same ∙ begun in
       stores_only-then (IsTableWord t0.geometry) s0 s u first (subst (λ (g : Geometry). StoresOnly (IsTableWord g) s u) here clear_only)
@@ -60,12 +62,14 @@ module _ (d : Disk) (t : Table) (s : State) (counts : CountsAreSettled d t s) (u
   image_settles c has = record {
     disk = has.disk;
     stands_for = has.stands_for;
-    is = ⊎_elim (λ (old : rows has.disk ≡ rows e). settles_rows e has.disk is.valid has.same old) (λ (new : rows has.disk ≡ rows e). settles_rows e has.disk is.valid has.same new) has.are;
+    is = ⊎_elim (λ (old : rows has.disk ≡ rows e). settles_rows e has.disk is.valid has.same old) (λ (new : rows has.disk ≡ rows e). settles_rows e
+        has.disk is.valid has.same new) has.are;
   }
 
   pub tidy_images : Agree u.now u.past → LeavesCleared t s u → LeavesOnly s u (HasSettling e)
   tidy_images agree leaves = leaves_only-weaken s u _ (HasSettling e) image_settles
-      (call_images e is.valid s u is.stands t ClearStale clear_may tt clear_only agree (λ x may stands. clear_images x s u may.table.good (leaves x may.table stands)))
+      (call_images e is.valid s u is.stands t ClearStale clear_may tt clear_only agree (λ x may stands. clear_images x s u may.table.good
+      (leaves x may.table stands)))
 
   pub tidy_all : (s0 : State) → LeavesOnly s0 s (HasSettling d) → Agree u.now u.past → LeavesCleared t s u → LeavesOnly s0 u (HasSettling d)
   tidy_all s0 first agree leaves = leaves_then SettlesFrom settles_then d e counts.settles s0 s u first (tidy_images agree leaves)
@@ -82,7 +86,8 @@ module _ (d : Disk) (t : Table) (s : State) (counts : CountsAreSettled d t s) (u
 
     exact_still : (row : Row) → Contains (rows made.disk) row → IsExact made.disk row
     exact_still row has =
-        let was : IsExact e row = All-contains (IsExact e) (rows e) row counts.exact.counts (subst (λ (rs : List Row). Contains rs row) made.are has) in
+        let was : IsExact e row = All-contains (IsExact e) (rows e) row counts.exact.counts (subst (λ (rs : List Row). Contains rs row) made.are has)
+        in
         (was.0, was.1 ∙ sym (same_mappings e made.disk made.same row.page), was.2)
 
     pub tidy_settled : TableIsSettled d t u
@@ -91,5 +96,6 @@ module _ (d : Disk) (t : Table) (s : State) (counts : CountsAreSettled d t s) (u
       settles = settles_then d e made.disk counts.settles after;
       stands = record { valid = made.valid; stands = made.stands; table = made.table };
       exact = record { counts = all_listed (IsExact made.disk) (rows made.disk) exact_still; unshared = made.valid.single.unshared };
-      none_stale = λ page stale. tidied.none_stale page (stale_same made.disk tidied.disk u.now t made.table tidied.table (tidied.clears.rows_same ∙ sym made.are) page stale);
+      none_stale = λ page stale. tidied.none_stale page (stale_same made.disk tidied.disk u.now t made.table tidied.table
+          (tidied.clears.rows_same ∙ sym made.are) page stale);
     }

@@ -1,4 +1,5 @@
--- A table is settled: each count becomes the number of mappings, rows without mappings go, and stale pointers are cleared.
+-- A table is settled: each count becomes the number of mappings, rows without mappings go, and
+-- stale pointers are cleared.
 use Rattle.std.specs.Prelude.{◌≡◌, ◌≢◌, ℕ, ◌+◌, ◌<◌, ◌≤◌, List, length, map, slice_index, Contains}
 use Rattle.pm_device.specs.State.{State}
 use Rattle.pm_device.specs.Settled.{LeavesOnly}
@@ -16,7 +17,8 @@ use Rattle.fact_changes.specs.Stale.{IsStale}
 use Rattle.fact_calls.specs.Made.{IsSameBut}
 use Rattle.table_repair.specs.Later.{HasLater}
 
--- Nothing of the disk differs but its table. A row that has references and no update under way stays as it is, and the
+-- Nothing of the disk differs but its table. A row that has references and no update under way
+-- stays as it is, and the
 -- disk is this program's, if that of before was, whatever the fingerprint.
 pub record SettlesFrom (d e : Disk) : Type 0 where
   pub same : IsSameBut d e
@@ -69,12 +71,15 @@ pub record RowIsSettled (d : Disk) (t : Table) (slot : ℕ) (s : State) : Type 0
   pub others : AreSameElsewhere slot (rows d) (rows disk)
 
 -- these are its rows, and for each page of a row how many mappings it has
-pub record IsTableToSettle (d : Disk) (t : Table) (found : List RowValue) (mapped : List ℕ) (s : State) : Type 0 where
+pub record IsTableToSettle (d : Disk) (t : Table) (found : List RowValue) (mapped : List ℕ)
+    (s : State) : Type 0 where
   pub stands : StandsWith d t s
   pub rows_are : map as_row found ≡ rows d
-  pub counted : (row : Row) → Contains (rows d) row → slice_index mapped row.page ≡ mappings d row.page
+  pub counted : (row : Row) → Contains (rows d) row → slice_index mapped row.page ≡ mappings d
+      row.page
 
-pub record HasTableToSettle (t : Table) (found : List RowValue) (mapped : List ℕ) (s : State) : Type 0 where
+pub record HasTableToSettle (t : Table) (found : List RowValue) (mapped : List ℕ) (s : State) : Type
+    0 where
   pub disk : Disk
   pub is : IsTableToSettle disk t found mapped s
 
@@ -104,10 +109,13 @@ abbrev pub SettlesRow : Table → Table → Row → ℕ → State → State → 
 SettlesRow t t' row n s u = (d : Disk) → IsRowToSettle d t row n s → RowIsSettled d t' row.slot u
 
 abbrev pub LeavesTable : Table → List RowValue → List ℕ → State → State → Type 0
-LeavesTable t found mapped s u = (d : Disk) → IsTableToSettle d t found mapped s → LeavesOnly s u (HasSettling d)
+LeavesTable t found mapped s u = (d : Disk) → IsTableToSettle d t found mapped s
+    → LeavesOnly s u (HasSettling d)
 
 abbrev pub SettlesCounts : Table → Table → List RowValue → List ℕ → State → State → Type 0
-SettlesCounts t t' found mapped s u = (d : Disk) → IsTableToSettle d t found mapped s → CountsAreSettled d t' u
+SettlesCounts t t' found mapped s u = (d : Disk) → IsTableToSettle d t found mapped s
+    → CountsAreSettled d t' u
 
 abbrev pub SettlesAll : Table → Table → List RowValue → List ℕ → State → State → Type 0
-SettlesAll t t' found mapped s u = (d : Disk) → IsTableToSettle d t found mapped s → TableIsSettled d t' u
+SettlesAll t t' found mapped s u = (d : Disk) → IsTableToSettle d t found mapped s
+    → TableIsSettled d t' u

@@ -29,9 +29,12 @@ fn count_row<D: Pm>(
 ) -> Result<(), Failed>
     requires row { HasRowToSettle fact.now (as_row row.now) mappings (D.state device.old) }
     requires room { 3 ≤ (D.state device.old).spare }
-    ensures images { LeavesRow fact.now (as_row row.now) mappings (D.state device.old) (D.state device.new) }
-    ensures done { OnOk result (CountsRow fact.now (as_row row.now) mappings (D.state device.old) (D.state device.new)) }
-    ensures only { StoresOnly (IsTableWord fact.now.geometry) (D.state device.old) (D.state device.new) }
+    ensures images { LeavesRow fact.now (as_row row.now) mappings (D.state device.old)
+        (D.state device.new) }
+    ensures done { OnOk result (CountsRow fact.now (as_row row.now) mappings (D.state device.old)
+        (D.state device.new)) }
+    ensures only { StoresOnly (IsTableWord fact.now.geometry) (D.state device.old)
+        (D.state device.new) }
     ensures spare { (D.state device.old).spare ≤ (D.state device.new).spare + 3 }
     ensures faults { (D.state device.old).faults ≤ (D.state device.new).faults }
     ensures failed { IsErr result → Rose (D.state device.old).faults (D.state device.new).faults }
@@ -50,11 +53,15 @@ fn drop_row<D: Pm>(
     row: &Row,
     mappings: u32,
 ) -> Result<(), Failed>
-    requires row { HasRowToSettle fact.old (with_count (as_row row.now) mappings) mappings (D.state device.old) }
+    requires row { HasRowToSettle fact.old (with_count (as_row row.now) mappings) mappings
+        (D.state device.old) }
     requires room { 6 ≤ (D.state device.old).spare }
-    ensures images { LeavesRow fact.old (with_count (as_row row.now) mappings) mappings (D.state device.old) (D.state device.new) }
-    ensures done { OnOk result (SettlesRow fact.old fact.new (with_count (as_row row.now) mappings) mappings (D.state device.old) (D.state device.new)) }
-    ensures only { StoresOnly (IsTableWord fact.old.geometry) (D.state device.old) (D.state device.new) }
+    ensures images { LeavesRow fact.old (with_count (as_row row.now) mappings) mappings
+        (D.state device.old) (D.state device.new) }
+    ensures done { OnOk result (SettlesRow fact.old fact.new (with_count (as_row row.now) mappings)
+        mappings (D.state device.old) (D.state device.new)) }
+    ensures only { StoresOnly (IsTableWord fact.old.geometry) (D.state device.old)
+        (D.state device.new) }
     ensures spare { (D.state device.old).spare ≤ (D.state device.new).spare + 6 }
     ensures faults { (D.state device.old).faults ≤ (D.state device.new).faults }
     ensures failed { IsErr result → Rose (D.state device.old).faults (D.state device.new).faults }
@@ -75,9 +82,12 @@ fn settle_row<D: Pm>(
 ) -> Result<(), Failed>
     requires row { HasRowToSettle fact.old (as_row row.now) mappings (D.state device.old) }
     requires room { ROW_UNITS ≤ (D.state device.old).spare }
-    ensures images { LeavesRow fact.old (as_row row.now) mappings (D.state device.old) (D.state device.new) }
-    ensures done { OnOk result (SettlesRow fact.old fact.new (as_row row.now) mappings (D.state device.old) (D.state device.new)) }
-    ensures only { StoresOnly (IsTableWord fact.old.geometry) (D.state device.old) (D.state device.new) }
+    ensures images { LeavesRow fact.old (as_row row.now) mappings (D.state device.old)
+        (D.state device.new) }
+    ensures done { OnOk result (SettlesRow fact.old fact.new (as_row row.now) mappings
+        (D.state device.old) (D.state device.new)) }
+    ensures only { StoresOnly (IsTableWord fact.old.geometry) (D.state device.old)
+        (D.state device.new) }
     ensures spare { (D.state device.old).spare ≤ (D.state device.new).spare + ROW_UNITS }
     ensures faults { (D.state device.old).faults ≤ (D.state device.new).faults }
     ensures failed { IsErr result → Rose (D.state device.old).faults (D.state device.new).faults }
@@ -97,10 +107,14 @@ fn settle_rows<D: Pm>(
     requires table { HasTableToSettle fact.old rows.now mapped.now (D.state device.old) }
     requires inside { All (λ (row : RowValue). row.page < length mapped.now) rows.now }
     requires room { ROW_UNITS * length rows.now ≤ (D.state device.old).spare }
-    ensures images { LeavesTable fact.old rows.now mapped.now (D.state device.old) (D.state device.new) }
-    ensures done { OnOk result (SettlesCounts fact.old fact.new rows.now mapped.now (D.state device.old) (D.state device.new)) }
-    ensures only { StoresOnly (IsTableWord fact.old.geometry) (D.state device.old) (D.state device.new) }
-    ensures spare { (D.state device.old).spare ≤ (D.state device.new).spare + ROW_UNITS * length rows.now }
+    ensures images { LeavesTable fact.old rows.now mapped.now (D.state device.old)
+        (D.state device.new) }
+    ensures done { OnOk result (SettlesCounts fact.old fact.new rows.now mapped.now
+        (D.state device.old) (D.state device.new)) }
+    ensures only { StoresOnly (IsTableWord fact.old.geometry) (D.state device.old)
+        (D.state device.new) }
+    ensures spare { (D.state device.old).spare ≤ (D.state device.new).spare + ROW_UNITS * length
+        rows.now }
     ensures faults { (D.state device.old).faults ≤ (D.state device.new).faults }
     ensures failed { IsErr result → Rose (D.state device.old).faults (D.state device.new).faults }
 {
@@ -128,11 +142,16 @@ pub fn settle_table<D: Pm>(
 ) -> Result<(), Failed>
     requires table { HasTableToSettle fact.old rows.now mapped.now (D.state device.old) }
     requires inside { All (λ (row : RowValue). row.page < length mapped.now) rows.now }
-    requires room { ROW_UNITS * length rows.now + PAGE_UNITS * fact.old.geometry.pages ≤ (D.state device.old).spare }
-    ensures images { LeavesTable fact.old rows.now mapped.now (D.state device.old) (D.state device.new) }
-    ensures done { OnOk result (SettlesAll fact.old fact.new rows.now mapped.now (D.state device.old) (D.state device.new)) }
-    ensures only { StoresOnly (IsTableWord fact.old.geometry) (D.state device.old) (D.state device.new) }
-    ensures spare { (D.state device.old).spare ≤ (D.state device.new).spare + ROW_UNITS * length rows.now + PAGE_UNITS * fact.old.geometry.pages }
+    requires room { ROW_UNITS * length rows.now + PAGE_UNITS * fact.old.geometry.pages ≤
+        (D.state device.old).spare }
+    ensures images { LeavesTable fact.old rows.now mapped.now (D.state device.old)
+        (D.state device.new) }
+    ensures done { OnOk result (SettlesAll fact.old fact.new rows.now mapped.now
+        (D.state device.old) (D.state device.new)) }
+    ensures only { StoresOnly (IsTableWord fact.old.geometry) (D.state device.old)
+        (D.state device.new) }
+    ensures spare { (D.state device.old).spare ≤ (D.state device.new).spare + ROW_UNITS * length
+        rows.now + PAGE_UNITS * fact.old.geometry.pages }
     ensures faults { (D.state device.old).faults ≤ (D.state device.new).faults }
     ensures failed { IsErr result → Rose (D.state device.old).faults (D.state device.new).faults }
 {

@@ -28,4 +28,5 @@ returns-clause-without_rows c = λ d ino fresh size refill word may none. record
 
 pub returns-clause-valid : goal.returns-clause-valid
 returns-clause-valid c = λ d ino fresh size refill word may near.
-    written_valid ino d (cut_disk d ino fresh size refill word) (cut-writes d ino fresh size refill word may) (cut-well d ino fresh size refill word may near)
+    written_valid ino d (cut_disk d ino fresh size refill word) (cut-writes d ino fresh size refill word may)
+    (cut-well d ino fresh size refill word may near)

@@ -5,4 +5,5 @@ use Rattle.dn_check.proofs.checks.check_rolled.Goals as goal
 
 pub returns-in-Some : goal.returns-in-Some
 returns-in-Some c = λ image is.
-    inode_halts image c.args.g.now c.args.words.items c.in-Some.ino is (subst (λ (words : List ℕ). IsLeast c.args.g.now.inodes (IsBadInode words) c.in-Some.ino) c.deref.ensures.value c.in-Some.ensures.some)
+    inode_halts image c.args.g.now c.args.words.items c.in-Some.ino is
+    (subst (λ (words : List ℕ). IsLeast c.args.g.now.inodes (IsBadInode words) c.in-Some.ino) c.deref.ensures.value c.in-Some.ensures.some)

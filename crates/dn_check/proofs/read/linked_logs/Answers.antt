@@ -9,8 +9,10 @@ returns-in_err-logs-clause-halt g c =
 
 pub returns-in-Some-clause-halt : goal.returns-in-Some-clause-halt
 returns-in-Some-clause-halt g c =
-    link_halts c.args.g.now (g.D.Pm.state c.args.device.now).now c.requires.inodes c.in_ok-logs.logs c.in_ok-logs.ensures.read c.in-Some.ino (rw c.in-Some.is at c.in_ok-ino.ensures.some)
+    link_halts c.args.g.now (g.D.Pm.state c.args.device.now).now c.requires.inodes c.in_ok-logs.logs c.in_ok-logs.ensures.read c.in-Some.ino
+    (rw c.in-Some.is at c.in_ok-ino.ensures.some)
 
 pub returns-in-None-clause-linked : goal.returns-in-None-clause-linked
 returns-in-None-clause-linked g c =
-    are_linked c.args.g.now (g.D.Pm.state c.args.device.now).now c.requires.inodes c.in_ok-logs.logs c.in_ok-logs.ensures.read (rw c.in-None.is at c.in_ok-ino.ensures.none)
+    are_linked c.args.g.now (g.D.Pm.state c.args.device.now).now c.requires.inodes c.in_ok-logs.logs c.in_ok-logs.ensures.read
+    (rw c.in-None.is at c.in_ok-ino.ensures.none)

@@ -14,4 +14,5 @@ returns-clause-whole g c =
 
 pub returns-clause-read : goal.returns-clause-read
 returns-clause-read g c =
-    read_of_each c.args.g.now (g.D.Pm.state c.args.device.now).now c.in_ok-logs.logs c.in_ok-table.table c.in_ok-logs.ensures.linked c.in_ok-logs.ensures.read c.in_ok-table.ensures.table
+    read_of_each c.args.g.now (g.D.Pm.state c.args.device.now).now c.in_ok-logs.logs c.in_ok-table.table c.in_ok-logs.ensures.linked
+    c.in_ok-logs.ensures.read c.in_ok-table.ensures.table

@@ -19,25 +19,31 @@ returns-in_err-rows-clause-halt g c =
 pub pointers_of-requires-clause-pages : goal.pointers_of-requires-clause-pages
 pointers_of-requires-clause-pages g c =
     subst (λ (found : List Row). All (λ row. row.page < c.args.g.now.pages) found) (sym c.deref.ensures.value)
-    (all_found c.in_ok-rows.rows.items (λ row. row.page < c.args.g.now.pages) (page_small c.args.g.now (g.D.Pm.state c.args.device.now).now (map as_row c.in_ok-rows.rows.items) c.in_ok-rows.ensures.rows))
+    (all_found c.in_ok-rows.rows.items (λ row. row.page < c.args.g.now.pages) (page_small c.args.g.now (g.D.Pm.state c.args.device.now).now
+    (map as_row c.in_ok-rows.rows.items) c.in_ok-rows.ensures.rows))
 
 pub pointers_of-requires-clause-slots : goal.pointers_of-requires-clause-slots
 pointers_of-requires-clause-slots g c =
     subst (λ (found : List Row). All (λ row. row.slot < slots c.args.g.now) found) (sym c.deref.ensures.value)
-    (all_found c.in_ok-rows.rows.items (λ row. row.slot < slots c.args.g.now) (slot_small c.args.g.now (g.D.Pm.state c.args.device.now).now (map as_row c.in_ok-rows.rows.items) c.in_ok-rows.ensures.rows))
+    (all_found c.in_ok-rows.rows.items (λ row. row.slot < slots c.args.g.now) (slot_small c.args.g.now (g.D.Pm.state c.args.device.now).now
+    (map as_row c.in_ok-rows.rows.items) c.in_ok-rows.ensures.rows))
 
 pub returns-in-Some-clause-halt : goal.returns-in-Some-clause-halt
 returns-in-Some-clause-halt g c =
     let words = (g.D.Pm.state c.args.device.now).now in
     pointer_fault_halts c.args.g.now words (map as_row c.in_ok-rows.rows.items) c.in_ok-rows.ensures.rows c.in_ok-wanted.wanted.items
-    (subst (λ (found : List Row). ArePointers c.args.g.now (map as_row found) c.in_ok-wanted.wanted.items) c.deref.ensures.value c.in_ok-wanted.ensures)
+    (subst (λ (found : List Row). ArePointers c.args.g.now (map as_row found) c.in_ok-wanted.wanted.items) c.deref.ensures.value
+    c.in_ok-wanted.ensures)
     c.in-Some.page
-    (subst (λ (wanted : List ℕ). IsLeast c.args.g.now.pages (IsWrong c.args.g.now words wanted) c.in-Some.page) c.deref-2.ensures.value c.in-Some.ensures.some)
+    (subst (λ (wanted : List ℕ). IsLeast c.args.g.now.pages (IsWrong c.args.g.now words wanted) c.in-Some.page) c.deref-2.ensures.value
+    c.in-Some.ensures.some)
 
 pub returns-clause-table : goal.returns-clause-table
 returns-clause-table g c =
     let words = (g.D.Pm.state c.args.device.now).now in
     table_is_read c.args.g.now words c.in_ok-rows.rows c.in_ok-rows.ensures.rows c.in_ok-wanted.wanted.items
-    (subst (λ (found : List Row). ArePointers c.args.g.now (map as_row found) c.in_ok-wanted.wanted.items) c.deref.ensures.value c.in_ok-wanted.ensures)
-    (subst (λ (wanted : List ℕ). (page : ℕ) → page < c.args.g.now.pages → ¬ IsWrong c.args.g.now words wanted page) c.deref-2.ensures.value c.in_default.ensures.none)
+    (subst (λ (found : List Row). ArePointers c.args.g.now (map as_row found) c.in_ok-wanted.wanted.items) c.deref.ensures.value
+    c.in_ok-wanted.ensures)
+    (subst (λ (wanted : List ℕ). (page : ℕ) → page < c.args.g.now.pages → ¬ IsWrong c.args.g.now words wanted page) c.deref-2.ensures.value
+    c.in_default.ensures.none)
     c.in_ok-has_row.has_row (subst (λ (wanted : List ℕ). Marks wanted c.in_ok-has_row.has_row.items) c.deref-3.ensures.value c.in_ok-has_row.ensures)

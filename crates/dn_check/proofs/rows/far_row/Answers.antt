@@ -12,4 +12,5 @@ pub returns-then-not-is_near-clause-some : goal.returns-then-not-is_near-clause-
 unfolding none
 returns-then-not-is_near-clause-some c =
     first_far c.args.mapped.now c.args.rows.now c.loop-row.row-index none c.loop-row-test.true c.loop-row.invariant
-    (refuted c.is_near.result (IsNearBy c.args.mapped.now (get_or c.args.rows.now c.loop-row.row-index none)) c.is_near.ensures.1 c.if-not-is_near.true)
+    (refuted c.is_near.result (IsNearBy c.args.mapped.now (get_or c.args.rows.now c.loop-row.row-index none)) c.is_near.ensures.1
+    c.if-not-is_near.true)

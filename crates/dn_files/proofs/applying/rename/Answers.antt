@@ -9,4 +9,5 @@ returns-then-is_same-clause-ok c = renamed_self (files_of c.args.files.now) c.ar
 pub returns-clause-ok : goal.returns-clause-ok
 returns-clause-ok c =
     let put = rw (c.in_ok-bytes.ensures.items, c.bytes_of.ensures) at c.in_ok-put.ensures.ok in
-    put_and_dropped (files_of c.args.files.now) c.args.from.now c.args.to.now (λ same. let wrong : false ≡ true = sym c.if-is_same.false ∙ c.is_same.ensures.1 same in cc) c.requires.found _ _ put c.drop_name.ensures
+    put_and_dropped (files_of c.args.files.now) c.args.from.now c.args.to.now (λ same. let wrong : false ≡ true = sym c.if-is_same.false ∙
+    c.is_same.ensures.1 same in cc) c.requires.found _ _ put c.drop_name.ensures

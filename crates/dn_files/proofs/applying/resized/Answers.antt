@@ -9,7 +9,8 @@ pub loop-j-preserved : goal.loop-j-preserved
 loop-j-preserved c =
     let byte = c.byte_at.ensures in
     let z : 0 + c.loop-j.j ≡ c.loop-j.j = omega arith in
-    c.in_ok-push.ensures.items ∙ (λ i. c.loop-j.invariant i ++ byte i ∷ []) ∙ sym (map-range_with_len_more (slice_index c.args.old.now) 0 c.loop-j.j c.loop-j.j z)
+    c.in_ok-push.ensures.items ∙ (λ i. c.loop-j.invariant i ++ byte i ∷ []) ∙ sym (map-range_with_len_more (slice_index c.args.old.now) 0 c.loop-j.j
+    c.loop-j.j z)
 
 pub returns : goal.returns
 unfolding resized

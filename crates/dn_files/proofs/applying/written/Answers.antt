@@ -12,10 +12,16 @@ pub loop-j-preserved : goal.loop-j-preserved
 loop-j-preserved c =
     let byte = c.written_byte.ensures in
     let z : 0 + c.loop-j.j ≡ c.loop-j.j = omega arith in
-    c.in_ok-push.ensures.items ∙ (λ i. c.loop-j.invariant i ++ byte i ∷ []) ∙ sym (map-range_with_len_more (byte_of c.args.old.now c.args.at c.args.new.now) 0 c.loop-j.j c.loop-j.j z)
+    c.in_ok-push.ensures.items ∙ (λ i. c.loop-j.invariant i ++ byte i ∷ []) ∙ sym
+    (map-range_with_len_more (byte_of c.args.old.now c.args.at c.args.new.now) 0 c.loop-j.j c.loop-j.j z)
 
 pub returns : goal.returns
 unfolding written
 returns c =
-    let end : c.loop-j.j ≡ max (length c.args.old.now) (c.args.at + length c.args.new.now) = omega (arith, c.loop-j-test.false, c.loop-j.auto.j-end, c.max-size.ensures) in
+    let end : c.loop-j.j ≡ max (length c.args.old.now) (c.args.at + length c.args.new.now) = omega (
+      arith,
+      c.loop-j-test.false,
+      c.loop-j.auto.j-end,
+      c.max-size.ensures,
+    ) in
     c.loop-j.invariant ∙ ap (λ (n : ℕ). map (byte_of c.args.old.now c.args.at c.args.new.now) (range_with_len 0 n)) end

@@ -5,4 +5,5 @@ use Rattle.dn_files.proofs.applying.written.Given as goal
 
 abbrev pub invariant-loop-j : goal.invariant-loop-j
 invariant-loop-j l =
-    l.bytes.items ≡ map (λ j. if nat_le l.at j && nat_lt j (l.at + length l.new) then slice_index l.new (j - l.at) else slice_index l.old j) (range_with_len 0 l.j)
+    l.bytes.items ≡ map (λ j. if nat_le l.at j && nat_lt j (l.at + length l.new) then slice_index l.new (j - l.at) else slice_index l.old j)
+    (range_with_len 0 l.j)

@@ -9,6 +9,7 @@ loop-before-preserved c =
     let same = c.loop-before.invariant.others in
     let split = c.in_ok-lines.ensures in
     record {
-      so_far = clients_to_next n c.args.named.now owned _ _ _ c.loop-before.invariant.so_far (split.own ∙ same (n + 1) (omega arith)) c.in_ok-push_client.ensures;
+      so_far = clients_to_next n c.args.named.now owned _ _ _ c.loop-before.invariant.so_far (split.own ∙ same (n + 1) (omega arith))
+          c.in_ok-push_client.ensures;
       others = λ m later. lines_of_left m n c.loop-before.left.items _ owned later split.others (same m (omega arith));
     }

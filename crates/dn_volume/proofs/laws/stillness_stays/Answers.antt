@@ -1,4 +1,4 @@
-use Rattle.dn_volume.proofs.Stills.{still_without, still_flushes, still_settles, flushes_join}
+use Rattle.dn_volume.proofs.Stills.{still_without, still_flushes, still_settles}
 use Rattle.dn_volume.proofs.laws.stillness_stays.Goals as goal
 
 pub returns-clause-still : goal.returns-clause-still
@@ -9,6 +9,3 @@ returns-clause-flushes c = still_flushes
 
 pub returns-clause-settles : goal.returns-clause-settles
 returns-clause-settles c = still_settles
-
-pub returns-clause-join : goal.returns-clause-join
-returns-clause-join c = flushes_join

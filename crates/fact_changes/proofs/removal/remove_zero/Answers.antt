@@ -32,7 +32,15 @@ pub returns-in-None-clause-settled : goal.returns-in-None-clause-settled
 returns-in-None-clause-settled g c = λ d row may. absurd (c.in-None.ensures.none d may.table row may.at_slot.there may.at_slot.slot_is)
 
 pub returns-in-None-clause-frees : goal.returns-in-None-clause-frees
-returns-in-None-clause-frees g c = let can = c.requires.row in absurd (c.in-None.ensures.none can.disk can.may.table can.row can.may.at_slot.there can.may.at_slot.slot_is)
+returns-in-None-clause-frees g c = let can = c.requires.row in absurd (c.in-None.ensures.none can.disk can.may.table can.row can.may.at_slot.there
+    can.may.at_slot.slot_is)
 
 pub returns-in-None-clause-only : goal.returns-in-None-clause-only
 returns-in-None-clause-only g c = λ d row may. absurd (c.in-None.ensures.none d may.table row may.at_slot.there may.at_slot.slot_is)
+
+pub returns-in-None-clause-settles : goal.returns-in-None-clause-settles
+returns-in-None-clause-settles g c = let can = c.requires.row in absurd (c.in-None.ensures.none can.disk can.may.table can.row can.may.at_slot.there
+    can.may.at_slot.slot_is)
+
+pub returns-in-None-clause-others : goal.returns-in-None-clause-others
+returns-in-None-clause-others g c = λ d row may. absurd (c.in-None.ensures.none d may.table row may.at_slot.there may.at_slot.slot_is)

@@ -22,18 +22,21 @@ pub returns-clause-images : goal.returns-clause-images
 returns-clause-images g c =
     let S = g.D.Pm.state in
     same_images down c.down.result c.args.fact.now c.args.slot (S c.args.device.now) (S c.set_counts.new.device)
-    (λ d row is at_slot. c.down.ensures ∙ ap (λ (x : CountWord). record { rfc = x.rfc - 1; uc = x.uc - 1 }) (c.counts_at-counts.ensures.counts d row is at_slot)) c.set_counts.ensures.images
+    (λ d row is at_slot. c.down.ensures ∙ ap (λ (x : CountWord). record { rfc = x.rfc - 1; uc = x.uc - 1 })
+    (c.counts_at-counts.ensures.counts d row is at_slot)) c.set_counts.ensures.images
 
 pub returns-clause-table : goal.returns-clause-table
 returns-clause-table g c =
     let S = g.D.Pm.state in
     on_ok_map c.set_counts.result _ _
     (same_table down c.down.result c.args.fact.now c.args.slot (S c.args.device.now) (S c.set_counts.new.device)
-    (λ d row is at_slot. c.down.ensures ∙ ap (λ (x : CountWord). record { rfc = x.rfc - 1; uc = x.uc - 1 }) (c.counts_at-counts.ensures.counts d row is at_slot))) c.set_counts.ensures.table
+    (λ d row is at_slot. c.down.ensures ∙ ap (λ (x : CountWord). record { rfc = x.rfc - 1; uc = x.uc - 1 })
+    (c.counts_at-counts.ensures.counts d row is at_slot))) c.set_counts.ensures.table
 
 pub returns-clause-settled : goal.returns-clause-settled
 returns-clause-settled g c =
     let S = g.D.Pm.state in
     on_ok_map c.set_counts.result _ _
     (same_settled down c.down.result c.args.fact.now c.args.slot (S c.args.device.now) (S c.set_counts.new.device)
-    (λ d row is at_slot. c.down.ensures ∙ ap (λ (x : CountWord). record { rfc = x.rfc - 1; uc = x.uc - 1 }) (c.counts_at-counts.ensures.counts d row is at_slot))) c.set_counts.ensures.settled
+    (λ d row is at_slot. c.down.ensures ∙ ap (λ (x : CountWord). record { rfc = x.rfc - 1; uc = x.uc - 1 })
+    (c.counts_at-counts.ensures.counts d row is at_slot))) c.set_counts.ensures.settled

@@ -21,5 +21,7 @@ unfolding none
 loop-row-preserved c =
     let row = get_or c.args.rows.now c.loop-row.row-index none in
     let small = c.requires.pages c.loop-row.row-index none c.loop-row-test.true in
-    subst (λ (rs : List TableRow). ArePointers c.args.g.now rs (slice_set c.loop-row.wanted.items row.page (row.slot + 1))) (sym (rows-more c.args.rows.now c.loop-row.row-index none c.loop-row-test.true))
-    (pointers-more c.args.g.now (map as_row (take c.loop-row.row-index c.args.rows.now)) c.loop-row.wanted.items c.loop-row.invariant (as_row row) small)
+    subst (λ (rs : List TableRow). ArePointers c.args.g.now rs (slice_set c.loop-row.wanted.items row.page (row.slot + 1)))
+    (sym (rows-more c.args.rows.now c.loop-row.row-index none c.loop-row-test.true))
+    (pointers-more c.args.g.now (map as_row (take c.loop-row.row-index c.args.rows.now)) c.loop-row.wanted.items c.loop-row.invariant (as_row row)
+    small)

@@ -6,7 +6,8 @@ use Rattle.fact_table.proofs.load.unmarked.Goals.{then-not-marked, else-not-mark
 pub loop-k-preserved : goal.loop-k-preserved
 loop-k-preserved c = elim c.if-not-marked.branch [
   | then-not-marked w ↦ subst (HasUnmarked c.args.used.now (c.loop-k.k + 1)) (sym w.set-is)
-      (unmarked-more c.args.used.now c.loop-k.k c.loop-k.set c.loop-k.invariant w.if-not-marked.true w.give_back.new.self w.give_back.ensures.gives_back)
+      (unmarked-more c.args.used.now c.loop-k.k c.loop-k.set c.loop-k.invariant w.if-not-marked.true w.give_back.new.self
+      w.give_back.ensures.gives_back)
   | else-not-marked w ↦ subst (HasUnmarked c.args.used.now (c.loop-k.k + 1)) (sym w.set-is)
       (unmarked-past c.args.used.now c.loop-k.k c.loop-k.set c.loop-k.invariant w.if-not-marked.false)
 ]

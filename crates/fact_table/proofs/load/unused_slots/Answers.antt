@@ -7,4 +7,5 @@ use Rattle.fact_table.proofs.load.unused_slots.Goals as goal
 pub returns : goal.returns
 returns c =
     unused_ok c.args.g.now (map as_row c.args.rows.now) c.deref.result.now
-    (subst (AreUsed c.args.g.now (map as_row c.args.rows.now)) (sym c.deref.ensures.value) c.in_ok-used.ensures) c.unmarked.result c.unmarked.ensures.all c.unmarked.ensures.free
+    (subst (AreUsed c.args.g.now (map as_row c.args.rows.now)) (sym c.deref.ensures.value) c.in_ok-used.ensures) c.unmarked.result
+    c.unmarked.ensures.all c.unmarked.ensures.free

@@ -16,13 +16,16 @@ unfolding none
 loop-row-preserved c =
     let row = get_or c.args.rows.now c.loop-row.row-index none in
     let rs = map as_row (take c.loop-row.row-index c.args.rows.now) in
-    subst (λ (xs : List TableRow). AreUsed c.args.g.now xs c.if-row-directs.used.items) (sym (rows-more c.args.rows.now c.loop-row.row-index none c.loop-row-test.true))
+    subst (λ (xs : List TableRow). AreUsed c.args.g.now xs c.if-row-directs.used.items)
+    (sym (rows-more c.args.rows.now c.loop-row.row-index none c.loop-row-test.true))
     (elim c.if-row-directs.branch [
       | then-row-directs w ↦
           let far : directs c.args.g.now ≤ row.slot = omega (arith, w.if-row-directs.true, c.directs-directs.ensures.value) in
           subst (λ (used : List Bool). AreUsed c.args.g.now (rs ++ as_row row ∷ []) used) (sym (ap (λ (v : Vec Bool Global). v.items) w.used-is))
-          (subst (λ (n : ℕ). AreUsed c.args.g.now (rs ++ as_row row ∷ []) (slice_set c.loop-row.used.items (row.slot - n) true)) (sym c.directs-directs.ensures.value)
-          (used-more c.args.g.now rs c.loop-row.used.items c.loop-row.invariant (as_row row) far (c.requires.slots c.loop-row.row-index none c.loop-row-test.true)))
+          (subst (λ (n : ℕ). AreUsed c.args.g.now (rs ++ as_row row ∷ []) (slice_set c.loop-row.used.items (row.slot - n) true))
+          (sym c.directs-directs.ensures.value)
+          (used-more c.args.g.now rs c.loop-row.used.items c.loop-row.invariant (as_row row) far
+          (c.requires.slots c.loop-row.row-index none c.loop-row-test.true)))
       | else-row-directs w ↦
           let direct : row.slot < directs c.args.g.now = omega (arith, w.if-row-directs.false, c.directs-directs.ensures.value) in
           subst (λ (used : List Bool). AreUsed c.args.g.now (rs ++ as_row row ∷ []) used) (sym (ap (λ (v : Vec Bool Global). v.items) w.used-is))

@@ -12,7 +12,8 @@ returns g c = λ none. record {
     may = record {
       twenty_bytes = twenty_bytes c.args.print.now c.told-print c.fits-print;
       data_page = record {
-        low = subst (λ (k : Geometry). first_data k ≤ c.args.page) c.geometry-g.ensures (omega (arith, c.first_data.ensures, c.if-page-first_data.false));
+        low = subst (λ (k : Geometry). first_data k ≤ c.args.page) c.geometry-g.ensures
+            (omega (arith, c.first_data.ensures, c.if-page-first_data.false));
         high = subst (λ (k : Geometry). c.args.page < k.pages) c.geometry-g.ensures (omega (arith, c.if-page-g.false));
       };
       new_print = of_none c.find.result _ c.is_some.result c.is_some.ensures c.if-is_some.false c.find.ensures c.requires.disk c.requires.is;

@@ -1,7 +1,7 @@
 use Rattle.std.proofs.Common.{◌∙◌}
+use Rattle.pm_device.proofs.AllFlushed.{flushes-settle}
 use Rattle.inode_log.proofs.Committed.{on_ok_map}
 use Rattle.file_commit.proofs.Appended.{to_prepare, can_prepare, tail_settled, images, stands_new, stores}
-use Rattle.file_commit.proofs.Settles.{settles}
 use Rattle.file_commit.proofs.append.append_items.Goals as goal
 
 pub prepare-tail-requires-clause-can : goal.prepare-tail-requires-clause-can
@@ -18,8 +18,10 @@ returns-clause-any_moment g c =
     let S = g.D.Pm.state in
     λ d new event is.
     let to = to_prepare _ _ _ _ _ d new event _ is in
-    images _ _ _ _ _ d new event _ is (S c.prepare-tail.new.device) (c.prepare-tail.ensures.prepared _ _ to) c.requires.size c.prepare-tail.result (S c.commit_log.new.device)
-    (c.prepare-tail.ensures.tail _ _ to) c.commit_log.ensures.only (g.met.D.Pm.agree c.prepare-tail.new.device) (g.met.D.Pm.agree c.commit_log.new.device)
+    images _ _ _ _ _ d new event _ is (S c.prepare-tail.new.device) (c.prepare-tail.ensures.prepared _ _ to) c.requires.size c.prepare-tail.result
+    (S c.commit_log.new.device)
+    (c.prepare-tail.ensures.tail _ _ to) c.commit_log.ensures.only (g.met.D.Pm.agree c.prepare-tail.new.device)
+    (g.met.D.Pm.agree c.commit_log.new.device)
     (c.commit_log.ensures.committed (tail_settled _ _ _ _ _ d new event _ is (S c.prepare-tail.new.device) (c.prepare-tail.ensures.prepared _ _ to)))
 
 pub returns-clause-done : goal.returns-clause-done
@@ -27,7 +29,8 @@ returns-clause-done g c =
     let S = g.D.Pm.state in
     on_ok_map c.commit_log.result _ _ (λ done. λ d new event is.
     let to = to_prepare _ _ _ _ _ d new event _ is in
-    stands_new _ _ _ _ _ d new event _ is (S c.prepare-tail.new.device) (c.prepare-tail.ensures.prepared _ _ to) c.requires.size c.prepare-tail.result (S c.commit_log.new.device)
+    stands_new _ _ _ _ _ d new event _ is (S c.prepare-tail.new.device) (c.prepare-tail.ensures.prepared _ _ to) c.requires.size c.prepare-tail.result
+    (S c.commit_log.new.device)
     (c.prepare-tail.ensures.tail _ _ to) c.commit_log.ensures.only done) c.commit_log.ensures.done
 
 pub returns-clause-only : goal.returns-clause-only
@@ -35,12 +38,13 @@ returns-clause-only g c =
     let S = g.D.Pm.state in
     λ d new event is.
     let to = to_prepare _ _ _ _ _ d new event _ is in
-    stores _ _ _ _ _ d new event _ is (S c.prepare-tail.new.device) (c.prepare-tail.ensures.prepared _ _ to) c.requires.size c.prepare-tail.result (S c.commit_log.new.device)
+    stores _ _ _ _ _ d new event _ is (S c.prepare-tail.new.device) (c.prepare-tail.ensures.prepared _ _ to) c.requires.size c.prepare-tail.result
+    (S c.commit_log.new.device)
     (c.prepare-tail.ensures.tail _ _ to) c.commit_log.ensures.only c.commit_log.ensures.others
 
 pub returns-clause-settles : goal.returns-clause-settles
 returns-clause-settles g c =
     let S = g.D.Pm.state in
-    let can = c.requires.can in
-    let prepared = c.prepare-tail.ensures.prepared _ _ (to_prepare _ _ _ _ _ _ _ _ _ can.is) in
-    on_ok_map c.commit_log.result _ _ (λ done. settles _ _ _ _ _ _ _ (S c.prepare-tail.new.device) (S c.commit_log.new.device) prepared c.commit_log.ensures.only c.commit_log.ensures.others done) c.commit_log.ensures.done
+    on_ok_map c.commit_log.result _ _
+    (flushes-settle c.args.who (S c.args.device.now) (S c.prepare-tail.new.device) (S c.commit_log.new.device) c.prepare-tail.ensures.flushes)
+    c.commit_log.ensures.settles

@@ -91,7 +91,7 @@ returns-in_default-append_items-clause-agrees g c =
     let there = (both (λ (fresh : List ℕ) (slots : List (List ℕ)). AppendsThere c.args.v.now.parts.geometry c.args.who f.ino fresh slots (S c.args.v.now.device) (S c.append_items.new.device)) f.fresh.items c.deref-2.result.now f.slots.items c.deref.result.now c.deref-2.ensures.value c.deref.ensures.value c.append_items.ensures.only) in
     is_stopped (breaks S g.F.Fingerprint.print c.args.v.now (record { device = c.append_items.new.device; print = c.args.v.now.print; parts = _ }) found.0 c.args.who f c.in-Data.change found.1 last.flies last.kind (fact found.0 c.args.v.now.parts (S c.args.v.now.device) c.args.who f c.in-Data.change found.1 last) last.name last.at last.text last.op_is last.all_filled last.all_raised
     between there c.append_items.ensures.faults
-    f.op refl refl refl refl refl c.count_call-v.ensures (c.in_default-append_items.ensures.failed refl)
+    f.op refl refl refl refl refl refl c.count_call-v.ensures (c.in_default-append_items.ensures.failed refl)
     c.put_back.ensures.here (λ k ne. c.put_back.ensures.others k ne ∙ c.end_flight-flight.ensures.others k ne)).stopped
 
 pub returns-in_default-append_items-clause-event : goal.returns-in_default-append_items-clause-event
@@ -106,7 +106,7 @@ returns-in_default-append_items-clause-event g c =
     let op_same = ap (λ (x : Flight). x.op) (same_flight _ f flies.flight c.end_flight-flight.ensures.was flies.flies.is) ∙ flies.op_is in
     breaks S g.F.Fingerprint.print c.args.v.now (record { device = c.append_items.new.device; print = c.args.v.now.print; parts = _ }) d c.args.who f c.in-Data.change v last.flies last.kind (fact d c.args.v.now.parts (S c.args.v.now.device) c.args.who f c.in-Data.change v last) last.name last.at last.text last.op_is last.all_filled last.all_raised
     between there c.append_items.ensures.faults
-    op op_same refl refl refl refl c.count_call-v.ensures (c.in_default-append_items.ensures.failed refl)
+    op op_same refl refl refl refl refl c.count_call-v.ensures (c.in_default-append_items.ensures.failed refl)
     c.put_back.ensures.here (λ k ne. c.put_back.ensures.others k ne ∙ c.end_flight-flight.ensures.others k ne)
 
 pub finish_parts-requires : goal.finish_parts-requires

@@ -5,4 +5,5 @@ use Rattle.file_scan.specs.Index.{Remaps}
 use Rattle.file_scan.proofs.index.add_item.Goals as goal
 
 pub returns-in-Write : goal.returns-in-Write
-returns-in-Write c = subst (λ (item : LogItem). OnOk c.add_write.result (Remaps (record { slot = c.args.placed.now.slot; item = item }) c.args.index.now c.add_write.new.index)) (sym c.in-Write.is) (c.add_write.ensures c.in-Write.flag c.in-Write.mask)
+returns-in-Write c = subst (λ (item : LogItem). OnOk c.add_write.result (Remaps (record { slot = c.args.placed.now.slot; item = item })
+    c.args.index.now c.add_write.new.index)) (sym c.in-Write.is) (c.add_write.ensures c.in-Write.flag c.in-Write.mask)

@@ -6,7 +6,8 @@ pub loop-i-init : goal.loop-i-init
 loop-i-init c = indexed-none c.args.items.now _ refl c.new.ensures
 
 pub loop-i-preserved : goal.loop-i-preserved
-loop-i-preserved c = indexed-next c.args.items.now c.loop-i.i c.index-items-i.result c.loop-i.index c.add_item.new.index c.loop-i-test.true c.index-items-i.is c.loop-i.invariant c.in_ok-add_item.ensures
+loop-i-preserved c = indexed-next c.args.items.now c.loop-i.i c.index-items-i.result c.loop-i.index c.add_item.new.index c.loop-i-test.true
+    c.index-items-i.is c.loop-i.invariant c.in_ok-add_item.ensures
 
 pub returns : goal.returns
 returns c = indexed-all c.args.items.now c.loop-i.i c.loop-i.index c.loop-i-test.false c.loop-i.invariant

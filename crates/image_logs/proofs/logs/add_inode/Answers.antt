@@ -7,5 +7,8 @@ use Rattle.image_logs.proofs.logs.add_inode.Goals as goal
 pub returns-clause-adds : goal.returns-clause-adds
 returns-clause-adds g c =
     adds_log c.places_end.result c.add_log.new.read (λ none. c.if-slot-eq-FREE.false (c.read_inode-slot.ensures.state ∙ none))
-    (subst (λ (s : ℕ). IsEnd s (slice_index (g.D.Pm.state c.args.device.now).now (inode_word c.args.ino 3)) c.places_end.result) c.read_inode-slot.ensures.state (subst (λ (t : ℕ). IsEnd c.read_inode-slot.result.state t c.places_end.result) c.read_inode-slot.ensures.cut c.places_end.ensures))
-    c.in_ok-add_log.ensures.adds (subst (λ (s : ℕ). CountsUse c.args.ino s c.add_log.new.read c.count_use.new.read) c.read_inode-slot.ensures.state c.count_use.ensures)
+    (subst (λ (s : ℕ). IsEnd s (slice_index (g.D.Pm.state c.args.device.now).now (inode_word c.args.ino 3)) c.places_end.result)
+    c.read_inode-slot.ensures.state (subst (λ (t : ℕ). IsEnd c.read_inode-slot.result.state t c.places_end.result) c.read_inode-slot.ensures.cut
+    c.places_end.ensures))
+    c.in_ok-add_log.ensures.adds (subst (λ (s : ℕ). CountsUse c.args.ino s c.add_log.new.read c.count_use.new.read) c.read_inode-slot.ensures.state
+    c.count_use.ensures)

@@ -9,11 +9,17 @@ true_false : true ≡ false → ⊥
 true_false e = cc
 
 pub loop-page-init : goal.loop-page-init
-loop-page-init c = counts-none (IsUnused c.args.in_logs.now c.args.mapped.now (first_data c.args.g.now)) c.first_data-page.result (λ x u. omega (arith, u.low, c.first_data-page.ensures))
+loop-page-init c = counts-none (IsUnused c.args.in_logs.now c.args.mapped.now (first_data c.args.g.now)) c.first_data-page.result
+    (λ x u. omega (arith, u.low, c.first_data-page.ensures))
 
 pub loop-page-preserved : goal.loop-page-preserved
-loop-page-preserved c = counts-if (IsUnused c.args.in_logs.now c.args.mapped.now (first_data c.args.g.now)) c.loop-page.page c.loop-page.free c.count_if-free.result c.is_unused.result c.loop-page.invariant
-    (λ e. let u = c.is_unused.ensures.0 e in record { low = omega (arith, c.loop-page.auto.page, c.first_data-page.ensures); no_log = u.0; no_place = u.1 })
+loop-page-preserved c = counts-if (IsUnused c.args.in_logs.now c.args.mapped.now (first_data c.args.g.now)) c.loop-page.page c.loop-page.free
+    c.count_if-free.result c.is_unused.result c.loop-page.invariant
+    (λ e. let u = c.is_unused.ensures.0 e in record {
+      low = omega (arith, c.loop-page.auto.page, c.first_data-page.ensures);
+      no_log = u.0;
+      no_place = u.1;
+    })
     (λ e u. true_false (sym (c.is_unused.ensures.1 (u.no_log, u.no_place)) ∙ e))
     c.count_if-free.ensures.yes c.count_if-free.ensures.no
 

@@ -17,8 +17,10 @@ loop-page-init c = counts-none (λ page. 1 ≤ slice_index c.args.mapped.now pag
 pub loop-page-preserved : goal.loop-page-preserved
 loop-page-preserved c =
     let places = slice_index c.args.mapped.now c.loop-page.page in
-    counts-if (λ page. 1 ≤ slice_index c.args.mapped.now page) c.loop-page.page c.loop-page.count c.count_if-count.result (nat_lt 0 places) c.loop-page.invariant (positive places) (not_positive places)
+    counts-if (λ page. 1 ≤ slice_index c.args.mapped.now page) c.loop-page.page c.loop-page.count c.count_if-count.result (nat_lt 0 places)
+    c.loop-page.invariant (positive places) (not_positive places)
     c.count_if-count.ensures.yes c.count_if-count.ensures.no
 
 pub returns : goal.returns
-returns c = λ d in_logs counted read. all_mapped d in_logs c.args.mapped.now counted read c.loop-page.page c.loop-page.count (omega (arith, c.loop-page-test.false, c.loop-page.auto.page-end)) c.loop-page.invariant
+returns c = λ d in_logs counted read. all_mapped d in_logs c.args.mapped.now counted read c.loop-page.page c.loop-page.count
+    (omega (arith, c.loop-page-test.false, c.loop-page.auto.page-end)) c.loop-page.invariant

@@ -10,16 +10,19 @@ changes g c item write = subst (λ (v : ℕ). IsWordChange (with_flag c.args.fla
 
 pub returns-clause-any_moment : goal.returns-clause-any_moment
 returns-clause-any_moment g c settled =
-    let S = g.D.Pm.state in old_or_new_item c.args.g.now (with_flag c.args.flag) c.args.who c.args.slot 5 c.number.result (8 * c.args.slot + 5) (S c.args.device.now) (S c.set_word.new.device) refl (omega arith) (changes g c) (c.set_word.ensures.any_moment settled)
+    let S = g.D.Pm.state in old_or_new_item c.args.g.now (with_flag c.args.flag) c.args.who c.args.slot 5 c.number.result (8 * c.args.slot + 5)
+    (S c.args.device.now) (S c.set_word.new.device) refl (omega arith) (changes g c) (c.set_word.ensures.any_moment settled)
 
 pub returns-clause-stands : goal.returns-clause-stands
 returns-clause-stands g c =
     let S = g.D.Pm.state in
     on_ok_map c.set_word.result _ _ (λ done.
-    new_item_stands c.args.g.now (with_flag c.args.flag) c.args.who c.args.slot 5 c.number.result (8 * c.args.slot + 5) (S c.args.device.now) (S c.set_word.new.device) refl (omega arith) (changes g c)
+    new_item_stands c.args.g.now (with_flag c.args.flag) c.args.who c.args.slot 5 c.number.result (8 * c.args.slot + 5) (S c.args.device.now)
+    (S c.set_word.new.device) refl (omega arith) (changes g c)
     (omega (arith, c.requires.slot.high, c.requires.size)) done c.set_word.ensures.only) c.set_word.ensures.done
 
 pub returns-clause-other_logs : goal.returns-clause-other_logs
 returns-clause-other_logs g c =
     let S = g.D.Pm.state in
-    keeps_logs c.args.g.now (with_flag c.args.flag) c.args.who c.args.slot 5 c.number.result (8 * c.args.slot + 5) (S c.args.device.now) (S c.set_word.new.device) refl (omega arith) (changes g c) c.requires.slot c.set_word.ensures.only
+    keeps_logs c.args.g.now (with_flag c.args.flag) c.args.who c.args.slot 5 c.number.result (8 * c.args.slot + 5) (S c.args.device.now)
+    (S c.set_word.new.device) refl (omega arith) (changes g c) c.requires.slot c.set_word.ensures.only

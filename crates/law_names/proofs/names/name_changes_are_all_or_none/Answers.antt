@@ -11,8 +11,10 @@ returns-clause-suffice c = names_suffice
 
 pub returns-clause-images : goal.returns-clause-images
 returns-clause-images c = λ d change may who s t agree size stands ready leaves.
-    all_or_none_images d (names_changed d change) (name_changes d change) (names_all_or_none d change may) who s t agree size stands (names_suffice d change may who s ready) leaves
+    all_or_none_images d (names_changed d change) (name_changes d change) (names_all_or_none d change may) who s t agree size stands
+    (names_suffice d change may who s ready) leaves
 
 pub returns-clause-stands : goal.returns-clause-stands
 returns-clause-stands c = λ d change may who s t agree size stands ready done.
-    all_or_none_stands d (names_changed d change) (name_changes d change) (names_all_or_none d change may) who s t agree size stands (names_suffice d change may who s ready) done
+    all_or_none_stands d (names_changed d change) (name_changes d change) (names_all_or_none d change may) who s t agree size stands
+    (names_suffice d change may who s ready) done

@@ -1,5 +1,17 @@
 use Rattle.law_names.proofs.Changed.{same_geometry, same_rows, same_pointer, same_word}
-use Rattle.law_names.proofs.Kept.{maps_same, mappings_same, mapped_kept, mapped_only, near_kept, exact_kept, log_page_kept, log_page_cases, free_kept, free_only, fresh_taken}
+use Rattle.law_names.proofs.Kept.{
+  maps_same,
+  mappings_same,
+  mapped_kept,
+  mapped_only,
+  near_kept,
+  exact_kept,
+  log_page_kept,
+  log_page_cases,
+  free_kept,
+  free_only,
+  fresh_taken,
+}
 use Rattle.law_names.proofs.ChangedFiles.{bytes_same}
 use Rattle.law_names.proofs.ChangedOwn.{live_was, own_kept, settled_kept}
 use Rattle.law_names.proofs.names.name_changes_keep_data.Goals as goal

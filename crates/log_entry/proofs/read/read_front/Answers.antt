@@ -15,8 +15,10 @@ returns-then-not-agrees c =
 
 pub returns-then-taken-slots : goal.returns-then-taken-slots
 returns-then-taken-slots c =
-    let spelled = candidate_spelled c.in_ok-item.field-0 c.in-Some.item c.args.slots.now c.in_ok-item.ensures c.in-Some.is in
-    (whole c.in-Some.item c.args.slots.now spelled (c.agrees.ensures.0 c.if-not-agrees.false) (omega (arith, c.slots_of-taken.ensures.slots)), c.slots_of-taken.ensures.slots)
+    let spelled = candidate_spelled c.in_ok-item.field-0 c.in-Some.item c.args.slots.now c.in_ok-item.ensures c.in-Some.is in (
+      whole c.in-Some.item c.args.slots.now spelled (c.agrees.ensures.0 c.if-not-agrees.false) (omega (arith, c.slots_of-taken.ensures.slots)),
+      c.slots_of-taken.ensures.slots,
+    )
 
 pub returns-else-taken-slots : goal.returns-else-taken-slots
 returns-else-taken-slots c =

@@ -9,4 +9,5 @@ returns-then-is_spelled-clause-only c = λ item spelled head. ap (λ (i : LogIte
 
 pub returns-else-is_spelled-clause-only : goal.returns-else-is_spelled-clause-only
 returns-else-is_spelled-clause-only c = λ item spelled head.
-    absurd (refused c.is_spelled.result (c.is_spelled.ensures.1 (subst IsSpelled (size_head item c.args.head.now head c.requires) spelled)) c.if-is_spelled.false)
+    absurd (refused c.is_spelled.result (c.is_spelled.ensures.1 (subst IsSpelled (size_head item c.args.head.now head c.requires) spelled))
+    c.if-is_spelled.false)

@@ -12,6 +12,7 @@ overflow_add-number c =
 
 pub loop-i-preserved : goal.loop-i-preserved
 loop-i-preserved c = record {
-  number = rw c.from.ensures (number_more c.args.name.now c.args.word c.loop-i.i c.loop-i.number c.byte_or_zero.result c.loop-i-test.true c.loop-i.invariant.number c.byte_or_zero.ensures);
+  number = rw c.from.ensures (number_more c.args.name.now c.args.word c.loop-i.i c.loop-i.number c.byte_or_zero.result c.loop-i-test.true
+      c.loop-i.invariant.number c.byte_or_zero.ensures);
   fits = rw c.from.ensures (more_below c.loop-i.i c.loop-i.number c.byte_or_zero.result c.loop-i.invariant.fits c.byte_or_zero.type_inv);
 }

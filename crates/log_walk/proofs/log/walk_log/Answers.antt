@@ -9,7 +9,13 @@ use Rattle.log_walk.proofs.log.walk_log.Goals as goal
 
 pub load-tail-requires : goal.load-tail-requires
 load-tail-requires g c =
-    let low = inode_word_low c.args.g.now c.args.ino 2 c.requires.ino (omega arith) in omega (arith, c.inode_word.ensures, c.requires.size, c.requires.accepted.room, low)
+    let low = inode_word_low c.args.g.now c.args.ino 2 c.requires.ino (omega arith) in omega (
+      arith,
+      c.inode_word.ensures,
+      c.requires.size,
+      c.requires.accepted.room,
+      low,
+    )
 
 pub returns-then-tail-eq0-clause-log : goal.returns-then-tail-eq0-clause-log
 returns-then-tail-eq0-clause-log g c =

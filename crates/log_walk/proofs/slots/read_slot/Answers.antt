@@ -7,4 +7,5 @@ use Rattle.log_walk.proofs.slots.read_slot.Goals as goal
 pub returns : goal.returns
 returns g c =
     let now = (g.D.Pm.state c.args.device.now).now in
-    fill_by_all (λ (j : ℕ). slice_index now (log_word c.args.pages.now c.args.k j)) c.loop-j.word-items 8 0 c.loop-j-test.array_long (λ k lt. c.loop-j.invariant k (omega (arith, lt, c.loop-j-test.false)))
+    fill_by_all (λ (j : ℕ). slice_index now (log_word c.args.pages.now c.args.k j)) c.loop-j.word-items 8 0 c.loop-j-test.array_long
+    (λ k lt. c.loop-j.invariant k (omega (arith, lt, c.loop-j-test.false)))

@@ -8,9 +8,12 @@ mark-requires c = below-at (begun_by c.args.items.now) c.loop-i.i c.args.marks.n
     (c.page_begun.ensures ∙ begun_at c.args.items.now c.loop-i.i c.index-items-i.result c.loop-i-test.true c.index-items-i.is) c.requires
 
 pub returns-then-not-mark-clause-twice : goal.returns-then-not-mark-clause-twice
-returns-then-not-mark-clause-twice c = λ no. twice-at (begun_by c.args.items.now) c.loop-i.i c.args.marks.now c.loop-i.marks c.loop-i.invariant c.page_begun.result
-    (c.page_begun.ensures ∙ begun_at c.args.items.now c.loop-i.i c.index-items-i.result c.loop-i-test.true c.index-items-i.is) (c.if-not-mark.ensures.twice no) _ c.loop-i-test.true
+returns-then-not-mark-clause-twice c = λ no. twice-at (begun_by c.args.items.now) c.loop-i.i c.args.marks.now c.loop-i.marks c.loop-i.invariant
+    c.page_begun.result
+    (c.page_begun.ensures ∙ begun_at c.args.items.now c.loop-i.i c.index-items-i.result c.loop-i-test.true c.index-items-i.is)
+    (c.if-not-mark.ensures.twice no) _ c.loop-i-test.true
 
 pub loop-i-preserved : goal.loop-i-preserved
 loop-i-preserved c = marks-next (begun_by c.args.items.now) c.loop-i.i c.args.marks.now c.loop-i.marks c.loop-i.invariant c.page_begun.result
-    (c.page_begun.ensures ∙ begun_at c.args.items.now c.loop-i.i c.index-items-i.result c.loop-i-test.true c.index-items-i.is) c.mark.new.marks (c.mark.ensures.marked c.if-not-mark.false)
+    (c.page_begun.ensures ∙ begun_at c.args.items.now c.loop-i.i c.index-items-i.result c.loop-i-test.true c.index-items-i.is) c.mark.new.marks
+    (c.mark.ensures.marked c.if-not-mark.false)

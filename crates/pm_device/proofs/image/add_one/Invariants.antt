@@ -5,6 +5,7 @@ use Rattle.pm_device.proofs.image.add_one.Given as goal
 -- the words before this one are counted
 abbrev pub invariant-loop-a : goal.invariant-loop-a
 invariant-loop-a l = record {
-  each : (b : ℕ) → b < vec_len l.initial.counts → slice_index l.counts.items b ≡ (if covers l.at (l.a - l.at) b then slice_index l.initial.counts.items b + 1 else slice_index l.initial.counts.items b);
+  each : (b : ℕ) → b < vec_len l.initial.counts → slice_index l.counts.items b ≡ (if covers l.at (l.a - l.at) b then slice_index
+      l.initial.counts.items b + 1 else slice_index l.initial.counts.items b);
   len : vec_len l.counts ≡ vec_len l.initial.counts;
 }

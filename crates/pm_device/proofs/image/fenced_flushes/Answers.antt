@@ -23,7 +23,8 @@ loop-k-preserved c =
     let step : c.loop-k.k - 1 + 1 ≡ c.loop-k.k = omega arith in
     record {
       next = λ q. c.in_ok-flushes-2.ensures.next q ∙ is_fenced-more es (c.loop-k.k - 1) c.loop-k.k _ step (omega arith) q _ (h.next q);
-      flushes = fenced_flushes-more es (c.loop-k.k - 1) c.loop-k.k _ step (omega arith) c.loop-k.flushes.items _ c.in_ok-flushes-2.field-0 (omega (arith, h.len, c.loop-k.flushes.ok.0)) h.next h.flushes c.in_ok-flushes-2.ensures.flush;
+      flushes = fenced_flushes-more es (c.loop-k.k - 1) c.loop-k.k _ step (omega arith) c.loop-k.flushes.items _ c.in_ok-flushes-2.field-0
+          (omega (arith, h.len, c.loop-k.flushes.ok.0)) h.next h.flushes c.in_ok-flushes-2.ensures.flush;
       len = h.len;
     }
 

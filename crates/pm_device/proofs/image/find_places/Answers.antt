@@ -12,8 +12,11 @@ loop-k-preserved c =
     let old = c.loop-k.places in
     let new = c.note.new.self in
     record {
-      small = small-more es c.loop-k.k _ (omega arith) c.args.words old.last.items new.last.items h.small (omega (arith, c.note.ensures.len, new.last.ok.0, h.len)) (λ a lt. c.note.ensures.last a (omega (arith, lt, h.len)));
+      small = small-more es c.loop-k.k _ (omega arith) c.args.words old.last.items new.last.items h.small
+          (omega (arith, c.note.ensures.len, new.last.ok.0, h.len)) (λ a lt. c.note.ensures.last a (omega (arith, lt, h.len)));
       last = λ a lt. last_place-more es c.loop-k.k _ (omega arith) a _ _ (c.note.ensures.last a (omega (arith, lt, h.len))) ∙ h.last a lt;
-      durable = λ a lt. durable_place-more es c.loop-k.k _ (omega arith) a _ _ _ _ c.args.flushes.now _ (c.note.ensures.last a (omega (arith, lt, h.len))) c.requires.flushes (c.note.ensures.durable a (omega (arith, lt, h.len))) ∙ h.durable a lt;
+      durable = λ a lt. durable_place-more es c.loop-k.k _ (omega arith) a _ _ _ _ c.args.flushes.now _
+          (c.note.ensures.last a (omega (arith, lt, h.len))) c.requires.flushes (c.note.ensures.durable a (omega (arith, lt, h.len))) ∙ h.durable a
+          lt;
       len = omega (arith, c.note.ensures.len, h.len);
     }

@@ -7,6 +7,7 @@ abbrev pub invariant-loop-k : goal.invariant-loop-k
 invariant-loop-k l = record {
   small : (a : ℕ) → slice_index l.places.last.items a ≤ l.k;
   last : (a : ℕ) → a < l.words → last_place a (slice_index l.places.last.items a) (drop l.k l.entries) ≡ last_place a 0 l.entries;
-  durable : (a : ℕ) → a < l.words → durable_place a (slice_index l.places.last.items a) (slice_index l.places.durable.items a) (drop l.k l.entries) ≡ durable_place a 0 0 l.entries;
+  durable : (a : ℕ) → a < l.words → durable_place a (slice_index l.places.last.items a) (slice_index l.places.durable.items a) (drop l.k l.entries) ≡
+      durable_place a 0 0 l.entries;
   len : vec_len l.places.last ≡ l.words;
 }

@@ -19,8 +19,18 @@ pub choose-left-requires-clause-durable : goal.choose-left-requires-clause-durab
 choose-left-requires-clause-durable c = λ a.
     let found = c.in_ok-places.ensures in
     elim (cases_lt a (length c.args.first.now)) [
-      | inl lt ↦ omega (arith, found.last_each a lt, found.durable_each a lt, durable_place-le c.args.kept.now c.args.entries.now c.requires.whole a (slice_index c.args.first.now a))
-      | inr past ↦ omega (arith, get_or_past c.in_ok-places.places.last.items a 0 (omega (arith, past, found.lasts)), get_or_past c.in_ok-places.places.durable.items a 0 (omega (arith, past, found.durables)))
+      | inl lt ↦ omega (
+        arith,
+        found.last_each a lt,
+        found.durable_each a lt,
+        durable_place-le c.args.kept.now c.args.entries.now c.requires.whole a
+            (slice_index c.args.first.now a),
+      )
+      | inr past ↦ omega (
+        arith,
+        get_or_past c.in_ok-places.places.last.items a 0 (omega (arith, past, found.lasts)),
+        get_or_past c.in_ok-places.places.durable.items a 0 (omega (arith, past, found.durables)),
+      )
     ]
 
 pub returns : goal.returns
@@ -33,8 +43,11 @@ returns c =
       each = λ a lt.
           let chosen = c.choose-left.ensures.each a (omega (arith, lt, words)) in
           let chosen_of : slice_index c.choose-left.result.items a ≡ durable_place a 0 0 c.args.entries.now + picked_place c.args.pick a (last_place a 0 c.args.entries.now - durable_place a 0 0 c.args.entries.now + 1) =
-          chosen ∙ ap (λ n. slice_index c.in_ok-places.places.durable.items a + picked_place c.args.pick a (n - slice_index c.in_ok-places.places.durable.items a + 1)) (found.last_each a lt)
+          chosen ∙ ap (λ n. slice_index c.in_ok-places.places.durable.items a + picked_place c.args.pick a
+          (n - slice_index c.in_ok-places.places.durable.items a + 1)) (found.last_each a lt)
           ∙ ap (λ n. n + picked_place c.args.pick a (last_place a 0 c.args.entries.now - n + 1)) (found.durable_each a lt) in
-          picks c.args.kept.now c.args.entries.now c.requires.whole a (slice_index first a) c.args.pick (slice_index c.choose-left.result.items a) (slice_index c.apply.new.image.items a) chosen_of
-          (c.apply.ensures.each a (omega (arith, lt, c.in_ok-image.ensures.len)) ∙ ap (λ xs. value_after c.args.kept.now a (slice_index xs a) (slice_index c.choose-left.result.items a) c.args.entries.now) c.in_ok-image.ensures.items);
+          picks c.args.kept.now c.args.entries.now c.requires.whole a (slice_index first a) c.args.pick (slice_index c.choose-left.result.items a)
+          (slice_index c.apply.new.image.items a) chosen_of
+          (c.apply.ensures.each a (omega (arith, lt, c.in_ok-image.ensures.len)) ∙ ap (λ xs. value_after c.args.kept.now a (slice_index xs a)
+          (slice_index c.choose-left.result.items a) c.args.entries.now) c.in_ok-image.ensures.items);
     }

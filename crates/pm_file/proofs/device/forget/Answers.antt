@@ -5,4 +5,5 @@ use Rattle.pm_file.specs.declared.device.Flushed.{Flushed}
 use Rattle.pm_file.proofs.device.forget.Goals as goal
 
 pub returns-clause-left : goal.returns-clause-left
-returns-clause-left c = filter_same _ (λ (f : Flushed). not (f.who == c.args.who)) _ (λ x b q step. (search (rules, tests), search (rules, tests))) _ _ c.retain.ensures.filtered
+returns-clause-left c = filter_same _ (λ (f : Flushed). not (f.who == c.args.who)) _ (λ x b q step. (search (rules, tests), search (rules, tests))) _
+    _ c.retain.ensures.filtered

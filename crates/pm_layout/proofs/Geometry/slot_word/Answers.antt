@@ -6,7 +6,18 @@ pub overflow_mul-result-2 : goal.overflow_mul-result-2
 overflow_mul-result-2 c = let small = slots_small c.args.self.now c.requires.accepted in omega (arith, c.requires.slot)
 
 pub overflow_add-result-2 : goal.overflow_add-result-2
-overflow_add-result-2 c = let small = slots_small c.args.self.now c.requires.accepted in omega (arith, c.requires.slot, c.div_ceil.ensures, c.requires.accepted.few_inodes)
+overflow_add-result-2 c = let small = slots_small c.args.self.now c.requires.accepted in omega (
+  arith,
+  c.requires.slot,
+  c.div_ceil.ensures,
+  c.requires.accepted.few_inodes,
+)
 
 pub overflow_add-result-3 : goal.overflow_add-result-3
-overflow_add-result-3 c = let small = slots_small c.args.self.now c.requires.accepted in omega (arith, c.requires.slot, c.div_ceil.ensures, c.requires.accepted.few_inodes, c.requires.field)
+overflow_add-result-3 c = let small = slots_small c.args.self.now c.requires.accepted in omega (
+  arith,
+  c.requires.slot,
+  c.div_ceil.ensures,
+  c.requires.accepted.few_inodes,
+  c.requires.field,
+)

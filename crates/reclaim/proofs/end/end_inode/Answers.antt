@@ -1,4 +1,4 @@
-use Rattle.std.proofs.Common.{ℕ, ◌/◌, ◌*◌, ◌+◌, ◌≤◌, length, refl, sym, ◌∙◌, ap, subst, arith}
+use Rattle.std.proofs.Common.{ℕ, ◌/◌, ◌*◌, ◌+◌, ◌≤◌, ◌<◌, length, sym, ◌∙◌, ap, subst, arith}
 use Rattle.pm_layout.specs.Geometry.{IsAccepted}
 use Rattle.dn_volume.specs.Agrees.{is_stopped}
 use Rattle.dn_volume.proofs.Tables.{running_disk}
@@ -7,7 +7,7 @@ use Rattle.reclaim.proofs.NextPlace.{may_end}
 use Rattle.reclaim.proofs.EndedInode.{ends_since}
 use Rattle.reclaim.proofs.Zeroed.{stops_freed}
 use Rattle.reclaim.proofs.LogWalk.{log_leads, can_give_log}
-use Rattle.reclaim.proofs.WorkEnds.{sets_at, done_at, moved_agrees, end_gives, end_ino, end_there, end_line, end_waits, end_moves, end_breaks}
+use Rattle.reclaim.proofs.WorkEnds.{sets_at, done_at, moved_agrees, some_work, less_work, end_gives, end_ino, end_there, end_line, end_waits, end_moves, end_breaks}
 use Rattle.reclaim.proofs.end.end_inode.Goals as goal
 
 pub inode_word-requires-clause-ino : goal.inode_word-requires-clause-ino
@@ -62,7 +62,8 @@ returns-in-Ok-clause-event g c = λ d v.
       end_moves S c.args.v.now c.args.ino c.requires.none c.requires.unraised g.F.Fingerprint.print _ sets (g.met.D.Pm.agree c.set_word.new.device) d v
           (done_at _ _ 0 (S c.args.v.now.device) (S c.set_word.new.device) c.inode_word.ensures c.in-Ok.ensures.done) c.requires.units (ends_since c.args.ino c.args.v.now.parts c.give_back_log.new.free _ c.note_end.ensures.ends)
     (end_gives c.args.v.now.parts (S c.args.v.now.device) d v c.args.ino c.requires.none c.give_back_log.new.free _ c.give_back_log.ensures c.note_end.ensures.free),
-      refl,
+      some_work c.args.v.now.parts (end_waits S c.args.v.now c.args.ino c.requires.none c.requires.unraised c.requires.agrees c.requires.running),
+      less_work c.args.v.now.parts c.note_end.new.parts (ends_since c.args.ino c.args.v.now.parts c.give_back_log.new.free c.note_end.new.parts c.note_end.ensures.ends).kept (omega (arith, c.note_end.ensures.ends.waiting)),
     )
 
 pub returns-in-Err-clause-agrees : goal.returns-in-Err-clause-agrees
@@ -81,4 +82,5 @@ returns-in-Err-clause-event g c = λ d v.
     let sets = sets_at _ _ 0 (S c.args.v.now.device) (S c.set_word.new.device) c.inode_word.ensures (record {
       any_moment = c.set_word.ensures.any_moment; only = c.set_word.ensures.only; others = c.set_word.ensures.others; spare = c.set_word.ensures.spare; faults = c.set_word.ensures.faults;
     }) in
-    end_breaks S c.args.v.now c.args.ino c.requires.none c.requires.unraised g.F.Fingerprint.print (record { device = c.set_word.new.device; print = c.args.v.now.print; parts = c.stop.new.parts }) sets (g.met.D.Pm.agree c.set_word.new.device) d v (stops_freed c.args.v.now.parts c.give_back_log.new.free c.stop.new.parts c.stop.ensures) (c.set_word.ensures.failed (err_is c.set_word.result _ c.in-Err.is))
+    (end_breaks S c.args.v.now c.args.ino c.requires.none c.requires.unraised g.F.Fingerprint.print (record { device = c.set_word.new.device; print = c.args.v.now.print; parts = c.stop.new.parts }) sets (g.met.D.Pm.agree c.set_word.new.device) d v (stops_freed c.args.v.now.parts c.give_back_log.new.free c.stop.new.parts c.stop.ensures) (c.set_word.ensures.failed (err_is c.set_word.result _ c.in-Err.is)),
+    some_work c.args.v.now.parts (end_waits S c.args.v.now c.args.ino c.requires.none c.requires.unraised c.requires.agrees c.requires.running))

@@ -1,8 +1,8 @@
-use Rattle.std.proofs.Common.{ℕ, ◌/◌, ◌*◌, ◌+◌, ◌≤◌, length, refl, sym, subst}
+use Rattle.std.proofs.Common.{ℕ, ◌/◌, ◌*◌, ◌+◌, ◌≤◌, ◌<◌, length, sym, subst, arith}
 use Rattle.dn_volume.specs.Agrees.{is_stopped}
 use Rattle.dn_volume.proofs.Tables.{running_disk}
 use Rattle.reclaim.proofs.Ends.{err_is}
-use Rattle.reclaim.proofs.WorkEnds.{sets_at, done_at, moved_agrees, drop_ino, drop_there, drop_line, drop_waits, drop_units, drop_spare, drop_release, drop_room, drop_moves, drop_breaks}
+use Rattle.reclaim.proofs.WorkEnds.{sets_at, done_at, moved_agrees, some_work, less_work, drop_ino, drop_there, drop_line, drop_waits, drop_units, drop_spare, drop_release, drop_room, drop_moves, drop_breaks}
 use Rattle.reclaim.proofs.fall.drop_place.Goals as goal
 
 pub inode_word-word-requires-clause-ino : goal.inode_word-word-requires-clause-ino
@@ -48,7 +48,8 @@ returns-in-Ok-clause-event g c = λ d v.
     }) in (
       drop_moves S c.args.v.now c.in-Some.p c.in-Some.is g.F.Fingerprint.print _ sets (g.met.D.Pm.agree c.set_word.new.device) d v
           (done_at _ _ c.in-Some.p.place (S c.args.v.now.device) (S c.set_word.new.device) c.inode_word-word.ensures c.in-Ok.ensures.done) c.note_drop.ensures,
-      refl,
+      some_work c.args.v.now.parts (drop_waits S c.args.v.now c.in-Some.p c.in-Some.is c.requires.agrees c.requires.running),
+      less_work c.args.v.now.parts c.note_drop.new.parts c.note_drop.ensures.kept (omega (arith, c.note_drop.ensures.waiting)),
     )
 
 pub returns-in-Err-clause-agrees : goal.returns-in-Err-clause-agrees
@@ -67,4 +68,5 @@ returns-in-Err-clause-event g c = λ d v.
     let sets = sets_at _ _ c.in-Some.p.place (S c.args.v.now.device) (S c.set_word.new.device) c.inode_word-word.ensures (record {
       any_moment = c.set_word.ensures.any_moment; only = c.set_word.ensures.only; others = c.set_word.ensures.others; spare = c.set_word.ensures.spare; faults = c.set_word.ensures.faults;
     }) in
-    drop_breaks S c.args.v.now c.in-Some.p c.in-Some.is g.F.Fingerprint.print (record { device = c.set_word.new.device; print = c.args.v.now.print; parts = c.stop.new.parts }) sets (g.met.D.Pm.agree c.set_word.new.device) d v c.stop.ensures (c.set_word.ensures.failed (err_is c.set_word.result _ c.in-Err.is))
+    (drop_breaks S c.args.v.now c.in-Some.p c.in-Some.is g.F.Fingerprint.print (record { device = c.set_word.new.device; print = c.args.v.now.print; parts = c.stop.new.parts }) sets (g.met.D.Pm.agree c.set_word.new.device) d v c.stop.ensures (c.set_word.ensures.failed (err_is c.set_word.result _ c.in-Err.is)),
+    some_work c.args.v.now.parts (drop_waits S c.args.v.now c.in-Some.p c.in-Some.is c.requires.agrees c.requires.running))

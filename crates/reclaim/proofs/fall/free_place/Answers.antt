@@ -1,8 +1,8 @@
-use Rattle.std.proofs.Common.{ℕ, ◌/◌, ◌*◌, ◌+◌, ◌≤◌, length, refl, sym, subst, arith}
+use Rattle.std.proofs.Common.{ℕ, ◌/◌, ◌*◌, ◌+◌, ◌≤◌, ◌<◌, length, sym, subst, arith}
 use Rattle.dn_volume.specs.Agrees.{is_stopped}
 use Rattle.dn_volume.proofs.Tables.{running_disk}
 use Rattle.reclaim.proofs.Ends.{err_is}
-use Rattle.reclaim.proofs.WorkEnds.{sets_at, done_at, moved_agrees, free_ino, free_there, free_line, free_waits, free_below, free_taken, free_moves, free_breaks}
+use Rattle.reclaim.proofs.WorkEnds.{sets_at, done_at, moved_agrees, some_work, less_work, free_ino, free_there, free_line, free_waits, free_below, free_taken, free_moves, free_breaks}
 use Rattle.reclaim.proofs.fall.free_place.Goals as goal
 
 pub inode_word-word-requires-clause-ino : goal.inode_word-word-requires-clause-ino
@@ -42,7 +42,8 @@ returns-in-Ok-clause-event g c = λ d v.
     }) in (
       free_moves S c.args.v.now c.args.ino c.args.place c.args.page c.requires.place c.requires.no_row c.requires.unraised g.F.Fingerprint.print _ sets (g.met.D.Pm.agree c.set_word.new.device) d v
           (done_at _ _ c.args.place (S c.args.v.now.device) (S c.set_word.new.device) c.inode_word-word.ensures c.in-Ok.ensures.done) c.requires.units c.note_freed.ensures,
-      refl,
+      some_work c.args.v.now.parts (let four = free_waits S c.args.v.now c.args.ino c.args.place c.args.page c.requires.place c.requires.no_row c.requires.unraised c.requires.agrees c.requires.running in omega (arith, four)),
+      less_work c.args.v.now.parts c.note_freed.new.parts c.note_freed.ensures.kept (omega (arith, c.note_freed.ensures.waiting)),
     )
 
 pub returns-in-Err-clause-agrees : goal.returns-in-Err-clause-agrees
@@ -61,4 +62,5 @@ returns-in-Err-clause-event g c = λ d v.
     let sets = sets_at _ _ c.args.place (S c.args.v.now.device) (S c.set_word.new.device) c.inode_word-word.ensures (record {
       any_moment = c.set_word.ensures.any_moment; only = c.set_word.ensures.only; others = c.set_word.ensures.others; spare = c.set_word.ensures.spare; faults = c.set_word.ensures.faults;
     }) in
-    free_breaks S c.args.v.now c.args.ino c.args.place c.args.page c.requires.place c.requires.no_row c.requires.unraised g.F.Fingerprint.print (record { device = c.set_word.new.device; print = c.args.v.now.print; parts = c.stop.new.parts }) sets (g.met.D.Pm.agree c.set_word.new.device) d v c.stop.ensures (c.set_word.ensures.failed (err_is c.set_word.result _ c.in-Err.is))
+    (free_breaks S c.args.v.now c.args.ino c.args.place c.args.page c.requires.place c.requires.no_row c.requires.unraised g.F.Fingerprint.print (record { device = c.set_word.new.device; print = c.args.v.now.print; parts = c.stop.new.parts }) sets (g.met.D.Pm.agree c.set_word.new.device) d v c.stop.ensures (c.set_word.ensures.failed (err_is c.set_word.result _ c.in-Err.is)),
+    some_work c.args.v.now.parts (let four = free_waits S c.args.v.now c.args.ino c.args.place c.args.page c.requires.place c.requires.no_row c.requires.unraised c.requires.agrees c.requires.running in omega (arith, four)))

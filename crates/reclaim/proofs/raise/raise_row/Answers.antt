@@ -1,6 +1,7 @@
+use Rattle.dn_volume.proofs.Tables.{running_disk}
 use Rattle.std.proofs.Common.{◌+◌, ◌≤◌, length, arith}
 use Rattle.reclaim.proofs.Ends.{err_is}
-use Rattle.reclaim.proofs.RaiseEnds.{row_may_raise, units_there, trace_there, units_owed, change_owed, flies_now, raise_fails, raise_moves, raise_agrees, raise_flies}
+use Rattle.reclaim.proofs.RaiseEnds.{row_may_raise, units_there, trace_there, units_owed, change_owed, flies_now, raise_fails, raise_stops, raise_moves, raise_agrees, raise_flies}
 use Rattle.reclaim.proofs.Flown.{one_more}
 use Rattle.reclaim.proofs.raise.raise_row.Goals as goal
 
@@ -57,3 +58,10 @@ returns-in-Err-clause-event g c = λ d f v flies.
     let to = c.requires.raises in
     raise_fails g.D.Pm.state c.args.v.now c.args.who c.row_to_raise-slot.result to (c.row_to_raise-slot.ensures to.flight to.flies) _ c.raise_at.ensures.only (g.met.D.Pm.agree c.raise_at.new.device) c.raise_at.ensures.images c.raise_at.ensures.faults
     c.stop.ensures g.F.Fingerprint.print d v f flies (c.raise_at.ensures.failed (err_is c.raise_at.result _ c.in-Err.is))
+
+pub returns-in-Err-clause-agrees : goal.returns-in-Err-clause-agrees
+returns-in-Err-clause-agrees g c =
+    let to = c.requires.raises in
+    let found = running_disk g.D.Pm.state c.args.v.now c.requires.running c.requires.agrees in
+    raise_stops g.D.Pm.state c.args.v.now c.args.who c.row_to_raise-slot.result to (c.row_to_raise-slot.ensures to.flight to.flies) _ c.raise_at.ensures.only
+    (g.met.D.Pm.agree c.raise_at.new.device) c.raise_at.ensures.images c.raise_at.ensures.faults c.stop.ensures g.F.Fingerprint.print found.0 found.1

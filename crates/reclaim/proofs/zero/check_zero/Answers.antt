@@ -1,6 +1,6 @@
-use Rattle.std.proofs.Common.{refl}
+use Rattle.std.proofs.Common.{◌<◌, refl, arith}
 use Rattle.dn_volume.proofs.Tables.{running_disk}
-use Rattle.reclaim.proofs.WorkEnds.{moved_agrees}
+use Rattle.reclaim.proofs.WorkEnds.{moved_agrees, some_work, less_work}
 use Rattle.reclaim.proofs.ZeroEnds.{zero_table, zero_slot, zero_waits, zero_units, stays_moves}
 use Rattle.reclaim.proofs.zero.check_zero.Goals as goal
 
@@ -27,5 +27,6 @@ pub returns-in-None-clause-event : goal.returns-in-None-clause-event
 returns-in-None-clause-event g c = λ d v. (
   stays_moves g.D.Pm.state c.args.v.now c.in-Some.slot c.in-Some.is (record { device = c.args.v.now.device; print = c.args.v.now.print; parts = c.note_checked.new.parts }) refl c.note_checked.ensures.checks c.note_checked.ensures.free c.note_checked.ensures.fact
       c.in-None.ensures.counted (g.met.D.Pm.agree c.args.v.now.device) g.F.Fingerprint.print d v,
-  refl,
+  some_work c.args.v.now.parts (zero_waits g.D.Pm.state c.args.v.now c.in-Some.slot c.in-Some.is c.requires.agrees c.requires.running),
+  less_work c.args.v.now.parts c.note_checked.new.parts c.note_checked.ensures.checks.kept (omega (arith, c.note_checked.ensures.checks.waiting)),
 )

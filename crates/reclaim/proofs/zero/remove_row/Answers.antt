@@ -1,4 +1,4 @@
-use Rattle.std.proofs.Common.{◌≡◌, refl, sym, subst}
+use Rattle.std.proofs.Common.{◌≡◌, ◌<◌, sym, subst, arith}
 use Rattle.fact_changes.specs.Removal.{MakesRemoved}
 use Rattle.dn_volume.specs.Agrees.{is_stopped}
 use Rattle.dn_volume.proofs.Tables.{running_disk}
@@ -6,7 +6,7 @@ use Rattle.reclaim.specs.Worked.{Gives}
 use Rattle.reclaim.proofs.Ends.{err_is}
 use Rattle.reclaim.proofs.SpaceGained.{gives_one}
 use Rattle.reclaim.proofs.Zeroed.{checks_since, stops_since}
-use Rattle.reclaim.proofs.WorkEnds.{moved_agrees}
+use Rattle.reclaim.proofs.WorkEnds.{moved_agrees, some_work, less_work}
 use Rattle.reclaim.proofs.ZeroEnds.{zero_waits, zero_units, zero_spare, zero_here, zero_below, zero_taken, gone_moves, gone_breaks}
 use Rattle.reclaim.proofs.zero.remove_row.Goals as goal
 
@@ -53,7 +53,9 @@ returns-in-Ok-clause-event g c = λ d v.
           (subst (λ t. MakesRemoved c.args.v.now.parts.fact t c.args.slot (S c.args.v.now.device) (S c.remove_zero.new.device)) (sym c.note_checked.ensures.fact) c.in-Ok.ensures.done) c.in-Ok.ensures.settled
           (subst (Gives (λ p. p ≡ c.args.page) c.args.v.now.parts.free) (sym c.note_checked.ensures.free) (gives_one c.args.page c.args.v.now.parts.free c.give_back.new.self c.give_back.ensures.gives_back c.give_back.ensures.in_order))
           c.remove_zero.ensures.spare,
-      refl,
+      some_work c.args.v.now.parts (zero_waits S c.args.v.now c.args.slot c.requires.pending c.requires.agrees c.requires.running),
+      less_work c.args.v.now.parts c.note_checked.new.parts (checks_since c.args.v.now.parts c.remove_zero.new.fact c.give_back.new.self c.note_checked.new.parts c.note_checked.ensures.checks).kept
+          (omega (arith, c.note_checked.ensures.checks.waiting)),
     )
 
 pub returns-in-Err-clause-agrees : goal.returns-in-Err-clause-agrees
@@ -66,5 +68,6 @@ returns-in-Err-clause-agrees g c =
 pub returns-in-Err-clause-event : goal.returns-in-Err-clause-event
 returns-in-Err-clause-event g c = λ d v.
     let S = g.D.Pm.state in
-    gone_breaks S c.args.v.now c.args.slot c.requires.pending c.args.page c.requires.zero d v (record { device = c.remove_zero.new.device; print = c.args.v.now.print; parts = c.stop.new.parts }) c.remove_zero.ensures.only c.remove_zero.ensures.images (g.met.D.Pm.agree c.remove_zero.new.device)
-    c.remove_zero.ensures.faults g.F.Fingerprint.print (stops_since c.args.v.now.parts c.remove_zero.new.fact c.stop.new.parts c.stop.ensures) (c.remove_zero.ensures.failed (err_is c.remove_zero.result _ c.in-Err.is))
+    (gone_breaks S c.args.v.now c.args.slot c.requires.pending c.args.page c.requires.zero d v (record { device = c.remove_zero.new.device; print = c.args.v.now.print; parts = c.stop.new.parts }) c.remove_zero.ensures.only c.remove_zero.ensures.images (g.met.D.Pm.agree c.remove_zero.new.device)
+    c.remove_zero.ensures.faults g.F.Fingerprint.print (stops_since c.args.v.now.parts c.remove_zero.new.fact c.stop.new.parts c.stop.ensures) (c.remove_zero.ensures.failed (err_is c.remove_zero.result _ c.in-Err.is)),
+    some_work c.args.v.now.parts (zero_waits S c.args.v.now c.args.slot c.requires.pending c.requires.agrees c.requires.running))

@@ -1,7 +1,17 @@
 use Rattle.std.proofs.Common.{◌<◌, length, arith}
 use Rattle.pm_device.specs.Settled.{IsSettled}
 use Rattle.recovery.proofs.Making.{some_tables}
-use Rattle.recovery.proofs.Formatted.{clear_leaves, cleared_still, cleared_flushed, cleared_zero, made_settled, Formats, formats_leaves, formats_done, on_ok_map}
+use Rattle.recovery.proofs.Formatted.{
+  clear_leaves,
+  cleared_still,
+  cleared_flushed,
+  cleared_zero,
+  made_settled,
+  Formats,
+  formats_leaves,
+  formats_done,
+  on_ok_map,
+}
 use Rattle.recovery.proofs.empty.make_image.Goals as goal
 
 pub commit-requires-clause-room : goal.commit-requires-clause-room
@@ -10,7 +20,8 @@ commit-requires-clause-room g c = omega (arith, c.requires.room, some_tables c.a
 pub make_parts-requires-clause-flushed : goal.make_parts-requires-clause-flushed
 make_parts-requires-clause-flushed g c =
     let S = g.D.Pm.state in
-    cleared_flushed c.args.g.now 16 (S c.args.device.now) (S c.commit.new.device) c.requires.still (omega (arith, c.requires.size, c.requires.accepted.pages)) c.commit.ensures.only.words c.in_ok-commit.ensures.done
+    cleared_flushed c.args.g.now 16 (S c.args.device.now) (S c.commit.new.device) c.requires.still
+    (omega (arith, c.requires.size, c.requires.accepted.pages)) c.commit.ensures.only.words c.in_ok-commit.ensures.done
 
 -- before the magic is stored its word is settled
 magic_settled : (g : _) (c : goal.After-commit-2 g) → IsSettled (g.D.Pm.state c.make_parts.new.device) 0
@@ -26,11 +37,14 @@ magic_settled g c =
 pub returns-in_err-commit-clause-any_moment : goal.returns-in_err-commit-clause-any_moment
 returns-in_err-commit-clause-any_moment g c =
     let S = g.D.Pm.state in
-    clear_leaves c.args.g.now 16 (S c.args.device.now) (S c.commit.new.device) c.requires.still (omega (arith, c.requires.size, c.requires.accepted.pages)) c.commit.ensures.only.words
-    (g.met.D.Pm.agree c.commit.new.device) (c.commit.ensures.any_moment (c.requires.still 0 (omega (arith, c.requires.size, c.requires.accepted.pages))))
+    clear_leaves c.args.g.now 16 (S c.args.device.now) (S c.commit.new.device) c.requires.still
+    (omega (arith, c.requires.size, c.requires.accepted.pages)) c.commit.ensures.only.words
+    (g.met.D.Pm.agree c.commit.new.device)
+    (c.commit.ensures.any_moment (c.requires.still 0 (omega (arith, c.requires.size, c.requires.accepted.pages))))
 
 -- the three parts
-parts : (g : _) (c : goal.After-commit-2 g) → Formats c.args.g.now 16 (g.D.Pm.state c.args.device.now) (g.D.Pm.state c.commit.new.device) (g.D.Pm.state c.make_parts.new.device) (g.D.Pm.state c.commit-2.new.device)
+parts : (g : _) (c : goal.After-commit-2 g) → Formats c.args.g.now 16 (g.D.Pm.state c.args.device.now) (g.D.Pm.state c.commit.new.device)
+    (g.D.Pm.state c.make_parts.new.device) (g.D.Pm.state c.commit-2.new.device)
 parts g c = record {
   accepted = c.requires.accepted;
   size = c.requires.size;
@@ -48,9 +62,11 @@ parts g c = record {
 }
 
 pub returns-clause-any_moment : goal.returns-clause-any_moment
-returns-clause-any_moment g c = let S = g.D.Pm.state in formats_leaves c.args.g.now 16 (S c.args.device.now) (S c.commit.new.device) (S c.make_parts.new.device) (S c.commit-2.new.device) (parts g c)
+returns-clause-any_moment g c = let S = g.D.Pm.state in formats_leaves c.args.g.now 16 (S c.args.device.now) (S c.commit.new.device)
+    (S c.make_parts.new.device) (S c.commit-2.new.device) (parts g c)
 
 pub returns-clause-done : goal.returns-clause-done
 returns-clause-done g c =
     let S = g.D.Pm.state in
-    on_ok_map c.commit-2.result _ _ (formats_done c.args.g.now 16 (S c.args.device.now) (S c.commit.new.device) (S c.make_parts.new.device) (S c.commit-2.new.device) (parts g c)) c.commit-2.ensures.done
+    on_ok_map c.commit-2.result _ _ (formats_done c.args.g.now 16 (S c.args.device.now) (S c.commit.new.device) (S c.make_parts.new.device)
+    (S c.commit-2.new.device) (parts g c)) c.commit-2.ensures.done

@@ -9,4 +9,5 @@ returns-then-has_page-clause-only g c = stores_only-none _ (g.D.Pm.state c.args.
 pub returns-clause-flushed : goal.returns-clause-flushed
 returns-clause-flushed g c =
     let S = g.D.Pm.state in
-    all_flushed-run _ (512 * c.args.page) 512 (S c.args.device.now) (S c.fill_page.new.device) c.fill_page.ensures.holds.flushed c.fill_page.ensures.keeps c.fill_page.ensures.only.words c.requires.flushed
+    all_flushed-run _ (512 * c.args.page) 512 (S c.args.device.now) (S c.fill_page.new.device) c.fill_page.ensures.holds.flushed
+    c.fill_page.ensures.keeps c.fill_page.ensures.only.words c.requires.flushed

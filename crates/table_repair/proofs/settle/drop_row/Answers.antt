@@ -9,11 +9,13 @@ use Rattle.table_repair.proofs.settle.drop_row.Goals as goal
 
 pub returns-then-mappings-ne0-clause-images : goal.returns-then-mappings-ne0-clause-images
 returns-then-mappings-ne0-clause-images g c =
-    λ d is. no_images d c.args.fact.now (with_count (as_row c.args.row.now) c.args.mappings) c.args.mappings (g.D.Pm.state c.args.device.now) is (g.met.D.Pm.agree c.args.device.now)
+    λ d is. no_images d c.args.fact.now (with_count (as_row c.args.row.now) c.args.mappings) c.args.mappings (g.D.Pm.state c.args.device.now) is
+    (g.met.D.Pm.agree c.args.device.now)
 
 pub returns-then-mappings-ne0-clause-done : goal.returns-then-mappings-ne0-clause-done
 returns-then-mappings-ne0-clause-done g c =
-    λ d is. gone_none d c.args.fact.now (with_count (as_row c.args.row.now) c.args.mappings) c.args.mappings (g.D.Pm.state c.args.device.now) is refl refl c.if-mappings-ne0.true
+    λ d is. gone_none d c.args.fact.now (with_count (as_row c.args.row.now) c.args.mappings) c.args.mappings (g.D.Pm.state c.args.device.now) is refl
+    refl c.if-mappings-ne0.true
 
 pub returns-then-mappings-ne0-clause-only : goal.returns-then-mappings-ne0-clause-only
 returns-then-mappings-ne0-clause-only g c = stores_only-none _ (g.D.Pm.state c.args.device.now) (g.met.D.Pm.agree c.args.device.now)
@@ -22,17 +24,22 @@ pub returns-clause-only : goal.returns-clause-only
 returns-clause-only g c =
     let S = g.D.Pm.state in
     let has = c.requires.row in
-    let zero = has_zero has.disk c.args.fact.now (with_count (as_row c.args.row.now) c.args.mappings) c.args.mappings (S c.args.device.now) has.is (omega arith) refl (omega (arith, has.is.counted)) in
-    zero_in zero.disk zero.row (S c.args.device.now).now c.args.fact.now c.args.row.now.slot zero.may (S c.args.device.now) (S c.remove_zero.new.device) (c.remove_zero.ensures.only zero.disk zero.row zero.may)
+    let zero = has_zero has.disk c.args.fact.now (with_count (as_row c.args.row.now) c.args.mappings) c.args.mappings (S c.args.device.now) has.is
+    (omega arith) refl (omega (arith, has.is.counted)) in
+    zero_in zero.disk zero.row (S c.args.device.now).now c.args.fact.now c.args.row.now.slot zero.may (S c.args.device.now)
+    (S c.remove_zero.new.device) (c.remove_zero.ensures.only zero.disk zero.row zero.may)
 
 pub returns-clause-images : goal.returns-clause-images
 returns-clause-images g c =
     let S = g.D.Pm.state in
-    λ d is. gone_images d c.args.fact.now (with_count (as_row c.args.row.now) c.args.mappings) c.args.mappings (S c.args.device.now) is (omega arith) refl (omega (arith, is.counted)) (S c.remove_zero.new.device) (returns-clause-only g c) (g.met.D.Pm.agree c.remove_zero.new.device) c.remove_zero.ensures.images
+    λ d is. gone_images d c.args.fact.now (with_count (as_row c.args.row.now) c.args.mappings) c.args.mappings (S c.args.device.now) is (omega arith)
+    refl (omega (arith, is.counted)) (S c.remove_zero.new.device) (returns-clause-only g c) (g.met.D.Pm.agree c.remove_zero.new.device)
+    c.remove_zero.ensures.images
 
 pub returns-clause-done : goal.returns-clause-done
 returns-clause-done g c =
     let S = g.D.Pm.state in
     both_done c.remove_zero.result _ _ _
-    (λ makes settles d is. gone_made d c.args.fact.now (with_count (as_row c.args.row.now) c.args.mappings) c.args.mappings (S c.args.device.now) is (omega arith) refl (omega (arith, is.counted)) (S c.remove_zero.new.device) (returns-clause-only g c) c.remove_zero.new.fact makes settles)
+    (λ makes settles d is. gone_made d c.args.fact.now (with_count (as_row c.args.row.now) c.args.mappings) c.args.mappings (S c.args.device.now) is
+    (omega arith) refl (omega (arith, is.counted)) (S c.remove_zero.new.device) (returns-clause-only g c) c.remove_zero.new.fact makes settles)
     c.remove_zero.ensures.done c.remove_zero.ensures.settled

@@ -8,16 +8,20 @@ pub returns-clause-images : goal.returns-clause-images
 returns-clause-images g c =
     let S = g.D.Pm.state in
     λ d is. let made = c.in_ok-count_row.ensures.done d is in
-    then_images d c.args.fact.now (as_row c.args.row.now) c.args.mappings (S c.args.device.now) is (S c.count_row.new.device) made (S c.drop_row.new.device) (c.count_row.ensures.images d is)
-    (c.drop_row.ensures.images made.disk (then_settle d c.args.fact.now (as_row c.args.row.now) c.args.mappings (S c.args.device.now) is (S c.count_row.new.device) made))
+    then_images d c.args.fact.now (as_row c.args.row.now) c.args.mappings (S c.args.device.now) is (S c.count_row.new.device) made
+    (S c.drop_row.new.device) (c.count_row.ensures.images d is)
+    (c.drop_row.ensures.images made.disk (then_settle d c.args.fact.now (as_row c.args.row.now) c.args.mappings (S c.args.device.now) is
+    (S c.count_row.new.device) made))
 
 pub returns-clause-done : goal.returns-clause-done
 returns-clause-done g c =
     let S = g.D.Pm.state in
     on_ok_map c.drop_row.result _ _
     (λ settles d is. let made = c.in_ok-count_row.ensures.done d is in
-    then_settled d c.args.fact.now (as_row c.args.row.now) c.args.mappings (S c.args.device.now) is (S c.count_row.new.device) made c.drop_row.new.fact (S c.drop_row.new.device)
-    (settles made.disk (then_settle d c.args.fact.now (as_row c.args.row.now) c.args.mappings (S c.args.device.now) is (S c.count_row.new.device) made)))
+    then_settled d c.args.fact.now (as_row c.args.row.now) c.args.mappings (S c.args.device.now) is (S c.count_row.new.device) made
+    c.drop_row.new.fact (S c.drop_row.new.device)
+    (settles made.disk (then_settle d c.args.fact.now (as_row c.args.row.now) c.args.mappings (S c.args.device.now) is (S c.count_row.new.device)
+    made)))
     c.drop_row.ensures.done
 
 pub returns-clause-only : goal.returns-clause-only

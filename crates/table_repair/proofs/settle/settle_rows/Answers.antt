@@ -8,12 +8,14 @@ abbrev none : RowValue
 none = record { slot = 0; print = []; page = 0; count = record { rfc = 0; uc = 0 } }
 
 pub loop-row-init : goal.loop-row-init
-loop-row-init g c = front_begins c.args.rows.now c.args.mapped.now c.args.fact.now (g.D.Pm.state c.args.device.now) (g.met.D.Pm.agree c.args.device.now)
+loop-row-init g c = front_begins c.args.rows.now c.args.mapped.now c.args.fact.now (g.D.Pm.state c.args.device.now)
+    (g.met.D.Pm.agree c.args.device.now)
 
 pub settle_row-requires-clause-row : goal.settle_row-requires-clause-row
 settle_row-requires-clause-row g c =
     let S = g.D.Pm.state in
-    has_next c.args.rows.now c.args.mapped.now c.loop-row.row-index c.args.fact.now c.loop-row.fact (S c.args.device.now) (S c.loop-row.device) c.loop-row.invariant
+    has_next c.args.rows.now c.args.mapped.now c.loop-row.row-index c.args.fact.now c.loop-row.fact (S c.args.device.now) (S c.loop-row.device)
+    c.loop-row.invariant
     (get_or c.args.rows.now c.loop-row.row-index none) (get_at c.args.rows.now c.loop-row.row-index none (omega arith)) c.requires.table
 
 pub settle_row-requires-clause-room : goal.settle_row-requires-clause-room
@@ -22,14 +24,18 @@ settle_row-requires-clause-room g c = omega (arith, c.loop-row.invariant.spare, 
 pub returns-in_err-settle_row-clause-images : goal.returns-in_err-settle_row-clause-images
 returns-in_err-settle_row-clause-images g c =
     let S = g.D.Pm.state in
-    λ d is. next_images c.args.rows.now c.args.mapped.now c.loop-row.row-index c.args.fact.now c.loop-row.fact (S c.args.device.now) (S c.loop-row.device) c.loop-row.invariant
-    (get_or c.args.rows.now c.loop-row.row-index none) (get_at c.args.rows.now c.loop-row.row-index none (omega arith)) d is (S c.settle_row.new.device) c.settle_row.ensures.images
+    λ d is. next_images c.args.rows.now c.args.mapped.now c.loop-row.row-index c.args.fact.now c.loop-row.fact (S c.args.device.now)
+    (S c.loop-row.device) c.loop-row.invariant
+    (get_or c.args.rows.now c.loop-row.row-index none) (get_at c.args.rows.now c.loop-row.row-index none (omega arith)) d is
+    (S c.settle_row.new.device) c.settle_row.ensures.images
 
 pub returns-in_err-settle_row-clause-only : goal.returns-in_err-settle_row-clause-only
 returns-in_err-settle_row-clause-only g c =
     let S = g.D.Pm.state in
-    next_only c.args.rows.now c.args.mapped.now c.loop-row.row-index c.args.fact.now c.loop-row.fact (S c.args.device.now) (S c.loop-row.device) c.loop-row.invariant
-    (get_or c.args.rows.now c.loop-row.row-index none) (get_at c.args.rows.now c.loop-row.row-index none (omega arith)) c.requires.table (S c.settle_row.new.device) c.settle_row.ensures.only
+    next_only c.args.rows.now c.args.mapped.now c.loop-row.row-index c.args.fact.now c.loop-row.fact (S c.args.device.now) (S c.loop-row.device)
+    c.loop-row.invariant
+    (get_or c.args.rows.now c.loop-row.row-index none) (get_at c.args.rows.now c.loop-row.row-index none (omega arith)) c.requires.table
+    (S c.settle_row.new.device) c.settle_row.ensures.only
 
 pub returns-in_err-settle_row-clause-spare : goal.returns-in_err-settle_row-clause-spare
 returns-in_err-settle_row-clause-spare g c = omega (arith, c.loop-row.invariant.spare, c.settle_row.ensures.spare)
@@ -40,10 +46,14 @@ loop-row-preserved g c =
     record {
       spare = omega (arith, c.loop-row.invariant.spare, c.settle_row.ensures.spare);
       faults = omega (arith, c.loop-row.invariant.faults, c.settle_row.ensures.faults);
-      only = next_only c.args.rows.now c.args.mapped.now c.loop-row.row-index c.args.fact.now c.loop-row.fact (S c.args.device.now) (S c.loop-row.device) c.loop-row.invariant
-          (get_or c.args.rows.now c.loop-row.row-index none) (get_at c.args.rows.now c.loop-row.row-index none (omega arith)) c.requires.table (S c.settle_row.new.device) c.settle_row.ensures.only;
-      front = λ d is. next_front c.args.rows.now c.args.mapped.now c.loop-row.row-index c.args.fact.now c.loop-row.fact (S c.args.device.now) (S c.loop-row.device) c.loop-row.invariant
-          (get_or c.args.rows.now c.loop-row.row-index none) (get_at c.args.rows.now c.loop-row.row-index none (omega arith)) d is (S c.settle_row.new.device) c.settle_row.new.fact c.settle_row.ensures.images c.in_ok-settle_row.ensures.done;
+      only = next_only c.args.rows.now c.args.mapped.now c.loop-row.row-index c.args.fact.now c.loop-row.fact (S c.args.device.now)
+          (S c.loop-row.device) c.loop-row.invariant
+          (get_or c.args.rows.now c.loop-row.row-index none) (get_at c.args.rows.now c.loop-row.row-index none (omega arith)) c.requires.table
+          (S c.settle_row.new.device) c.settle_row.ensures.only;
+      front = λ d is. next_front c.args.rows.now c.args.mapped.now c.loop-row.row-index c.args.fact.now c.loop-row.fact (S c.args.device.now)
+          (S c.loop-row.device) c.loop-row.invariant
+          (get_or c.args.rows.now c.loop-row.row-index none) (get_at c.args.rows.now c.loop-row.row-index none (omega arith)) d is
+          (S c.settle_row.new.device) c.settle_row.new.fact c.settle_row.ensures.images c.in_ok-settle_row.ensures.done;
     }
 
 pub returns-clause-images : goal.returns-clause-images
@@ -55,4 +65,5 @@ returns-clause-spare g c = omega (arith, c.loop-row.invariant.spare)
 pub returns-clause-done : goal.returns-clause-done
 returns-clause-done g c =
     let S = g.D.Pm.state in
-    λ d is. front_ends c.args.rows.now c.args.mapped.now c.loop-row.row-index c.args.fact.now c.loop-row.fact (S c.args.device.now) (S c.loop-row.device) c.loop-row.invariant (omega arith) d is
+    λ d is. front_ends c.args.rows.now c.args.mapped.now c.loop-row.row-index c.args.fact.now c.loop-row.fact (S c.args.device.now)
+    (S c.loop-row.device) c.loop-row.invariant (omega arith) d is

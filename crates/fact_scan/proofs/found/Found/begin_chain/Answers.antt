@@ -18,7 +18,8 @@ pub returns-then-load_field-eq0-clause-begun : goal.returns-then-load_field-eq0-
 returns-then-load_field-eq0-clause-begun g c =
     let words = (g.D.Pm.state c.args.device.now).now in
     let found = record c.args.self.now { prints = c.clear.new.self } in
-    let page = page_none c.load_field.result (slice_index words (slot_word c.args.g.now c.args.prefix 0)) c.load_field.ensures c.if-load_field-eq0.true in
+    let page = page_none c.load_field.result (slice_index words (slot_word c.args.g.now c.args.prefix 0)) c.load_field.ensures
+    c.if-load_field-eq0.true in
     record {
       chain = c.requires.found.rows.chain;
       own = _;
@@ -31,19 +32,26 @@ pub returns-clause-begun : goal.returns-clause-begun
 returns-clause-begun g c =
     let words = (g.D.Pm.state c.args.device.now).now in
     let found = record c.args.self.now { prints = c.clear.new.self } in
-    let at = starts_none c.args.g.now words c.args.prefix c.args.self.now c.requires.prefix c.requires.found found refl refl refl c.clear.ensures.empty in
-    let some = page_some c.load_field.result (slice_index words (slot_word c.args.g.now c.args.prefix 0)) c.load_field.ensures c.if-load_field-eq0.false in
-    ok_gives c.take_row.result (TakesRow c.args.g.now words c.args.prefix c.args.prefix found c.take_row.new.self) (λ next. next ≡ slice_index words (slot_word c.args.g.now c.args.prefix 5))
+    let at = starts_none c.args.g.now words c.args.prefix c.args.self.now c.requires.prefix c.requires.found found refl refl refl
+    c.clear.ensures.empty in
+    let some = page_some c.load_field.result (slice_index words (slot_word c.args.g.now c.args.prefix 0)) c.load_field.ensures
+    c.if-load_field-eq0.false in
+    ok_gives c.take_row.result (TakesRow c.args.g.now words c.args.prefix c.args.prefix found c.take_row.new.self)
+    (λ next. next ≡ slice_index words (slot_word c.args.g.now c.args.prefix 5))
     (λ next. IsOnChain c.args.g.now words c.args.prefix c.take_row.new.self c.args.prefix next)
-    (λ next takes next_is. goes_on c.args.g.now words c.args.prefix c.requires.found.rows.chain _ found at c.args.prefix c.args.prefix (direct_row refl some refl refl) (inl (refl, some)) next c.take_row.new.self takes next_is)
+    (λ next takes next_is. goes_on c.args.g.now words c.args.prefix c.requires.found.rows.chain _ found at c.args.prefix c.args.prefix
+    (direct_row refl some refl refl) (inl (refl, some)) next c.take_row.new.self takes next_is)
     c.take_row.ensures.taken c.take_row.ensures.next
 
 pub returns-clause-fault : goal.returns-clause-fault
 returns-clause-fault g c =
     let words = (g.D.Pm.state c.args.device.now).now in
     let found = record c.args.self.now { prints = c.clear.new.self } in
-    let at = starts_none c.args.g.now words c.args.prefix c.args.self.now c.requires.prefix c.requires.found found refl refl refl c.clear.ensures.empty in
-    let some = page_some c.load_field.result (slice_index words (slot_word c.args.g.now c.args.prefix 0)) c.load_field.ensures c.if-load_field-eq0.false in
+    let at = starts_none c.args.g.now words c.args.prefix c.args.self.now c.requires.prefix c.requires.found found refl refl refl
+    c.clear.ensures.empty in
+    let some = page_some c.load_field.result (slice_index words (slot_word c.args.g.now c.args.prefix 0)) c.load_field.ensures
+    c.if-load_field-eq0.false in
     err_gives c.take_row.result (IsRefusal c.args.g.now words c.args.prefix c.args.prefix found) (IsFaultOf c.args.g.now words)
-    (refusal c.args.g.now words c.args.prefix c.requires.found.rows.chain _ found at c.args.prefix c.args.prefix (direct_row refl some refl refl) (inl (refl, some)))
+    (refusal c.args.g.now words c.args.prefix c.requires.found.rows.chain _ found at c.args.prefix c.args.prefix (direct_row refl some refl refl)
+    (inl (refl, some)))
     c.take_row.ensures.refused

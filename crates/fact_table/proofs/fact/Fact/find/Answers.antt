@@ -42,7 +42,11 @@ find_chained-requires-clause-chain g c =
       fits = c.read_direct-held.ensures.fits;
     } in
     let table = c.requires.table in
-    record { rows = chained c.direct_of-direct.result (table.disk.chain c.direct_of-direct.result); is = look_chain _ _ _ _ _ _ look table.disk table.is }
+    record {
+      rows = chained c.direct_of-direct.result (table.disk.chain c.direct_of-direct.result);
+      is = look_chain _ _ _ _ _ _ look table.disk
+          table.is;
+    }
 
 pub returns-clause-found : goal.returns-clause-found
 returns-clause-found g c =
@@ -55,7 +59,8 @@ returns-clause-found g c =
       fits = c.read_direct-held.ensures.fits;
     } in
     if_some c.find_chained.result _ _
-    (λ r found d is. look_behind _ _ _ _ _ _ look d is (as_row r) (found (chained c.direct_of-direct.result (d.chain c.direct_of-direct.result)) (look_chain _ _ _ _ _ _ look d is)))
+    (λ r found d is. look_behind _ _ _ _ _ _ look d is (as_row r) (found (chained c.direct_of-direct.result (d.chain c.direct_of-direct.result))
+    (look_chain _ _ _ _ _ _ look d is)))
     c.find_chained.ensures.found
 
 pub returns-clause-none : goal.returns-clause-none
@@ -83,6 +88,7 @@ returns-clause-cost g c = λ d is.
       read = c.read_direct-held.ensures.read;
       fits = c.read_direct-held.ensures.fits;
     } in
-    let chain = c.find_chained.ensures.cost (chained c.direct_of-direct.result (d.chain c.direct_of-direct.result)) (look_chain _ _ _ _ _ _ look d is) in
+    let chain = c.find_chained.ensures.cost (chained c.direct_of-direct.result (d.chain c.direct_of-direct.result)) (look_chain _ _ _ _ _ _ look d is)
+    in
     let length = look_cost _ _ _ _ _ _ look d is in
     omega (arith, chain, length, c.read_direct-held.ensures.one_step)

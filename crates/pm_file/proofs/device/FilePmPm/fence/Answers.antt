@@ -7,11 +7,13 @@ use Rattle.pm_file.proofs.device.FilePmPm.fence.Goals as goal
 pub invariant_of-self : goal.invariant_of-self
 invariant_of-self g c = let d = c.args.self.now in record {
   size = d.size;
-  inside = ap (list_all (is_inside (length d.words.items))) c.forget.ensures.left ∙ list_all-filter (is_inside (length d.words.items)) _ d.flushed.items d.inside;
+  inside = ap (list_all (is_inside (length d.words.items))) c.forget.ensures.left ∙ list_all-filter (is_inside (length d.words.items)) _
+      d.flushed.items d.inside;
 }
 
 pub invariant_of-self-in-Err : goal.invariant_of-self-in-Err
 invariant_of-self-in-Err g c = let d = c.args.self.now in record {
   size = d.size;
-  inside = ap (list_all (is_inside (length d.words.items))) c.forget.ensures.left ∙ list_all-filter (is_inside (length d.words.items)) _ d.flushed.items d.inside;
+  inside = ap (list_all (is_inside (length d.words.items))) c.forget.ensures.left ∙ list_all-filter (is_inside (length d.words.items)) _
+      d.flushed.items d.inside;
 }

@@ -1,8 +1,0 @@
-use Rattle.std.proofs.Common.{arith}
-use Rattle.delete_pointer.proofs.Places.{pointer_word-below_data}
-use Rattle.delete_pointer.proofs.clear_entry.Goals as goal
-
-pub store_word-requires-clause-inside : goal.store_word-requires-clause-inside
-store_word-requires-clause-inside g c =
-    let below = pointer_word-below_data c.args.g.now c.args.page c.requires.accepted c.requires.page in
-    omega (arith, c.pointer_word.ensures, c.requires.size, c.requires.accepted.room, below)

@@ -1,5 +1,0 @@
-use Rattle.denova_cli.proofs.StillDevices.{opened_still}
-use Rattle.denova_cli.proofs.serve.Goals as goal
-
-pub tool-status-requires : goal.tool-status-requires
-tool-status-requires g c = record { still = opened_still _ c.in-Ok.ensures.opened }

@@ -1,0 +1,182 @@
+-- Only one client's operation in flight is another afterwards: who holds, has taken, has raised and is owed what.
+use Rattle.std.proofs.Common.{◌≡◌, ◌≢◌, ◌⊎◌, inl, inr, ⊎_elim, ℕ, ◌+◌, ◌-◌, ◌<◌, ◌≤◌, List, length}
+use Rattle.std.proofs.Common.{refl, sym, ◌∙◌, ap, subst, arith, Option, Some, None}
+use Rattle.std.specs.Prelude.{Contains, slice_get}
+use Rattle.std.proofs.lemmas.Bool.{cases_eq}
+use Rattle.std.proofs.lemmas.Option.{slice_get_within}
+use Rattle.law_write.proofs.Counting.{total-change}
+use Rattle.dn_volume.specs.declared.flight.Flight.{Flight}
+use Rattle.dn_volume.specs.declared.volume.Parts.{Parts}
+use Rattle.dn_volume.specs.declared.volume.Room.{Room}
+use Rattle.dn_volume.specs.Parties.{Flies, Holds, by_client, by_daemon, Takes, for_client}
+use Rattle.dn_volume.specs.Parties.{SameOthers, KeepsOps, flight_at, opened, taken_by}
+use Rattle.dn_volume.specs.Balance.{raised, raised_by, raised_to_share, raised_to_die, times}
+use Rattle.dn_volume.specs.Reserve.{owed_sum, owed_to}
+use Rattle.dn_volume.specs.Replaces.{Replaces, held_of, taken_of}
+
+-- an operation stands at its place
+pub opened_is : (r : Option (Option Flight)) (f : Flight) → opened r ≡ Some f → r ≡ Some (Some f)
+opened_is None f is = cc
+opened_is (Some r) f is = ap (λ x. Some x) is
+
+pub flight_within : (flights : List (Option Flight)) (k : ℕ) (f : Flight)
+    → flight_at flights k ≡ Some f → k < length flights
+flight_within flights k f is = slice_get_within flights k (Some f) (opened_is (slice_get flights k) f is)
+
+pub client_few : (b : Parts) (who : ℕ) (f : Flight) → length b.flights.items ≡ 14 → Flies b who f → who ≤ 14
+client_few b who f all flies =
+    let lt = flight_within b.flights.items (who - 1) f flies.is in omega (arith, lt, all)
+
+module _ (who : ℕ) (client : 1 ≤ who) (old new : Option Flight) (b b' : Parts)
+    (r : Replaces (who - 1) old new b b') where
+  pub few : who ≤ 14
+  few = let lt = r.place in omega (arith, lt)
+
+  no_daemon : (q : ℕ) → q ≡ 15 → q ≢ who
+  no_daemon q him same = let lt = r.place in omega (arith, lt, him, same)
+
+  apart : (q : ℕ) → 1 ≤ q → q ≢ who → q - 1 ≢ who - 1
+  apart q some other same = other (omega (arith, client, some, same))
+
+  pub others_same : SameOthers who b b'
+  others_same = record {
+    flights = λ q some other. r.others (q - 1) (apart q some other);
+    sharing = λ other. r.sharing;
+  }
+
+  -- the operation, or that of another
+  pub data Whose (q : ℕ) (g : Flight) : Type 0 where
+    its_own : q ≡ who → new ≡ Some g → Whose q g
+    another : q ≢ who → Flies b q g → Whose q g
+
+  pub whose : (q : ℕ) (g : Flight) → Flies b' q g → Whose q g
+  whose q g flies = ⊎_elim
+      (λ same. its_own same (sym r.now ∙ ap (λ (n : ℕ). flight_at b'.flights.items (n - 1)) (sym same) ∙ flies.is))
+      (λ other. another other (record { client = flies.client; is = sym (r.others (q - 1) (apart q flies.client other)) ∙ flies.is }))
+      (cases_eq q who)
+
+  pub was_whose : (q : ℕ) (g : Flight) → Flies b q g
+      → ((q ≡ who) × (old ≡ Some g)) ⊎ ((q ≢ who) × Flies b' q g)
+  was_whose q g flies = ⊎_elim
+      (λ same. inl (same, sym r.was ∙ ap (λ (n : ℕ). flight_at b.flights.items (n - 1)) (sym same) ∙ flies.is))
+      (λ other. inr (other, record { client = flies.client; is = r.others (q - 1) (apart q flies.client other) ∙ flies.is }))
+      (cases_eq q who)
+
+  pub flies_new : (g : Flight) → new ≡ Some g → Flies b' who g
+  flies_new g is = record { client = client; is = r.now ∙ is }
+
+  pub flies_old : (g : Flight) → old ≡ Some g → Flies b who g
+  flies_old g is = record { client = client; is = r.was ∙ is }
+
+  -- who holds what
+  pub held_then : (q ino : ℕ) → Holds b' q ino
+      → ((q ≡ who) × Contains (held_of new) ino) ⊎ ((q ≢ who) × Holds b q ino)
+  held_then q ino (by_client g flies has) = by (whose q g flies)
+    where
+      by : Whose q g → ((q ≡ who) × Contains (held_of new) ino) ⊎ ((q ≢ who) × Holds b q ino)
+      by (its_own same is) = inl (same, subst (λ (o : Option Flight). Contains (held_of o) ino) (sym is) has)
+      by (another other was) = inr (other, by_client g was has)
+  held_then q ino (by_daemon sharing him is same) =
+      inr (no_daemon q him, by_daemon sharing him (sym r.sharing ∙ is) same)
+
+  pub held_before : (q ino : ℕ) → Holds b q ino
+      → ((q ≡ who) × Contains (held_of old) ino) ⊎ ((q ≢ who) × Holds b' q ino)
+  held_before q ino (by_client g flies has) = by (was_whose q g flies)
+    where
+      by : ((q ≡ who) × (old ≡ Some g)) ⊎ ((q ≢ who) × Flies b' q g)
+          → ((q ≡ who) × Contains (held_of old) ino) ⊎ ((q ≢ who) × Holds b' q ino)
+      by (inl mine) = inl (mine.0, subst (λ (o : Option Flight). Contains (held_of o) ino) (sym mine.1) has)
+      by (inr other) = inr (other.0, by_client g other.1 has)
+  held_before q ino (by_daemon sharing him is same) =
+      inr (no_daemon q him, by_daemon sharing him (r.sharing ∙ is) same)
+
+  pub holds_new : (ino : ℕ) → Contains (held_of new) ino → Holds b' who ino
+  holds_new ino has = by new refl has
+    where
+      by : (o : Option Flight) → new ≡ o → Contains (held_of o) ino → Holds b' who ino
+      by None is none = absurd (omega (arith, none.1))
+      by (Some g) is held = by_client g (flies_new g is) held
+
+  pub holds_old : (ino : ℕ) → Contains (held_of old) ino → Holds b who ino
+  holds_old ino has = by old refl has
+    where
+      by : (o : Option Flight) → old ≡ o → Contains (held_of o) ino → Holds b who ino
+      by None is none = absurd (omega (arith, none.1))
+      by (Some g) is held = by_client g (flies_old g is) held
+
+  -- who has taken what
+  pub taken_then : (q page : ℕ) → Takes b' q page
+      → ((q ≡ who) × Contains (taken_of new) page) ⊎ ((q ≢ who) × Takes b q page)
+  taken_then q page (for_client g flies has) = by (whose q g flies)
+    where
+      by : Whose q g → ((q ≡ who) × Contains (taken_of new) page) ⊎ ((q ≢ who) × Takes b q page)
+      by (its_own same is) = inl (same, subst (λ (o : Option Flight). Contains (taken_of o) page) (sym is) has)
+      by (another other was) = inr (other, for_client g was has)
+
+  pub taken_before : (q page : ℕ) → Takes b q page
+      → ((q ≡ who) × Contains (taken_of old) page) ⊎ ((q ≢ who) × Takes b' q page)
+  taken_before q page (for_client g flies has) = by (was_whose q g flies)
+    where
+      by : ((q ≡ who) × (old ≡ Some g)) ⊎ ((q ≢ who) × Flies b' q g)
+          → ((q ≡ who) × Contains (taken_of old) page) ⊎ ((q ≢ who) × Takes b' q page)
+      by (inl mine) = inl (mine.0, subst (λ (o : Option Flight). Contains (taken_of o) page) (sym mine.1) has)
+      by (inr other) = inr (other.0, for_client g other.1 has)
+
+  pub takes_new : (page : ℕ) → Contains (taken_of new) page → Takes b' who page
+  takes_new page has = by new refl has
+    where
+      by : (o : Option Flight) → new ≡ o → Contains (taken_of o) page → Takes b' who page
+      by None is none = absurd (omega (arith, none.1))
+      by (Some g) is took = for_client g (flies_new g is) took
+
+  pub takes_old : (page : ℕ) → Contains (taken_of old) page → Takes b who page
+  takes_old page has = by old refl has
+    where
+      by : (o : Option Flight) → old ≡ o → Contains (taken_of o) page → Takes b who page
+      by None is none = absurd (omega (arith, none.1))
+      by (Some g) is took = for_client g (flies_old g is) took
+
+  -- what is owed, and what is raised
+  pub owed_moved : (kind : Room → ℕ)
+      → owed_sum b' kind + kind (owed_to old) ≡ owed_sum b kind + kind (owed_to new)
+  owed_moved kind =
+      let moved = total-change (λ k. kind (owed_to (flight_at b.flights.items k)))
+      (λ k. kind (owed_to (flight_at b'.flights.items k))) 14 (who - 1) r.place
+      (λ k other. ap (λ o. kind (owed_to o)) (r.others k other)) in
+      let before = ap (λ o. kind (owed_to o)) r.was in
+      let after = ap (λ o. kind (owed_to o)) r.now in
+      omega (arith, moved, before, after)
+
+  pub raised_moved : b'.reclaiming.raised ≡ b.reclaiming.raised → (slot : ℕ)
+      → raised b' slot + times slot (raised_by old) ≡ raised b slot + times slot (raised_by new)
+  raised_moved up slot =
+      let moved = total-change (λ k. times slot (raised_by (flight_at b.flights.items k)))
+      (λ k. times slot (raised_by (flight_at b'.flights.items k))) 14 (who - 1) r.place
+      (λ k other. ap (λ o. times slot (raised_by o)) (r.others k other)) in
+      let before = ap (λ o. times slot (raised_by o)) r.was in
+      let after = ap (λ o. times slot (raised_by o)) r.now in
+      let shared = ap (λ o. times slot (raised_to_share o)) r.sharing in
+      let died = ap (λ o. times slot (raised_to_die o)) up in
+      omega (arith, moved, before, after, shared, died)
+
+-- an operation that goes on is the same operation
+pub ops_on : (who : ℕ) (f f' : Flight) (b b' : Parts) → 1 ≤ who
+    → Replaces (who - 1) (Some f) (Some f') b b' → f'.op ≡ f.op → KeepsOps b b'
+ops_on who f f' b b' client r same = record {
+  kept = λ q g flies. ⊎_elim
+      (λ mine. (f', subst (λ (n : ℕ). Flies b' n f') (sym mine.0) (flies_new who client (Some f) (Some f') b b' r f' refl), same ∙ its g mine.1))
+      (λ other. (g, other.1, refl))
+      (was_whose who client (Some f) (Some f') b b' r q g flies);
+  only = λ q g flies. was q g (whose who client (Some f) (Some f') b b' r q g flies);
+}
+  where
+    its : (g : Flight) → Some f ≡ Some g → f.op ≡ g.op
+    its g is = let one : f ≡ g = cc is in ap (λ (h : Flight). h.op) one
+
+    now : (g : Flight) → Some f' ≡ Some g → g.op ≡ f.op
+    now g is = let one : f' ≡ g = cc is in ap (λ (h : Flight). h.op) (sym one) ∙ same
+
+    was : (q : ℕ) (g : Flight) → Whose who client (Some f) (Some f') b b' r q g → (h : Flight) × Flies b q h × (g.op ≡ h.op)
+    was q g (its_own mine is) =
+        (f, subst (λ (n : ℕ). Flies b n f) (sym mine) (flies_old who client (Some f) (Some f') b b' r f refl), now g is)
+    was q g (another other flies) = (g, flies, refl)
