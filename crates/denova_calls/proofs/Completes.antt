@@ -1,5 +1,27 @@
 -- Calls are completed.
-use Rattle.std.proofs.Common.{◌≡◌, ◌⊎◌, inl, inr, ⊎_elim, ◌*◌, ℕ, List, length, Option, Some, None, IfSome, Result, Ok, Err, refl, ◌∙◌, sym, subst, arith}
+use Rattle.std.proofs.Common.{
+  ◌≡◌,
+  ◌⊎◌,
+  inl,
+  inr,
+  ⊎_elim,
+  ◌*◌,
+  ℕ,
+  List,
+  length,
+  Option,
+  Some,
+  None,
+  IfSome,
+  Result,
+  Ok,
+  Err,
+  refl,
+  ◌∙◌,
+  sym,
+  subst,
+  arith,
+}
 use Rattle.pm_layout.specs.Geometry.{IsAccepted}
 use Rattle.dn_model.specs.Image.{HasNoFault}
 use Rattle.dn_model.specs.Faults.{FaultOf}
@@ -19,21 +41,36 @@ use Rattle.denova_calls.specs.Statuses.{Asks, SinkIsWell, DeviceIsWell, EndsAt, 
 use Rattle.denova_calls.specs.declared.words.Command.{Command}
 use Rattle.denova_calls.specs.declared.words.Command.TheVariants.{Apply, Format, Check}
 use Rattle.denova_calls.specs.declared.ending.Ending.{Ending}
-use Rattle.denova_calls.specs.declared.ending.Ending.TheVariants.{Done, Usage, BadLine, Unbuilt, Faulty, Stopped, HalfMade, Unread, NoMemory, TooLong, Refused}
+use Rattle.denova_calls.specs.declared.ending.Ending.TheVariants.{
+  Done,
+  Usage,
+  BadLine,
+  Unbuilt,
+  Faulty,
+  Stopped,
+  HalfMade,
+  Unread,
+  NoMemory,
+  TooLong,
+  Refused,
+}
 
 -- what a source tells it had left was read so
-read_told : {A : Type 0} (left : Option (List ℕ)) (text : List ℕ) (f : List ℕ → A) (read : A) → IfSome left (λ x. f x ≡ read) → left ≡ Some text → f text ≡ read
+read_told : {A : Type 0} (left : Option (List ℕ)) (text : List ℕ) (f : List ℕ → A) (read : A) → IfSome left (λ x. f x ≡ read) → left ≡ Some text
+    → f text ≡ read
 read_told (Some x) text f read has told =
     let same : x ≡ text = cc in
     subst (λ (xs : List ℕ). f xs ≡ read) same has
 read_told None text f read has told = absurd (cc)
 
 -- numbers that make a file system aren't refused
-not_refused : (pages inodes : ℕ) (w : List ℕ) (cause : Cause) → IsAccepted (geometry pages inodes) → length w ≡ 512 * pages → IsCause pages inodes w cause → ⊥
+not_refused : (pages inodes : ℕ) (w : List ℕ) (cause : Cause) → IsAccepted (geometry pages inodes) → length w ≡ 512 * pages
+    → IsCause pages inodes w cause → ⊥
 not_refused pages inodes w TooFewPages accepted size is = omega (arith, accepted.pages)
 not_refused pages inodes w TooManyPages accepted size is = omega (arith, accepted.few_pages)
 not_refused pages inodes w BadInodes accepted size is =
-    ⊎_elim (λ few. omega (arith, accepted.inodes)) (λ other. ⊎_elim (λ many. omega (arith, accepted.few_inodes)) (λ room. omega (arith, accepted.room)) other) is.2
+    ⊎_elim (λ few. omega (arith, accepted.inodes)) (λ other. ⊎_elim (λ many. omega (arith, accepted.few_inodes))
+    (λ room. omega (arith, accepted.room)) other) is.2
 not_refused pages inodes w (WrongSize n) accepted size is = absurd (is.1 size)
 
 abbrev Is : ℕ → ℕ → ℕ → Type 0
@@ -73,7 +110,8 @@ module _ (c : Call) where
   served_of e (unread same ends) can = script_served e ends can
   served_of e (run lines read ends) can = run_served _ _ e ends can
 
-  made_of : (pages inodes : ℕ) (e : Ending) → MakeEnds pages inodes c.before c.after e → IsAccepted (geometry pages inodes) → length c.before.now ≡ 512 * pages → DeviceIsWell c
+  made_of : (pages inodes : ℕ) (e : Ending) → MakeEnds pages inodes c.before c.after e → IsAccepted (geometry pages inodes)
+      → length c.before.now ≡ 512 * pages → DeviceIsWell c
       → Is 0 7 (status_of e)
   made_of pages inodes (Done text) ends accepted size well = inl refl
   made_of pages inodes NoMemory ends accepted size well = inr refl
@@ -81,7 +119,8 @@ module _ (c : Call) where
   made_of pages inodes (Refused text) ends accepted size well = absurd (not_refused pages inodes c.before.now ends.1.0 accepted size ends.1.1)
   made_of pages inodes e ends accepted size well = absurd ends
 
-  refused_of : (pages inodes : ℕ) (cause : Cause) (e : Ending) → MakeEnds pages inodes c.before c.after e → IsCause pages inodes c.before.now cause → Is 11 7 (status_of e)
+  refused_of : (pages inodes : ℕ) (cause : Cause) (e : Ending) → MakeEnds pages inodes c.before c.after e → IsCause pages inodes c.before.now cause
+      → Is 11 7 (status_of e)
   refused_of pages inodes cause (Refused text) ends is = inl refl
   refused_of pages inodes cause NoMemory ends is = inr refl
   refused_of pages inodes cause (Done text) ends is = absurd (not_refused pages inodes c.before.now cause ends.made.accepted ends.made.size is)

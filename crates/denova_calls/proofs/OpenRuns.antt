@@ -1,5 +1,28 @@
 -- Lemmas on runs on an open image.
-use Rattle.std.proofs.Common.{◌≡◌, inl, inr, ⊎_elim, ◌*◌, ℕ, List, [], length, Option, Some, Result, Ok, Err, IsOk, OnOk, refl, ap, ◌∙◌, sym, subst, arith}
+use Rattle.std.proofs.Common.{
+  ◌≡◌,
+  inl,
+  inr,
+  ⊎_elim,
+  ◌*◌,
+  ℕ,
+  List,
+  [],
+  length,
+  Option,
+  Some,
+  Result,
+  Ok,
+  Err,
+  IsOk,
+  OnOk,
+  refl,
+  ap,
+  ◌∙◌,
+  sym,
+  subst,
+  arith,
+}
 use Rattle.std.proofs.lemmas.List.{append-nil}
 use Rattle.pm_device.specs.State.{State, Rose}
 use Rattle.pm_device.specs.Reading.{Stands}
@@ -32,7 +55,8 @@ use Rattle.denova_calls.specs.declared.ending.Ending.TheVariants.{Done, Unbuilt,
 -- the words of a device that stands for a disk are those of an image of it
 stands_for : {D : Type 0} (state : D → State) (v : OneFile D) (d : Disk) → IsDiskOf state v d → StandsFor (state v.device).now d
 stands_for state v d is =
-    stands_for_read d (state v.device).now is.held.valid is.held.stands.reads (is.held.long ∙ ap (λ (g : Geometry). 512 * g.pages) (sym is.held.geometry))
+    stands_for_read d (state v.device).now is.held.valid is.held.stands.reads (is.held.long ∙ ap (λ (g : Geometry). 512 * g.pages)
+    (sym is.held.geometry))
 
 at_ok : {T E P : Type 0} (r : Result T E) → IsOk r → OnOk r P → P
 at_ok (Ok x) ok fact = fact
@@ -41,16 +65,26 @@ at_ok (Err e) ok fact = absurd (cc)
 -- what each end of a run says
 module _ {D : Type 0} (state : D → State) (v w : OneFile D) (ran : Result (Unit {0}) RunFault) (ops : List Op) (history : List Entry)
     (all : OnOk ran ((d : Disk) (print : Print) → IsDiskOf state v d → IsOwn print d → HasRun state print d (state v.device) ops history w))
-    (stopped : ran ≡ Err failing.Stopped → (d : Disk) (print : Print) → IsDiskOf state v d → IsOwn print d → HasStopped print d (state v.device) ops history (state w.device))
-    (lacks : ran ≡ Err failing.NoMemory → (d : Disk) (print : Print) → IsDiskOf state v d → IsOwn print d → LacksMemory print d (state v.device) ops (state w.device))
+    (stopped : ran ≡ Err failing.Stopped → (d : Disk) (print : Print) → IsDiskOf state v d → IsOwn print d → HasStopped print d (state v.device) ops
+    history (state w.device))
+    (lacks : ran ≡ Err failing.NoMemory → (d : Disk) (print : Print) → IsDiskOf state v d → IsOwn print d → LacksMemory print d (state v.device) ops
+    (state w.device))
     (failed : ran ≡ Err failing.Stopped → Rose (state v.device).faults (state w.device).faults) where
   run_part : (d : Disk) (print : Print) → IsDiskOf state v d → IsOwn print d → HasRunPart print d ops (state v.device) (state w.device)
   run_part d print is own = by_end ran refl
     where
       by_end : (r : Result (Unit {0}) RunFault) → ran ≡ r → HasRunPart print d ops (state v.device) (state w.device)
       by_end (Ok u) e =
-          let h : HasRun state print d (state v.device) ops history w = at_ok ran (subst (λ (r : Result (Unit {0}) RunFault). IsOk r) (sym e) refl) all d print is own in
-          between (record { history = history; rest = []; split = sym h.all ∙ sym (append-nil (ops_of history)); after = h.after; runs = h.runs; course = h.course })
+          let h : HasRun state print d (state v.device) ops history w = at_ok ran (subst (λ (r : Result (Unit {0}) RunFault). IsOk r) (sym e) refl)
+          all d print is own in
+          between (record {
+            history = history;
+            rest = [];
+            split = sym h.all ∙ sym (append-nil (ops_of history));
+            after = h.after;
+            runs = h.runs;
+            course = h.course;
+          })
       by_end (Err failing.NoMemory) e = between (lacks e d print is own)
       by_end (Err failing.Stopped) e = in_one history (failed e) (stopped e d print is own)
 
@@ -69,7 +103,14 @@ module _ {D : Type 0} (state : D → State) (v w : OneFile D) (ran : Result (Uni
         has_free = told.2 h.after h.held;
         text_is = told.3;
       }
-  run_tells numbers (Stopped text) told = (failed told.0, λ d print is own. record { history = history; stopped = stopped told.0 d print is own; text_is = told.1 })
+  run_tells numbers (Stopped text) told = (
+    failed told.0,
+    λ d print is own. record {
+      history = history;
+      stopped = stopped told.0 d print is own;
+      text_is = told.1;
+    },
+  )
   run_tells numbers NoMemory told = inr run_part
   run_tells numbers e told = absurd told
 
@@ -95,25 +136,38 @@ is_disk state s o opened = record {
 
 -- a run on an image that was just opened
 module _ {D : Type 0} (state : D → State) (o : Opened D) (ops : List Op) (numbers : List ℕ) (s t : State) (opened : IsOpened state s o) where
-  of_one : (P : State → Print → Disk → Type 0) → ((print : Print) → IsOwn print opened.disk → P (state o.device) print opened.disk) → OfOneFile s.now (P s)
-  of_one P holds = record { disk = opened.disk; name = o.name; image = opened.one; holds = λ print own. subst (λ (u : State). P u print opened.disk) opened.same (holds print own) }
+  of_one : (P : State → Print → Disk → Type 0) → ((print : Print) → IsOwn print opened.disk → P (state o.device) print opened.disk)
+      → OfOneFile s.now (P s)
+  of_one P holds = record {
+    disk = opened.disk;
+    name = o.name;
+    image = opened.one;
+    holds = λ print own. subst (λ (u : State). P u print opened.disk)
+        opened.same (holds print own);
+  }
 
   held : IsDiskOf state (held_of o) opened.disk
   held = is_disk state s o opened
 
   pub ops_tell : (e : Ending) → OpenRunEnds state (held_of o) ops numbers t e → RunEnds ops numbers s t e
   ops_tell (Done text) told = of_one (λ u print d. HasRunAll print d ops numbers u t text.items) (λ print own. told opened.disk print held own)
-  ops_tell (Stopped text) told =
-      (subst (λ (u : State). Rose u.faults t.faults) opened.same told.0, of_one (λ u print d. HasStoppedIn print d ops numbers u t text.items) (λ print own. told.1 opened.disk print held own))
-  ops_tell NoMemory told = ⊎_elim (λ same. inl (same ∙ opened.same)) (λ part. inr (of_one (λ u print d. HasRunPart print d ops u t) (λ print own. part opened.disk print held own))) told
+  ops_tell (Stopped text) told = (
+    subst (λ (u : State). Rose u.faults t.faults) opened.same told.0,
+    of_one (λ u print d. HasStoppedIn print d ops numbers u t text.items)
+        (λ print own. told.1 opened.disk print held own),
+  )
+  ops_tell NoMemory told = ⊎_elim (λ same. inl (same ∙ opened.same))
+      (λ part. inr (of_one (λ u print d. HasRunPart print d ops u t) (λ print own. part opened.disk print held own))) told
   ops_tell Unbuilt told = (told.0 ∙ opened.same, subst (λ (u : State). IsNoOneFile u.now) opened.same told.1)
   ops_tell e told = absurd told
 
 -- a script that was read and run
-pub apply_ends : (input : Input) (ops : List Op) (numbers : List ℕ) (s t : State) (e : Ending) → HasScript input ops numbers → RunEnds ops numbers s t e → ApplyEnds input s t e
+pub apply_ends : (input : Input) (ops : List Op) (numbers : List ℕ) (s t : State) (e : Ending) → HasScript input ops numbers
+    → RunEnds ops numbers s t e → ApplyEnds input s t e
 apply_ends input ops numbers s t e script ends =
     run script.lines script.read
-    (subst (λ (os : List Op). RunEnds os (numbers_in script.lines) s t e) script.ops_are (subst (λ (ns : List ℕ). RunEnds ops ns s t e) script.numbers_are ends))
+    (subst (λ (os : List Op). RunEnds os (numbers_in script.lines) s t e) script.ops_are (subst (λ (ns : List ℕ). RunEnds ops ns s t e)
+    script.numbers_are ends))
 
 -- an answer of the command that the words give
 pub by_apply : (o : Option Command) (input : Input) (s t : State) (e : Ending) → o ≡ Some asked.Apply → ApplyEnds input s t e → Answers o input s t e

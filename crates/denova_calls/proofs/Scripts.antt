@@ -1,5 +1,35 @@
 -- Laws of the script of a job.
-use Rattle.std.proofs.Common.{◌≡◌, ◌⊎◌, inl, inr, ⊎_elim, ℕ, Bool, true, false, cond, not, List, [], ◌∷◌, ◌++◌, Option, Some, None, IfSome, Result, Ok, Err, All, refl, sym, ap, ◌∙◌, subst, arith}
+use Rattle.std.proofs.Common.{
+  ◌≡◌,
+  ◌⊎◌,
+  inl,
+  inr,
+  ⊎_elim,
+  ℕ,
+  Bool,
+  true,
+  false,
+  cond,
+  not,
+  List,
+  [],
+  ◌∷◌,
+  ◌++◌,
+  Option,
+  Some,
+  None,
+  IfSome,
+  Result,
+  Ok,
+  Err,
+  All,
+  refl,
+  sym,
+  ap,
+  ◌∙◌,
+  subst,
+  arith,
+}
 use Rattle.std.proofs.lemmas.List.{append-nil}
 use Rattle.std.proofs.lemmas.List.Elements.{All-nil, All-cons}
 use Rattle.std.specs.Option.{option_map}
@@ -17,7 +47,20 @@ use Rattle.dn_script.specs.Job.{job_of, Answers, FailsBy}
 use Rattle.dn_script.specs.Formed.{IsAlone}
 use Rattle.one_file.specs.Answer.{IsServed}
 use Rattle.denova_calls.specs.Call.{Input}
-use Rattle.denova_calls.specs.Script.{is_served_op, is_served, lines_in, ops_of, ops_in, numbers_in, unserved, lines_but, served, script_in, script_of, IsScript}
+use Rattle.denova_calls.specs.Script.{
+  is_served_op,
+  is_served,
+  lines_in,
+  ops_of,
+  ops_in,
+  numbers_in,
+  unserved,
+  lines_but,
+  served,
+  script_in,
+  script_of,
+  IsScript,
+}
 use Rattle.denova_calls.specs.Ends.{HasRead, ScriptEnds}
 use Rattle.denova_calls.specs.Steps.{HasScript, FaultTells, FaultEnds}
 use Rattle.denova_calls.specs.declared.ending.Ending.{Ending}
@@ -44,7 +87,8 @@ all_served (line ∷ lines) e =
     let parts = none_first (is_served line.command) line (unserved lines) e in
     command_served line.command (ops_in lines) parts.0 (all_served lines parts.1)
 
-pub is_script : (lines : List Line) (ops : List Op) (numbers : List ℕ) → unserved lines ≡ None → ops ≡ ops_in lines → numbers ≡ numbers_in lines → IsScript lines ops numbers
+pub is_script : (lines : List Line) (ops : List Op) (numbers : List ℕ) → unserved lines ≡ None → ops ≡ ops_in lines → numbers ≡ numbers_in lines
+    → IsScript lines ops numbers
 is_script lines ops numbers none ops_are numbers_are = record {
   whole = ap (λ o. lines_but o lines) none;
   ops_are = ops_are;
@@ -57,14 +101,16 @@ pub no_number : (o : Option Line) → option_map (λ (line : Line). line.number)
 no_number None e = refl
 no_number (Some line) e = absurd (cc)
 
-pub fault_of_number : (o : Option Line) (lines : List Line) (n : ℕ) → option_map (λ (line : Line). line.number) o ≡ Some n → lines_but o lines ≡ Err (BadLine n)
+pub fault_of_number : (o : Option Line) (lines : List Line) (n : ℕ) → option_map (λ (line : Line). line.number) o ≡ Some n
+    → lines_but o lines ≡ Err (BadLine n)
 fault_of_number None lines n e = absurd (cc)
 fault_of_number (Some line) lines n e =
     let same : line.number ≡ n = cc in
     ap (λ m. Err (BadLine m)) same
 
 -- the lines of the one client
-pub lines_alone : (clients : List (ℕ × List Line)) (rest : List (ℕ × List Line)) (own : List Line) (n : ℕ) → IsAlone clients → clients ≡ rest ++ (n, own) ∷ [] → own ≡ lines_in clients
+pub lines_alone : (clients : List (ℕ × List Line)) (rest : List (ℕ × List Line)) (own : List Line) (n : ℕ) → IsAlone clients
+    → clients ≡ rest ++ (n, own) ∷ [] → own ≡ lines_in clients
 lines_alone clients rest own n alone split = ⊎_elim (λ none. absurd (no_last rest (n, own) (sym split ∙ none)))
     (λ one. let same = only_last rest (n, own) (1, one.0) (sym split ∙ one.1) in
     ap (λ (c : ℕ × List Line). c.1) same ∙ sym (ap lines_in one.1 ∙ append-nil one.0)) alone
@@ -91,9 +137,11 @@ module _ (input : Input) where
   of_job : (job : Job) (read : Result (List Line) JobFault) → HasAnswer (Ok job) → served (lines_in job.clients) ≡ read → HasRead input read
   of_job job read answer is =
       mapped input.left (λ text. (Ok job ≡ Err ReadFault) ⊎ Answers (Ok job) (job_of Apply text)) (λ text. script_of text ≡ read)
-      (λ text said. ⊎_elim (λ (failed : ◌≡◌ {A = Result Job JobFault} (Ok job) (Err ReadFault)). absurd (cc)) (λ (good : job_of Apply text ≡ Ok job). ap script_in good ∙ is) said) answer
+      (λ text said. ⊎_elim (λ (failed : ◌≡◌ {A = Result Job JobFault} (Ok job) (Err ReadFault)). absurd (cc))
+      (λ (good : job_of Apply text ≡ Ok job). ap script_in good ∙ is) said) answer
 
-  pub script_read : (job : Job) (ops : List Op) (numbers : List ℕ) → HasAnswer (Ok job) → IsScript (lines_in job.clients) ops numbers → HasScript input ops numbers
+  pub script_read : (job : Job) (ops : List Op) (numbers : List ℕ) → HasAnswer (Ok job) → IsScript (lines_in job.clients) ops numbers
+      → HasScript input ops numbers
   script_read job ops numbers answer script = record {
     lines = lines_in job.clients;
     read = of_job job (Ok (lines_in job.clients)) answer script.whole;
@@ -109,12 +157,15 @@ module _ (input : Input) where
   lines_fail job (BadTurn number) answer fails = tt
   lines_fail job NoMemory answer fails = tt
 
-  job_fails : (fault : JobFault) → (fault ≡ ReadFault → ⊥) → HasAnswer (Err fault) → ((text : List ℕ) → FailsBy fault (job_of Apply text) → job_of Apply text ≡ Err fault) → HasRead input (Err fault)
+  job_fails : (fault : JobFault) → (fault ≡ ReadFault → ⊥) → HasAnswer (Err fault) → ((text : List ℕ) → FailsBy fault (job_of Apply text)
+      → job_of Apply text ≡ Err fault) → HasRead input (Err fault)
   job_fails fault other answer is =
       mapped input.left (λ text. (Err fault ≡ Err ReadFault) ⊎ Answers (Err fault) (job_of Apply text)) (λ text. script_of text ≡ Err fault)
-      (λ text said. ⊎_elim (λ (failed : ◌≡◌ {A = Result Job JobFault} (Err fault) (Err ReadFault)). absurd (other (cc))) (λ bad. ap script_in (is text bad)) said) answer
+      (λ text said. ⊎_elim (λ (failed : ◌≡◌ {A = Result Job JobFault} (Err fault) (Err ReadFault)). absurd (other (cc)))
+      (λ bad. ap script_in (is text bad)) said) answer
 
-  pub job_fault : (fault : JobFault) → HasAnswer (Err fault) → (◌≡◌ {A = Result Job JobFault} (Err fault) (Err ReadFault) → Rose input.faults_before input.faults_after) → FaultTells input fault
+  pub job_fault : (fault : JobFault) → HasAnswer (Err fault) → (◌≡◌ {A = Result Job JobFault} (Err fault) (Err ReadFault)
+      → Rose input.faults_before input.faults_after) → FaultTells input fault
   job_fault ReadFault answer cause = cause refl
   job_fault TooLong answer cause = job_fails TooLong (λ e. absurd (cc)) answer (λ text bad. bad)
   job_fault (BadLine line) answer cause = job_fails (BadLine line) (λ e. absurd (cc)) answer (λ text bad. bad)

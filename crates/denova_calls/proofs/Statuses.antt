@@ -6,11 +6,39 @@ use Rattle.dn_report.specs.Report.{usage_text}
 use Rattle.denova_calls.specs.Words.{command_of}
 use Rattle.denova_calls.specs.Call.{Call, status_of, text_of}
 use Rattle.denova_calls.specs.Ends.{Answers, CommandEnds, Ended, unread, run}
-use Rattle.denova_calls.specs.Statuses.{Asks, Wrote, IsUntouched, DoneTells, At, IsDone, IsUsage, IsBadJob, IsRefusedImage, IsStopped, IsUnread, IsUnwritten, IsWithoutMemory, IsTooLong, IsRefused}
+use Rattle.denova_calls.specs.Statuses.{
+  Asks,
+  Wrote,
+  IsUntouched,
+  DoneTells,
+  At,
+  IsDone,
+  IsUsage,
+  IsBadJob,
+  IsRefusedImage,
+  IsStopped,
+  IsUnread,
+  IsUnwritten,
+  IsWithoutMemory,
+  IsTooLong,
+  IsRefused,
+}
 use Rattle.denova_calls.specs.declared.words.Command.{Command}
 use Rattle.denova_calls.specs.declared.words.Command.TheVariants.{Apply, Format, Check}
 use Rattle.denova_calls.specs.declared.ending.Ending.{Ending}
-use Rattle.denova_calls.specs.declared.ending.Ending.TheVariants.{Done, Usage, BadLine, Unbuilt, Faulty, Stopped, HalfMade, Unread, NoMemory, TooLong, Refused}
+use Rattle.denova_calls.specs.declared.ending.Ending.TheVariants.{
+  Done,
+  Usage,
+  BadLine,
+  Unbuilt,
+  Faulty,
+  Stopped,
+  HalfMade,
+  Unread,
+  NoMemory,
+  TooLong,
+  Refused,
+}
 
 -- no ending has the status of a failed write
 never_six : (e : Ending) → status_of e ≡ 6 → ⊥
@@ -89,7 +117,11 @@ module _ (c : Call) where
   no_memory : (e : Ending) (asked : Option Command) → command_of c.words ≡ asked → Comes asked e → status_of e ≡ 7 → Takes e → IsWithoutMemory c
   no_memory NoMemory None is comes st w = let other = comes.1 in absurd (cc)
   no_memory NoMemory (Some Apply) is (unread same ends) st w = (w, inl (is, same))
-  no_memory NoMemory (Some Apply) is (run lines read ends) st w = (w, ⊎_elim (λ same. inl (is, same)) (λ part. inr (inl (is, (lines, read, part)))) ends)
+  no_memory NoMemory (Some Apply) is (run lines read ends) st w = (
+    w,
+    ⊎_elim (λ same. inl (is, same)) (λ part. inr (inl (is, (lines, read, part))))
+        ends,
+  )
   no_memory NoMemory (Some (Format pages inodes)) is comes st w = (w, inr (inr (inl (pages, inodes, is, comes))))
   no_memory NoMemory (Some Check) is comes st w = (w, inr (inr (inr (is, comes.0))))
   no_memory e asked is comes st w = absurd (omega (arith, st))
@@ -106,7 +138,8 @@ module _ (c : Call) where
   refused (Refused text) None is comes st w = let other = comes.1 in absurd (cc)
   refused (Refused text) (Some Apply) is (unread same ends) st w = absurd ends
   refused (Refused text) (Some Apply) is (run lines read ends) st w = absurd ends
-  refused (Refused text) (Some (Format pages inodes)) is comes st w = (comes.0, (pages, inodes, is, (comes.1.0, comes.1.1, w ∙ ap (with_back c.output.had) comes.1.2)))
+  refused (Refused text) (Some (Format pages inodes)) is comes st w =
+      (comes.0, (pages, inodes, is, (comes.1.0, comes.1.1, w ∙ ap (with_back c.output.had) comes.1.2)))
   refused (Refused text) (Some Check) is comes st w = absurd comes.1
   refused e asked is comes st w = absurd (omega (arith, st))
 

@@ -2,9 +2,28 @@
 use Rattle.std.specs.Prelude.{◌≡◌, ◌⊎◌, ℕ, ◌≤◌, List, length, take, Option}
 use Rattle.pm_device.specs.State.{State, Rose}
 use Rattle.dn_script.specs.Streams.{with_back}
-use Rattle.dn_report.specs.Report.{usage_text, unbuilt_text, stopped_text, read_fault_text, no_memory_text, too_long_text}
+use Rattle.dn_report.specs.Report.{
+  usage_text,
+  unbuilt_text,
+  stopped_text,
+  read_fault_text,
+  no_memory_text,
+  too_long_text,
+}
 use Rattle.denova_calls.specs.declared.ending.Ending.{Ending}
-use Rattle.denova_calls.specs.declared.ending.Ending.TheVariants.{Done, Usage, BadLine, Unbuilt, Faulty, Stopped, HalfMade, Unread, NoMemory, TooLong, Refused}
+use Rattle.denova_calls.specs.declared.ending.Ending.TheVariants.{
+  Done,
+  Usage,
+  BadLine,
+  Unbuilt,
+  Faulty,
+  Stopped,
+  HalfMade,
+  Unread,
+  NoMemory,
+  TooLong,
+  Refused,
+}
 
 -- a source: what it had left, where it tells that, and its counts of faults
 pub record Input : Type 0 where
@@ -29,10 +48,19 @@ pub record Call : Type 0 where
   pub status : ℕ
 
 abbrev pub input_of : {S : Type 0} → (S → Option (List ℕ)) → (S → ℕ) → S → S → Input
-input_of left faults old new = record { left = left old; faults_before = faults old; faults_after = faults new }
+input_of left faults old new = record {
+  left = left old;
+  faults_before = faults old;
+  faults_after = faults new;
+}
 
 abbrev pub output_of : {K : Type 0} → (K → Option (List ℕ)) → (K → ℕ) → K → K → Output
-output_of taken faults old new = record { had = taken old; has = taken new; faults_before = faults old; faults_after = faults new }
+output_of taken faults old new = record {
+  had = taken old;
+  has = taken new;
+  faults_before = faults old;
+  faults_after = faults new;
+}
 
 -- the status of an ending, and its text
 abbrev pub status_of : Ending → ℕ
@@ -65,8 +93,9 @@ text_of (Refused text) = text.items
 abbrev pub TookFront : List ℕ → Output → Type 0
 TookFront text out = (n : ℕ) × (n ≤ length text) × (out.has ≡ with_back out.had (take n text))
 
--- A sink has taken the text of an ending, whose status this is; or a write failed, the status is 6, and the sink has taken a
--- front of the text.
+-- A sink has taken the text of an ending, whose status this is; or a write failed, the status is 6,
+-- and the sink has taken a front of the text.
 abbrev pub IsTold : Output → ℕ → Ending → Type 0
 IsTold out status e =
-    ((status ≡ status_of e) × (out.has ≡ with_back out.had (text_of e))) ⊎ ((status ≡ 6) × Rose out.faults_before out.faults_after × TookFront (text_of e) out)
+    ((status ≡ status_of e) × (out.has ≡ with_back out.had (text_of e)))
+    ⊎ ((status ≡ 6) × Rose out.faults_before out.faults_after × TookFront (text_of e) out)

@@ -1,5 +1,24 @@
 -- What holds of a call, by its command and by what it comes to.
-use Rattle.std.specs.Prelude.{◌≡◌, ◌≢◌, ℕ, ◌-◌, ◌*◌, ◌<◌, ◌≤◌, Bool, List, length, map, Option, Some, None, IfSome, Result, Ok, Err}
+use Rattle.std.specs.Prelude.{
+  ◌≡◌,
+  ◌≢◌,
+  ℕ,
+  ◌-◌,
+  ◌*◌,
+  ◌<◌,
+  ◌≤◌,
+  Bool,
+  List,
+  length,
+  map,
+  Option,
+  Some,
+  None,
+  IfSome,
+  Result,
+  Ok,
+  Err,
+}
 use Rattle.pm_device.specs.State.{State, IsSame, Rose}
 use Rattle.pm_device.specs.Settled.{LeavesOnly}
 use Rattle.pm_layout.specs.declared.Geometry.{Geometry}
@@ -18,7 +37,12 @@ use Rattle.dn_script.specs.declared.job.JobFault.TheVariants as fault
 use Rattle.dn_report.specs.Report.{bad_line_text, formatted_text, refused_text}
 use Rattle.dn_report.specs.Found.{faulty_text, found_text}
 use Rattle.dn_report.specs.declared.report.Cause.{Cause}
-use Rattle.dn_report.specs.declared.report.Cause.TheVariants.{TooFewPages, TooManyPages, BadInodes, WrongSize}
+use Rattle.dn_report.specs.declared.report.Cause.TheVariants.{
+  TooFewPages,
+  TooManyPages,
+  BadInodes,
+  WrongSize,
+}
 use Rattle.denova_calls.specs.Words.{command_of}
 use Rattle.denova_calls.specs.Script.{ops_in, numbers_in, script_of}
 use Rattle.denova_calls.specs.Call.{Input, Call, IsTold}
@@ -26,7 +50,17 @@ use Rattle.denova_calls.specs.Runs.{RunEnds}
 use Rattle.denova_calls.specs.declared.words.Command.{Command}
 use Rattle.denova_calls.specs.declared.words.Command.TheVariants as asked
 use Rattle.denova_calls.specs.declared.ending.Ending.{Ending}
-use Rattle.denova_calls.specs.declared.ending.Ending.TheVariants.{Done, Usage, BadLine, Faulty, HalfMade, Unread, NoMemory, TooLong, Refused}
+use Rattle.denova_calls.specs.declared.ending.Ending.TheVariants.{
+  Done,
+  Usage,
+  BadLine,
+  Faulty,
+  HalfMade,
+  Unread,
+  NoMemory,
+  TooLong,
+  Refused,
+}
 
 -- APPLY
 
@@ -36,7 +70,8 @@ HasRead input read = IfSome input.left (λ text. script_of text ≡ read)
 
 -- the script wasn't read
 abbrev pub ScriptEnds : Input → Ending → Type 0
-ScriptEnds input (BadLine text) = (line : ℕ) × HasRead input (Err (fault.BadLine line)) × (text.items ≡ bad_line_text line)
+ScriptEnds input (BadLine text) =
+    (line : ℕ) × HasRead input (Err (fault.BadLine line)) × (text.items ≡ bad_line_text line)
 ScriptEnds input TooLong = HasRead input (Err fault.TooLong)
 ScriptEnds input Unread = Rose input.faults_before input.faults_after
 ScriptEnds input NoMemory = Unit {0}
@@ -45,11 +80,12 @@ ScriptEnds input e = ⊥
 -- a script is read, and then run
 pub data ApplyEnds (input : Input) (s t : State) (e : Ending) : Type 0 where
   unread : t ≡ s → ScriptEnds input e → ApplyEnds input s t e
-  run : (lines : List Line) → HasRead input (Ok lines) → RunEnds (ops_in lines) (numbers_in lines) s t e → ApplyEnds input s t e
+  run : (lines : List Line) → HasRead input (Ok lines)
+      → RunEnds (ops_in lines) (numbers_in lines) s t e → ApplyEnds input s t e
 
 -- CHECK
 
--- words w have no fault, and the text tells the numbers and the rows of the disk that they stand for
+-- words w have no fault, and the text tells the numbers and rows of the disk that they stand for
 pub record HasFound (w text : List ℕ) : Type 0 where
   pub disk : Disk
   pub stands_for : StandsFor w disk
@@ -78,9 +114,10 @@ abbrev pub IsCause : ℕ → ℕ → List ℕ → Cause → Type 0
 IsCause pages inodes w TooFewPages = pages < 64
 IsCause pages inodes w TooManyPages = 65536 < pages
 IsCause pages inodes w BadInodes = (64 ≤ pages) × (pages ≤ 65536) × LacksRoom pages inodes
-IsCause pages inodes w (WrongSize n) = IsAccepted (geometry pages inodes) × (length w ≢ 512 * pages) × (n ≡ length w)
+IsCause pages inodes w (WrongSize n) =
+    IsAccepted (geometry pages inodes) × (length w ≢ 512 * pages) × (n ≡ length w)
 
--- on the way a stop leaves the words as they were, or no image, or the file system without files
+-- on the way a crash leaves the words as they were, or no image, or the file system without files
 pub record IsBeingMade (pages inodes : ℕ) (s t : State) : Type 0 where
   pub accepted : IsAccepted (geometry pages inodes)
   pub size : length s.now ≡ 512 * pages
@@ -98,7 +135,9 @@ pub record HasMade (pages inodes : ℕ) (s t : State) (text : List ℕ) : Type 0
 abbrev pub MakeEnds : ℕ → ℕ → State → State → Ending → Type 0
 MakeEnds pages inodes s t (Done text) = HasMade pages inodes s t text.items
 MakeEnds pages inodes s t HalfMade = IsBeingMade pages inodes s t × Rose s.faults t.faults
-MakeEnds pages inodes s t (Refused text) = IsSame s t × ((cause : Cause) × IsCause pages inodes s.now cause × (text.items ≡ refused_text cause))
+MakeEnds pages inodes s t (Refused text) =
+    IsSame s t
+    × ((cause : Cause) × IsCause pages inodes s.now cause × (text.items ≡ refused_text cause))
 MakeEnds pages inodes s t NoMemory = IsSame s t
 MakeEnds pages inodes s t e = ⊥
 

@@ -1,5 +1,25 @@
 -- The script of a job: the lines of its one client, all of which are served.
-use Rattle.std.specs.Prelude.{◌≡◌, ℕ, Bool, true, false, not, List, [], ◌∷◌, ◌++◌, map, find, Option, Some, None, Result, Ok, Err, All}
+use Rattle.std.specs.Prelude.{
+  ◌≡◌,
+  ℕ,
+  Bool,
+  true,
+  false,
+  not,
+  List,
+  [],
+  ◌∷◌,
+  ◌++◌,
+  map,
+  find,
+  Option,
+  Some,
+  None,
+  Result,
+  Ok,
+  Err,
+  All,
+}
 use Rattle.std.specs.List.{flat_map}
 use Rattle.dn_model.specs.declared.op.Op.{Op}
 use Rattle.dn_model.specs.declared.op.Op.TheVariants.{Write, Read}
@@ -13,7 +33,8 @@ use Rattle.dn_script.specs.declared.job.JobFault.TheVariants.{BadLine}
 use Rattle.dn_script.specs.Job.{job_of}
 use Rattle.one_file.specs.Answer.{IsServed}
 
--- the commands that are served: writes, of `write NAME AT HEX` and `fill NAME AT LENGTH BYTE`, and `read NAME AT LENGTH`
+-- the commands that are served: writes, of `write NAME AT HEX` and `fill NAME AT LENGTH BYTE`, and
+-- `read NAME AT LENGTH`
 abbrev pub is_served_op : Op → Bool
 is_served_op (Write name at bytes) = true
 is_served_op (Read name at count) = true
@@ -55,8 +76,8 @@ abbrev pub script_in : Result Job JobFault → Result (List Line) JobFault
 script_in (Ok job) = served (lines_in job.clients)
 script_in (Err fault) = Err fault
 
--- The lines of a script, or why a text is none: it is no job of one script, or a line of it isn't served. A job has at most
--- 16,777,216 bytes.
+-- The lines of a script, or why a text is none: it is no job of one script, or a line of it isn't
+-- served. A job has at most 16,777,216 bytes.
 abbrev pub script_of : List ℕ → Result (List Line) JobFault
 script_of text = script_in (job_of Apply text)
 

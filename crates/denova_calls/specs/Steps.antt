@@ -18,9 +18,18 @@ use Rattle.denova_calls.specs.Script.{ops_in, numbers_in}
 use Rattle.denova_calls.specs.Call.{Input}
 use Rattle.denova_calls.specs.Ends.{HasRead}
 use Rattle.denova_calls.specs.declared.ending.Ending.{Ending}
-use Rattle.denova_calls.specs.declared.ending.Ending.TheVariants.{Done, BadLine, Faulty, Unread, NoMemory, TooLong, Refused}
+use Rattle.denova_calls.specs.declared.ending.Ending.TheVariants.{
+  Done,
+  BadLine,
+  Faulty,
+  Unread,
+  NoMemory,
+  TooLong,
+  Refused,
+}
 
--- a source had a script left with these operations, on lines of these numbers, all of which are served
+-- a source had a script left with these operations, on lines of these numbers, all of which are
+-- served
 pub record HasScript (input : Input) (ops : List Op) (numbers : List ℕ) : Type 0 where
   pub lines : List Line
   pub read : HasRead input (Ok lines)
@@ -38,7 +47,8 @@ FaultTells input fault.NoMemory = Unit {0}
 
 -- the ending of such a fault
 abbrev pub FaultEnds : JobFault → Ending → Type 0
-FaultEnds f (BadLine text) = (line : ℕ) × (f ≡ fault.BadLine line) × (text.items ≡ bad_line_text line)
+FaultEnds f (BadLine text) =
+    (line : ℕ) × (f ≡ fault.BadLine line) × (text.items ≡ bad_line_text line)
 FaultEnds f TooLong = f ≡ fault.TooLong
 FaultEnds f Unread = f ≡ fault.ReadFault
 FaultEnds f NoMemory = Unit {0}
@@ -47,13 +57,15 @@ FaultEnds f e = ⊥
 -- the text of a finding, and its ending
 abbrev pub finding_text : Finding → List ℕ
 finding_text (finding.Fault f) = faulty_text f
-finding_text (finding.Sound files dying rows mapped free exact) = found_text files dying rows mapped free exact
+finding_text (finding.Sound files dying rows mapped free exact) =
+    found_text files dying rows mapped free exact
 
 abbrev pub FindingEnds : Finding → Ending → Type 0
 FindingEnds (finding.Fault f) (Faulty text) = text.items ≡ faulty_text f
 FindingEnds (finding.Fault f) NoMemory = Unit {0}
 FindingEnds (finding.Fault f) e = ⊥
-FindingEnds (finding.Sound files dying rows mapped free exact) (Done text) = text.items ≡ found_text files dying rows mapped free exact
+FindingEnds (finding.Sound files dying rows mapped free exact) (Done text) =
+    text.items ≡ found_text files dying rows mapped free exact
 FindingEnds (finding.Sound files dying rows mapped free exact) NoMemory = Unit {0}
 FindingEnds (finding.Sound files dying rows mapped free exact) e = ⊥
 

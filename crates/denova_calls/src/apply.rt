@@ -102,7 +102,8 @@ fn run_ops<D: Pm>(alloc: Global, device: D, ops: Vec<Op>, lines: &[u64]) -> (End
 fn run_script<D: Pm>(alloc: Global, device: D, script: Script) -> (Ending, D)
     requires still { Still (D.state device) }
     requires served { All IsServed script.ops.items }
-    ensures ends { RunEnds script.ops.items script.lines.items (D.state device) (D.state result.1) result.0 }
+    ensures ends { RunEnds script.ops.items script.lines.items (D.state device) (D.state result.1)
+        result.0 }
     ensures later { (D.state device).faults ≤ (D.state result.1).faults }
 {
     let Script { ops, lines } = script;

@@ -34,5 +34,6 @@ pub fn calls_are_completed()
     ensures makes { EndsAt 0 7 IsMakable }
     ensures refuses { EndsAt 11 7 IsRefusable }
     ensures finds { EndsAt 0 7 (λ c. IsCheckable c × HasNoFault c.before.now) }
-    ensures faults { EndsAt 3 7 (λ c. IsCheckable c × ((fault : ImageFault) × FaultOf c.before.now fault)) }
+    ensures faults { EndsAt 3 7
+        (λ c. IsCheckable c × ((fault : ImageFault) × FaultOf c.before.now fault)) }
 {}

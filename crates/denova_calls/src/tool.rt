@@ -48,12 +48,12 @@ fn answer<D: Pm, S: Source>(
 ///
 /// `IMAGE apply` reads a job from the input, runs its operations on the image of one file that the device holds, and
 /// writes one line for each reply and a last line `end ENTRIES FREE`. Each write is made by one store of the file's log
-/// tail (NOVA, FAST 2016). A stop at any moment of the call leaves an image whose files are those after the operations
+/// tail (NOVA, FAST 2016). A crash at any moment of the call leaves an image whose files are those after the operations
 /// that were answered, or after one more. No page is shared yet, so no fingerprint is taken: what is told of images
 /// holds for each.
 ///
 /// `IMAGE format PAGES INODES` makes a file system without files on a device of that size, and writes `formatted PAGES
-/// INODES FREE`. A stop leaves the words as they were, or no image, or the file system.
+/// INODES FREE`. A crash leaves the words as they were, or no image, or the file system.
 ///
 /// `IMAGE check` only reads: it writes the first fault of the image, or `ok`, the numbers of its files and pages and a
 /// line for each row of the table of fingerprints.

@@ -11,7 +11,8 @@ only_value v w (suc i) same inside = absurd (omega arith)
 
 word_settled : (words : List ℕ) (s : State) (a : ℕ) → s.now ≡ words → OfWord (Some (record { first = words; calls = [] })) a (Each (IsRead s a))
 unfolding word_at
-word_settled words s a same = λ i late inside. only_value (get_or words a 0) (get_or s.now a 0) i (ap (λ (xs : List ℕ). get_or xs a 0) (sym same)) inside
+word_settled words s a same = λ i late inside. only_value (get_or words a 0) (get_or s.now a 0) i (ap (λ (xs : List ℕ). get_or xs a 0) (sym same))
+    inside
 
 -- one that was just made
 pub new_still : (words : List ℕ) (s : State) → IsNew words s → Still s

@@ -1,5 +1,6 @@
 // Calls of the program over devices, sources and sinks in memory.
-ghost use Rattle.std.specs.Prelude.{◌≡◌, IfOk, vec_len, ◌%◌};
+ghost use Rattle.std.specs.Prelude.{◌≡◌, ◌≤◌, IfOk, vec_len, ◌%◌};
+ghost use Rattle.pm_device.specs.Past.{moment as moment_of};
 ghost use Rattle.pm_device.specs.Settled.{Still};
 
 use denova_calls::tool::tool;
@@ -39,6 +40,56 @@ const WRITTEN: [(usize, u64); 8] = [
 ];
 
 const APPLY: &[&str] = &["img", "apply"];
+
+// Jobs that are run on the first image, and the text that is written.
+const SERVED: [(&str, &str); 9] = [
+    ("", "end 0 57\n"),
+    (
+        "write f 0 616263\nwrite f 0 64\nread f 0 8",
+        "1 1 done\n1 2 done\n1 3 bytes 3 646263\nend 3 55\n",
+    ),
+    (
+        "# two refusals\nread g 0 1\n\nread f 0 65537\n",
+        "1 2 not-found\n1 4 too-long\nend 2 57\n",
+    ),
+    (
+        "read a/b 0 1\nread f 9 9\n",
+        "1 1 bad-name\n1 2 bytes 0\nend 2 57\n",
+    ),
+    (
+        "write f 0 616263\nwrite f 5000 64\nread f 4998 4\nread f 0 4",
+        "1 1 done\n1 2 done\n1 3 bytes 3 000064\n1 4 bytes 4 61626300\nend 4 54\n",
+    ),
+    (
+        "write f 5000 616263\nread f 4998 10\n",
+        "1 1 done\n1 2 bytes 5 0000616263\nend 2 55\n",
+    ),
+    (
+        "fill f 1 65536 61\nfill f 1 65537 61\n",
+        "1 1 done\n1 2 too-long\nend 2 39\n",
+    ),
+    (
+        "write f 0 -\nwrite f 16777216 61\nwrite g 0 61\nread f 0 1\n",
+        "1 1 done\n1 2 too-big\n1 3 not-found\n1 4 bytes 0\nend 4 57\n",
+    ),
+    (
+        "fill f 0 65536 61\nfill f 65536 65536 61\nfill f 131072 65536 61\nfill f 196608 65536 61\n",
+        "1 1 done\n1 2 done\n1 3 done\n1 4 no-space 16 8\nend 4 8\n",
+    ),
+];
+
+// Jobs with a bad line, and the text that tells it.
+const BAD: [(&str, &str); 9] = [
+    ("size f", "bad-line 1\n"),
+    ("create f", "bad-line 1\n"),
+    ("cut f 1", "bad-line 1\n"),
+    ("write f 0 6", "bad-line 1\n"),
+    ("fill f 0 131073 61", "bad-line 1\n"),
+    ("turns 1", "bad-line 1\n"),
+    ("read f 0 1\n\nlist\n", "bad-line 3\n"),
+    ("read f 0 8\n#\nwrote f 0 61\nsize f\n", "bad-line 3\n"),
+    ("size f\nwrote f 0 61\n", "bad-line 2\n"),
+];
 
 // An image of 64 pages in which these words aren't 0.
 fn image_of(alloc: Global, words: &[&[(usize, u64)]]) -> Result<Vec<u64>, AllocError> {
@@ -103,163 +154,36 @@ fn check(
 }
 
 #[test]
-fn each_status_has_its_text(rt: HostRuntime) -> Result<(), Fail> {
-    check(&rt, &["img"], "", (0, 0), 1, "usage\n")?;
-    check(&rt, &["img"], "", (1, 0), 1, "usage\n")?;
-    check(&rt, &["img"], "", (0, 1), 6, "")?;
-    check(
-        &rt,
-        APPLY,
-        "read f 0 1\n\nlist\n",
-        (0, 0),
-        2,
-        "bad-line 3\n",
-    )?;
-    check(&rt, APPLY, "list\n", (1, 0), 5, "read-fault\n")?;
-    check(&rt, APPLY, "list\n", (0, 1), 6, "")?;
-    Ok(())
-}
-
-#[test]
-fn bad_lines_are_told(rt: HostRuntime) -> Result<(), Fail> {
-    let table = [
-        ("size f", "bad-line 1\n"),
-        ("create f", "bad-line 1\n"),
-        ("cut f 1", "bad-line 1\n"),
-        ("write f 0 6", "bad-line 1\n"),
-        ("fill f 0 131073 61", "bad-line 1\n"),
-        ("turns 1", "bad-line 1\n"),
-        ("read f 0 8\n#\nwrote f 0 61\nsize f\n", "bad-line 3\n"),
-        ("size f\nwrote f 0 61\n", "bad-line 2\n"),
-    ];
-    for (job, text) in table {
-        check(&rt, APPLY, job, (0, 0), 2, text)?;
-    }
-    Ok(())
-}
-
-#[test]
-fn long_jobs_are_not_run(rt: HostRuntime) -> Result<(), Fail> {
-    let mut job = String::from_str(rt.alloc(), "write f 0 61\n")?;
-    for _ in 0..257 {
-        job.push_str("list\n")?;
-    }
-    check(&rt, APPLY, job.as_str(), (0, 0), 8, "too-long\n")?;
-    Ok(())
-}
-
-#[test]
-fn jobs_are_served(rt: HostRuntime) -> Result<(), Fail> {
-    let table = [
-        (
-            "write f 0 616263\nread f 0 8\n",
-            "1 1 done\n1 2 bytes 3 616263\nend 2 55\n",
-        ),
-        (
-            "write f 0 616263\nwrite f 0 64\nread f 0 8",
-            "1 1 done\n1 2 done\n1 3 bytes 3 646263\nend 3 55\n",
-        ),
-        (
-            "# two refusals\nread g 0 1\n\nread f 0 65537\n",
-            "1 2 not-found\n1 4 too-long\nend 2 57\n",
-        ),
-        (
-            "read a/b 0 1\nread f 9 9\n",
-            "1 1 bad-name\n1 2 bytes 0\nend 2 57\n",
-        ),
-        ("", "end 0 57\n"),
-        (
-            "write f 0 616263\nwrite f 5000 64\nread f 4998 4\nread f 0 4",
-            "1 1 done\n1 2 done\n1 3 bytes 3 000064\n1 4 bytes 4 61626300\nend 4 54\n",
-        ),
-        (
-            "write f 5000 616263\nread f 4998 10\n",
-            "1 1 done\n1 2 bytes 5 0000616263\nend 2 55\n",
-        ),
-        (
-            "fill f 1 65536 61\nfill f 1 65537 61\n",
-            "1 1 done\n1 2 too-long\nend 2 39\n",
-        ),
-        (
-            "write f 0 -\nwrite f 16777216 61\nwrite g 0 61\nread f 0 1\n",
-            "1 1 done\n1 2 too-big\n1 3 not-found\n1 4 bytes 0\nend 4 57\n",
-        ),
-        (
-            "fill f 0 65536 61\nfill f 65536 65536 61\nfill f 131072 65536 61\nfill f 196608 65536 61\n",
-            "1 1 done\n1 2 done\n1 3 done\n1 4 no-space 16 8\nend 4 8\n",
-        ),
-    ];
-    for (job, text) in table {
+fn jobs_are_run_or_refused(rt: HostRuntime) -> Result<(), Fail> {
+    for (job, text) in SERVED {
         check(&rt, APPLY, job, (0, 0), 0, text)?;
     }
-    Ok(())
-}
-
-#[test]
-fn a_write_leaves_its_words(rt: HostRuntime) -> Result<(), Fail> {
-    let first = image_of(rt.alloc(), &[&FIRST])?;
-    let (status, _, device) = ended(rt.alloc(), APPLY, first, "write f 0 616263", (0, 0, 0))?;
-    assert_eq!(rt; status, 0);
-    let left = device.image_at(rt.alloc(), device.moment(), 0)?;
-    assert_eq!(rt; left, image_of(rt.alloc(), &[&FIRST, &WRITTEN])?);
-    Ok(())
-}
-
-// How a job ends on an image, and the replies.
-fn replies(alloc: Global, image: Vec<u64>, job: &str) -> Result<(u8, Vec<u8>), AllocError> {
-    let (status, text, _device) = ended(alloc, APPLY, image, job, (0, 0, 0))?;
-    Ok((status, text))
-}
-
-// Each image that a stop may leave is opened again, and its file is empty or has the bytes.
-fn check_moments(rt: &(impl Abort + AllocGlobal), device: &MemPm) -> Result<(), AllocError> {
-    for moment in 0..=device.moment() {
-        for pick in 0..8 {
-            let image = device.image_at(rt.alloc(), moment, pick)?;
-            let new = image.get(1042) != Some(&0);
-            let (status, text) = replies(rt.alloc(), image, "read f 0 8")?;
-            let wanted: &[u8] = if new {
-                b"1 1 bytes 3 616263\nend 1 55\n"
-            } else {
-                b"1 1 bytes 0\nend 1 57\n"
-            };
-            assert_eq!(rt; status, 0, "at moment {moment}, pick {pick}");
-            assert_eq!(rt; text.as_slice(), wanted, "at moment {moment}, pick {pick}");
-        }
+    for (job, text) in BAD {
+        check(&rt, APPLY, job, (0, 0), 2, text)?;
     }
-    Ok(())
-}
-
-#[test]
-fn a_stop_leaves_a_write_or_not(rt: HostRuntime) -> Result<(), Fail> {
-    for fence in 0..4 {
-        let first = image_of(rt.alloc(), &[&FIRST])?;
-        let (status, text, device) = ended(
-            rt.alloc(),
-            APPLY,
-            first,
-            "write f 0 616263",
-            (0, 0, fence),
-        )?;
-        if fence == 0 {
-            assert_eq!(rt; status, 0);
-        } else {
-            assert_eq!(rt; status, 4, "fence {fence}");
-            assert_eq!(rt; text.as_slice(), b"stopped\n".as_slice());
-        }
-        check_moments(&rt, &device)?;
+    let mut long = String::from_str(rt.alloc(), "write f 0 61\n")?;
+    for _ in 0..257 {
+        long.push_str("list\n")?;
     }
+    check(&rt, APPLY, long.as_str(), (0, 0), 8, "too-long\n")?;
     Ok(())
 }
 
 #[test]
-fn a_fault_comes_at_each_call(rt: HostRuntime) -> Result<(), Fail> {
+fn a_fault_comes_at_each_take_and_put(rt: HostRuntime) -> Result<(), Fail> {
     let job = "write f 0 61\nread f 0 1\n";
     let text = "1 1 done\n1 2 bytes 1 61\nend 2 55\n";
-    for (take, status, text) in [(1, 5, "read-fault\n"), (2, 5, "read-fault\n"), (3, 0, text)] {
-        check(&rt, APPLY, job, (take, 0), status, text)?;
+    let table = [
+        (APPLY, (1, 0), 5, "read-fault\n"),
+        (APPLY, (2, 0), 5, "read-fault\n"),
+        (APPLY, (3, 0), 0, text),
+        (APPLY, (0, 2), 0, text),
+        (&["img"], (1, 0), 1, "usage\n"),
+        (&["img"], (0, 1), 6, ""),
+    ];
+    for (words, fails, status, text) in table {
+        check(&rt, words, job, fails, status, text)?;
     }
-    check(&rt, APPLY, job, (0, 2), 0, text)?;
     let first = image_of(rt.alloc(), &[&FIRST])?;
     let (status, told, device) = ended(rt.alloc(), APPLY, first, job, (0, 1, 0))?;
     let left = device.image_at(rt.alloc(), device.moment(), 0)?;
@@ -269,16 +193,66 @@ fn a_fault_comes_at_each_call(rt: HostRuntime) -> Result<(), Fail> {
     Ok(())
 }
 
-#[test]
-fn other_images_are_not_served(rt: HostRuntime) -> Result<(), Fail> {
-    for words in [&[] as &[(usize, u64)], &FIRST[1..], &FIRST[..7]] {
-        let image = image_of(rt.alloc(), &[words])?;
-        let (status, text, device) = ended(rt.alloc(), APPLY, image, "", (0, 0, 0))?;
-        let left = device.image_at(rt.alloc(), device.moment(), 0)?;
-        assert_eq!(rt; status, 3);
-        assert_eq!(rt; text.as_slice(), b"refused unbuilt\n".as_slice());
-        assert_eq!(rt; left, image_of(rt.alloc(), &[words])?);
+// An image that a crash may leave is opened again, and its file is empty or has the bytes.
+fn check_left(
+    rt: &(impl Abort + AllocGlobal),
+    device: &MemPm,
+    moment: u64,
+    pick: u64,
+) -> Result<(), AllocError>
+    requires { moment ≤ moment_of (⟦<MemPm as Pm>⟧.state device.now).past }
+{
+    let image = device.image_at(rt.alloc(), moment, pick)?;
+    let wanted: &[u8] = if image.get(1042) != Some(&0) {
+        b"1 1 bytes 3 616263\nend 1 55\n"
+    } else {
+        b"1 1 bytes 0\nend 1 57\n"
+    };
+    let (status, text, _device) = ended(rt.alloc(), APPLY, image, "read f 0 8", (0, 0, 0))?;
+    assert_eq!(rt; status, 0, "at moment {moment}, pick {pick}");
+    assert_eq!(rt; text.as_slice(), wanted, "at moment {moment}, pick {pick}");
+    Ok(())
+}
+
+// Of each moment the images with the first values, the last values and a mixture.
+fn check_moments(rt: &(impl Abort + AllocGlobal), device: &MemPm) -> Result<(), AllocError> {
+    for moment in 0..=device.moment() {
+        for pick in 0..3 {
+            check_left(rt, device, moment, pick)?;
+        }
     }
+    Ok(())
+}
+
+#[test]
+fn a_crash_leaves_a_write_or_not(rt: HostRuntime) -> Result<(), Fail> {
+    for (fence, status, text) in [
+        (0, 0, "1 1 done\nend 1 55\n"),
+        (1, 4, "stopped\n"),
+        (2, 4, "stopped\n"),
+    ] {
+        let first = image_of(rt.alloc(), &[&FIRST])?;
+        let fails = (0, 0, fence);
+        let (told, written, device) = ended(rt.alloc(), APPLY, first, "write f 0 616263", fails)?;
+        assert_eq!(rt; told, status, "fence {fence}");
+        assert_eq!(rt; written.as_slice(), text.as_bytes());
+        check_moments(&rt, &device)?;
+        if fence == 0 {
+            let left = device.image_at(rt.alloc(), device.moment(), 0)?;
+            assert_eq!(rt; left, image_of(rt.alloc(), &[&FIRST, &WRITTEN])?);
+        }
+    }
+    Ok(())
+}
+
+// A job is run on an image that isn't served, which stays as it is.
+fn check_unserved(rt: &(impl Abort + AllocGlobal), image: Vec<u64>) -> Result<(), AllocError> {
+    let before = Vec::from_slice(rt.alloc(), &image)?;
+    let (status, text, device) = ended(rt.alloc(), APPLY, image, "", (0, 0, 0))?;
+    let left = device.image_at(rt.alloc(), device.moment(), 0)?;
+    assert_eq!(rt; status, 3);
+    assert_eq!(rt; text.as_slice(), b"refused unbuilt\n".as_slice());
+    assert_eq!(rt; left, before);
     Ok(())
 }
 
@@ -292,6 +266,16 @@ fn made(
     let zeros = vec![in alloc; 0; 512 * device_pages.min(65536)]?;
     let words = ["img", "format", numbers.0, numbers.1];
     ended(alloc, &words, zeros, "", fails)
+}
+
+#[test]
+fn other_images_are_not_served(rt: HostRuntime) -> Result<(), Fail> {
+    for words in [&[] as &[(usize, u64)], &FIRST[1..], &FIRST[..7]] {
+        check_unserved(&rt, image_of(rt.alloc(), &[words])?)?;
+    }
+    let (_, _, device) = made(rt.alloc(), 64, ("64", "8"), (0, 0, 0))?;
+    check_unserved(&rt, device.image_at(rt.alloc(), device.moment(), 0)?)?;
+    Ok(())
 }
 
 #[test]
@@ -318,16 +302,6 @@ fn file_systems_are_made_or_refused(rt: HostRuntime) -> Result<(), Fail> {
             assert_eq!(rt; device.moment(), 0, "at {numbers:?}");
         }
     }
-    Ok(())
-}
-
-#[test]
-fn a_file_system_without_files_is_not_served(rt: HostRuntime) -> Result<(), Fail> {
-    let (_, _, device) = made(rt.alloc(), 64, ("64", "8"), (0, 0, 0))?;
-    let image = device.image_at(rt.alloc(), device.moment(), 0)?;
-    let (status, text) = replies(rt.alloc(), image, "")?;
-    assert_eq!(rt; status, 3);
-    assert_eq!(rt; text.as_slice(), b"refused unbuilt\n".as_slice());
     Ok(())
 }
 

@@ -21,16 +21,22 @@ pub keeps_then : (print : Print) (d e f : Disk) → KeepsFiles print d e → Kee
 keeps_then print d e f first next = record { same = λ name. next.same name ∙ first.same name; own = λ own. next.own (first.own own) }
 
 -- images between two disks with the same files
-between_later : (print : Print) (d e : Disk) → IsSameFiles (files e) (files d) → (s u : State) → LeavesOnly s u (IsBetween print d e) → LeavesOnly s u (HasLater (KeepsFiles print) d)
+between_later : (print : Print) (d e : Disk) → IsSameFiles (files e) (files d) → (s u : State) → LeavesOnly s u (IsBetween print d e)
+    → LeavesOnly s u (HasLater (KeepsFiles print) d)
 between_later print d e quiet s u leaves = leaves_only-weaken s u (IsBetween print d e) (HasLater (KeepsFiles print) d)
     (λ c (is : IsBetween print d e c). record {
       disk = is.disk;
       stands_for = is.stands_for;
-      is = record { same = λ name. ⊎_elim (λ (old : IsSameFiles (files is.disk) (files d)). old name) (λ (new : IsSameFiles (files is.disk) (files e)). new name ∙ quiet name) is.same; own = is.own };
+      is = record {
+        same = λ name. ⊎_elim (λ (old : IsSameFiles (files is.disk) (files d)). old name)
+            (λ (new : IsSameFiles (files is.disk) (files e)). new name ∙ quiet name) is.same;
+        own = is.own;
+      };
     }) leaves
 
 module _ {D F : Type 0} (state : D → State) (print : Print) where
-  pub stays_none : (v : Volume D F) (d : Disk) → IsVolume d v.parts (state v.device) → Agree (state v.device).now (state v.device).past → StaysOn state print v v d
+  pub stays_none : (v : Volume D F) (d : Disk) → IsVolume d v.parts (state v.device) → Agree (state v.device).now (state v.device).past
+      → StaysOn state print v v d
   stays_none v d is agree = record {
     after = d;
     volume = is;
@@ -53,6 +59,8 @@ module _ {D F : Type 0} (state : D → State) (print : Print) where
     }
 
     -- the last of them may fail
-    pub stays_break : (who : ℕ) (x : Volume D F) → Breaks state print who None w x is.after → LeavesOnly (state v.device) (state x.device) (HasLater (KeepsFiles print) d)
-    stays_break who x breaks = leaves_then (KeepsFiles print) (keeps_then print) d is.after is.keeps (state v.device) (state w.device) (state x.device) is.images
+    pub stays_break : (who : ℕ) (x : Volume D F) → Breaks state print who None w x is.after → LeavesOnly (state v.device) (state x.device)
+        (HasLater (KeepsFiles print) d)
+    stays_break who x breaks = leaves_then (KeepsFiles print) (keeps_then print) d is.after is.keeps (state v.device) (state w.device)
+        (state x.device) is.images
         (between_later print is.after breaks.after (breaks.quiet refl) (state w.device) (state x.device) breaks.images)

@@ -1,5 +1,34 @@
 -- The parts of a volume that was just mounted agree with the device.
-use Rattle.std.proofs.Common.{◌≡◌, ◌≢◌, ◌⊎◌, inl, inr, ⊎_elim, ℕ, zero, suc, ◌+◌, ◌-◌, ◌*◌, ◌<◌, ◌≤◌, Bool, false, List, [], ◌∷◌, ◌++◌, length, refl, sym, ◌∙◌, ap, subst, arith, get_or}
+use Rattle.std.proofs.Common.{
+  ◌≡◌,
+  ◌≢◌,
+  ◌⊎◌,
+  inl,
+  inr,
+  ⊎_elim,
+  ℕ,
+  zero,
+  suc,
+  ◌+◌,
+  ◌-◌,
+  ◌*◌,
+  ◌<◌,
+  ◌≤◌,
+  Bool,
+  false,
+  List,
+  [],
+  ◌∷◌,
+  ◌++◌,
+  length,
+  refl,
+  sym,
+  ◌∙◌,
+  ap,
+  subst,
+  arith,
+  get_or,
+}
 use Rattle.std.specs.Prelude.{Option, Some, None, Contains, All, slice_get, vec_len, vec_capacity}
 use Rattle.std.specs.VecDeque.{deque_len, deque_capacity}
 use Rattle.std.proofs.lemmas.List.Elements.{All-contains}
@@ -89,7 +118,13 @@ module _ (d : Disk) (scan : Scan) (s : State) (is : IsScanOf d scan s) (b : Part
   node_at ino n = subst (λ (xs : List InodeState). slice_get xs ino ≡ Some n) fresh.inodes
 
   holders : AreHolders d b
-  holders = record { told = λ ino who n at. (λ some. absurd (none_is_some n.holder who (is.unheld ino n (node_at ino n at)) some), λ held. absurd (never_holds who ino held)); in_table = λ ino who held. absurd (never_holds who ino held) }
+  holders = record {
+    told = λ ino who n at. (
+      λ some. absurd (none_is_some n.holder who (is.unheld ino n (node_at ino n at)) some),
+      λ held. absurd (never_holds who ino held),
+    );
+    in_table = λ ino who held. absurd (never_holds who ino held);
+  }
 
   -- the free pages
   row_exact : (row : Row) → Contains (rows d) row → IsExact d row
@@ -122,7 +157,8 @@ module _ (d : Disk) (scan : Scan) (s : State) (is : IsScanOf d scan s) (b : Part
   -- nothing is counted
   raised_none : (slot : ℕ) → raised b slot ≡ 0
   raised_none slot =
-      let flights = total-zero (λ k. times slot (raised_by (flight_at b.flights.items k))) 14 (λ j lt. ap (λ (f : Option Flight). times slot (raised_by f)) (fresh.flights.none j)) in
+      let flights = total-zero (λ k. times slot (raised_by (flight_at b.flights.items k))) 14
+      (λ j lt. ap (λ (f : Option Flight). times slot (raised_by f)) (fresh.flights.none j)) in
       let share : times slot (raised_to_share b.sharing) ≡ 0 = ap (λ x. times slot (raised_to_share x)) fresh.sharing in
       let die : times slot (raised_to_die b.reclaiming.raised) ≡ 0 = ap (λ x. times slot (raised_to_die x)) fresh.unraised in
       omega (arith, flights, share, die)
@@ -134,7 +170,8 @@ module _ (d : Disk) (scan : Scan) (s : State) (is : IsScanOf d scan s) (b : Part
   dropped_none slot = ap (times slot) fresh.releases
 
   owed_none : (kind : Room → ℕ) → kind (owed_to None) ≡ 0 → owed_sum b kind ≡ 0
-  owed_none kind zero_is = total-zero (λ k. kind (owed_to (flight_at b.flights.items k))) 14 (λ j lt. ap (λ (f : Option Flight). kind (owed_to f)) (fresh.flights.none j) ∙ zero_is)
+  owed_none kind zero_is = total-zero (λ k. kind (owed_to (flight_at b.flights.items k))) 14 (λ j lt. ap (λ (f : Option Flight). kind (owed_to f))
+      (fresh.flights.none j) ∙ zero_is)
 
   unraised : one_if b.reclaiming.raised ≡ 0
   unraised = ap (λ x. one_if x) fresh.unraised
@@ -164,7 +201,8 @@ module _ (d : Disk) (scan : Scan) (s : State) (is : IsScanOf d scan s) (b : Part
   queue : IsQueued d b
   queue = record {
     waits = λ ino idx m place needed. let w = is.waits ino idx m place needed in
-        in_queue w.item w.node (subst (λ q. Contains q.items w.item) (sym fresh.queue) w.listed) w.ino_is w.slot_is (subst (λ (xs : List InodeState). slice_get xs ino ≡ Some w.node) (sym fresh.inodes) w.at) w.round_is;
+        in_queue w.item w.node (subst (λ q. Contains q.items w.item) (sym fresh.queue) w.listed) w.ino_is w.slot_is
+        (subst (λ (xs : List InodeState). slice_get xs ino ≡ Some w.node) (sym fresh.inodes) w.at) w.round_is;
   }
 
   reclaiming : IsReclaiming d b
@@ -196,7 +234,8 @@ module _ (d : Disk) (scan : Scan) (s : State) (is : IsScanOf d scan s) (b : Part
   }
 
   trace : NamesSlots b
-  trace = all_listed (λ (change : CountChange). change.slot < slots b.geometry) b.trace.items (λ change has. absurd (omega (arith, has.1, ap length fresh.trace)))
+  trace = all_listed (λ (change : CountChange). change.slot < slots b.geometry) b.trace.items
+      (λ change has. absurd (omega (arith, has.1, ap length fresh.trace)))
 
   pub fresh_volume : IsVolume d b s
   fresh_volume = record {

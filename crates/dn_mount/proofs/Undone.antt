@@ -8,7 +8,23 @@ use Rattle.pm_layout.specs.declared.Geometry.{Geometry}
 use Rattle.pm_layout.specs.Geometry.{InData, inode_word, gate_word}
 use Rattle.dn_model.specs.Rolled.{rolled, IsGate, IsJournaled, pair_address}
 use Rattle.dn_model.specs.Log.{Log, LogSays, at_tail, at_head, at_footer, at_slot}
-use Rattle.dn_model.specs.Disk.{Disk, DiskSays, of_head, of_inodes, of_logs, of_chains, of_pointers, of_pages, at_magic, at_version, at_pages, at_inodes, at_gate, at_state, at_cut}
+use Rattle.dn_model.specs.Disk.{
+  Disk,
+  DiskSays,
+  of_head,
+  of_inodes,
+  of_logs,
+  of_chains,
+  of_pointers,
+  of_pages,
+  at_magic,
+  at_version,
+  at_pages,
+  at_inodes,
+  at_gate,
+  at_state,
+  at_cut,
+}
 use Rattle.dn_model.specs.Valid.{IsLog, IsValid}
 use Rattle.dn_model.specs.Image.{StandsFor}
 use Rattle.dn_model.proofs.Regions.{inode_word_low}
@@ -32,9 +48,19 @@ module _ (d : Disk) (valid : IsValid d) (n : ℕ) (size : n ≡ 512 * d.geometry
   log_in : (ino : ℕ) (log : Log) → ino < k.inodes → IsLog k ino log → (a v : ℕ) → LogSays ino log a v → a < n
   log_in ino log lt is a v (at_tail place value) = omega (arith, place, inode_in ino 2 lt (omega arith))
   log_in ino log lt is a v (at_head some place value) = omega (arith, place, inode_in ino 1 lt (omega arith))
-  log_in ino log lt is a v (at_footer i more place value) = omega (arith, place, page_in (slice_index log.pages i) 504 (is.paged.in_data i (omega (arith, more))) (omega arith))
+  log_in ino log lt is a v (at_footer i more place value) = omega (
+    arith,
+    place,
+    page_in (slice_index log.pages i) 504
+        (is.paged.in_data i (omega (arith, more))) (omega arith),
+  )
   log_in ino log lt is a v (at_slot i j below word place value) =
-      omega (arith, place, page_in (slice_index log.pages (i / 63)) (8 * (i % 63) + j) (is.paged.in_data (i / 63) (omega (arith, is.paged.fits, below))) (omega (arith, word)))
+      omega (
+        arith,
+        place,
+        page_in (slice_index log.pages (i / 63)) (8 * (i % 63) + j)
+            (is.paged.in_data (i / 63) (omega (arith, is.paged.fits, below))) (omega (arith, word)),
+      )
 
   pub said_in : (a v : ℕ) → DiskSays d a v → a < n
   said_in a v (of_head (at_magic place value)) = omega (arith, place, size, valid.accepted.pages)
@@ -50,7 +76,8 @@ module _ (d : Disk) (valid : IsValid d) (n : ℕ) (size : n ≡ 512 * d.geometry
   said_in a v (of_pages told) = omega (arith, told.place, page_in told.page told.k (read_in_data d valid told.page told.read) told.in_page)
 
 -- what is read, with no store undecided, stands
-pub still_stands : (d : Disk) → IsValid d → (s : State) → length s.now ≡ 512 * d.geometry.pages → Reads (DiskSays d) s.now → Still s → Stands (DiskSays d) s
+pub still_stands : (d : Disk) → IsValid d → (s : State) → length s.now ≡ 512 * d.geometry.pages → Reads (DiskSays d) s.now → Still s
+    → Stands (DiskSays d) s
 still_stands d valid s size reads still = record {
   within = λ a v told. said_in d valid (length s.now) size a v told;
   reads = reads;
@@ -84,7 +111,8 @@ module _ (inodes : ℕ) (w c : List ℕ) (gate : IsGate inodes w) (has : HasGate
   gate_kept = ⊎_elim gate_same gate_shut has.gate
 
 module _ (g : Geometry) (s u : State) (long : length u.now ≡ length s.now) (d : Disk) (same : d.geometry ≡ g) (stood : StandsFor s.now d) where
-  pub undo_images : Agree u.now u.past → LeavesOnly s u (λ c. rolled c ≡ rolled s.now) → LeavesOnly s u (HasGateOf s.now) → LeavesOnly s u (λ c. StandsFor c d)
+  pub undo_images : Agree u.now u.past → LeavesOnly s u (λ c. rolled c ≡ rolled s.now) → LeavesOnly s u (HasGateOf s.now)
+      → LeavesOnly s u (λ c. StandsFor c d)
   undo_images agree rolls gates = record {
     extends = rolls.extends;
     each = λ m c late left. record {

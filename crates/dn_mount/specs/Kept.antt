@@ -14,8 +14,10 @@ pub record KeepsFiles (print : Print) (d e : Disk) : Type 0 where
   pub same : IsSameFiles (files e) (files d)
   pub own : IsOwn print d → IsOwn print e
 
--- any number of events: the volume agrees with a disk that has the files of before, as has each image on the way
-pub record StaysOn {D F : Type 0} (state : D → State) (print : Print) (v v' : Volume D F) (d : Disk) : Type 0 where
+-- any number of events: the volume agrees with a disk that has the files of before, as has each
+-- image on the way
+pub record StaysOn {D F : Type 0} (state : D → State) (print : Print) (v v' : Volume D F)
+    (d : Disk) : Type 0 where
   pub after : Disk
   pub volume : IsVolume after v'.parts (state v'.device)
   pub keeps : KeepsFiles print d after

@@ -47,7 +47,9 @@ pub record IsScanOf (d : Disk) (scan : Scan) (s : State) : Type 0 where
   pub free : AreFreePages d scan.free
   pub names : AreNamesOf d scan.names.map
   pub inodes : AreInodesOf d scan.inodes.items
-  pub unheld : (ino : ℕ) (n : InodeState) → slice_get scan.inodes.items ino ≡ Some n → n.holder ≡ None
+  pub unheld : (ino : ℕ) (n : InodeState) → slice_get scan.inodes.items ino ≡ Some n
+      → n.holder ≡ None
   pub table : AreSlotsOf d scan.fact
-  pub waits : (ino idx : ℕ) (m : Mapping) → LivePlace d ino idx m → (m.flag ≡ Complete → ⊥) → Waits scan.work.items scan.inodes.items ino m.slot
+  pub waits : (ino idx : ℕ) (m : Mapping) → LivePlace d ino idx m → (m.flag ≡ Complete → ⊥)
+      → Waits scan.work.items scan.inodes.items ino m.slot
   pub waiting : scan.waiting ≡ total d.geometry.inodes (dying_units d)

@@ -25,8 +25,10 @@ pub fn undo<D: Pm>(device: &mut D, g: &Geometry) -> Result<(), Failed>
     requires gate { IsGate g.now.inodes (D.state device.old).now }
     requires still { Still (D.state device.old) }
     requires room { 12 ≤ (D.state device.old).spare }
-    ensures images { (d : Disk) → d.geometry ≡ g.now → StandsFor (D.state device.old).now d → LeavesOnly (D.state device.old) (D.state device.new) (λ c. StandsFor c d) }
-    ensures stands { OnOk result ((d : Disk) → d.geometry ≡ g.now → StandsFor (D.state device.old).now d → Stands (DiskSays d) (D.state device.new)) }
+    ensures images { (d : Disk) → d.geometry ≡ g.now → StandsFor (D.state device.old).now d
+        → LeavesOnly (D.state device.old) (D.state device.new) (λ c. StandsFor c d) }
+    ensures stands { OnOk result ((d : Disk) → d.geometry ≡ g.now
+        → StandsFor (D.state device.old).now d → Stands (DiskSays d) (D.state device.new)) }
     ensures rolled { OnOk result ((D.state device.new).now ≡ rolled (D.state device.old).now) }
     ensures still { OnOk result (Still (D.state device.new)) }
     ensures spare { (D.state device.old).spare ≤ (D.state device.new).spare + 12 }

@@ -9,7 +9,8 @@ use Rattle.dn_model.specs.Own.{Print, IsOwn}
 use Rattle.dn_volume.specs.Events.{IsBetween}
 
 -- images of the one disk or of the other are between them
-pub old_or_new : (print : Print) (d e : Disk) (s t : State) → (IsOwn print d → IsOwn print e) → LeavesOnly s t (λ c. StandsFor c d ⊎ StandsFor c e) → LeavesOnly s t (IsBetween print d e)
+pub old_or_new : (print : Print) (d e : Disk) (s t : State) → (IsOwn print d → IsOwn print e) → LeavesOnly s t (λ c. StandsFor c d ⊎ StandsFor c e)
+    → LeavesOnly s t (IsBetween print d e)
 old_or_new print d e s t own leaves = leaves_only-weaken s t _ _ between leaves
   where
     between : (c : List ℕ) → StandsFor c d ⊎ StandsFor c e → IsBetween print d e c

@@ -19,14 +19,17 @@ use Rattle.dn_volume.specs.Rely.{LeavesRest, IsWordOf}
 use Rattle.dn_volume.proofs.Owned.{page_out}
 use Rattle.dn_volume.proofs.Stays.{log_same, node_same, bytes_same, plans_same, needed_same}
 
-module _ (who q : ℕ) (inodes pages : List ℕ) (d e : Disk) (s t : State) (f : Flight) (other : q ≢ who) (valid : IsValid d) (long : length s.now ≡ 512 * d.geometry.pages) (leaves : LeavesRest who inodes pages d e s t)
+module _ (who q : ℕ) (inodes pages : List ℕ) (d e : Disk) (s t : State) (f : Flight) (other : q ≢ who) (valid : IsValid d)
+    (long : length s.now ≡ 512 * d.geometry.pages) (leaves : LeavesRest who inodes pages d e s t)
     (out : (i : ℕ) → Contains f.held.items i → Contains inodes i → ⊥) (out_pages : (page : ℕ) → Contains (taken_by f) page → Contains pages page → ⊥)
     (unused : (page : ℕ) → Contains (taken_by f) page → IsUnused d page) where
   -- a page that it has taken keeps its words, flushed as they are
   pub filled_same : (page : ℕ) (byte : ℕ → ℕ) → Contains (taken_by f) page → IsFilledBy q s page byte → IsFilledBy q t page byte
   filled_same page byte taken is = record {
-    bytes_are = λ k lt. ap (λ (v : ℕ). word_byte v (k % 8)) (leaves.only.read (512 * page + k / 8) (kept (512 * page + k / 8) (omega arith, omega (arith, lt)))) ∙ is.bytes_are k lt;
-    flushed = λ k lt. leaves.others q (512 * page + k) other (kept (512 * page + k) (omega arith, omega (arith, lt))) (omega (arith, long, lt, (unused page taken).free.data_page.high)) (is.flushed k lt);
+    bytes_are = λ k lt. ap (λ (v : ℕ). word_byte v (k % 8))
+        (leaves.only.read (512 * page + k / 8) (kept (512 * page + k / 8) (omega arith, omega (arith, lt)))) ∙ is.bytes_are k lt;
+    flushed = λ k lt. leaves.others q (512 * page + k) other (kept (512 * page + k) (omega arith, omega (arith, lt)))
+        (omega (arith, long, lt, (unused page taken).free.data_page.high)) (is.flushed k lt);
   }
     where
       kept : (a : ℕ) → IsInPage page a → IsWordOf inodes pages d a → ⊥
@@ -48,7 +51,8 @@ module _ (who q : ℕ) (inodes pages : List ℕ) (d e : Disk) (s t : State) (f :
         undying = λ i cut held dying. is.undying i cut held (sym (ap (λ (n : Inode). n.use_of) (leaves.rest.inode i (out i held))) ∙ dying);
       }
 
-  pub data_stays : (c : DataChange) → ((i : ℕ) → i < length c.blocks.items → Contains (taken_by f) (slice_index c.blocks.items i)) → IsDataFlight d q f c s → IsDataFlight e q f c t
+  pub data_stays : (c : DataChange) → ((i : ℕ) → i < length c.blocks.items → Contains (taken_by f) (slice_index c.blocks.items i))
+      → IsDataFlight d q f c s → IsDataFlight e q f c t
   data_stays c among is =
       let here = out f.ino is.grows.holds in
       let in_table = is.grows.in_table in

@@ -25,4 +25,5 @@ hit_one page (Some m) = by_test (m.block == page)
 
 pub mappings_few : (d : Disk) (page : ℕ) → mappings d page ≤ d.geometry.inodes * 4096
 unfolding mappings
-mappings_few d page = total_of (λ ino. total 4096 (λ idx. hit page (maps d ino idx))) d.geometry.inodes (λ ino. total_by (λ idx. hit page (maps d ino idx)) 4096 (λ idx. hit_one page (maps d ino idx)))
+mappings_few d page = total_of (λ ino. total 4096 (λ idx. hit page (maps d ino idx))) d.geometry.inodes
+    (λ ino. total_by (λ idx. hit page (maps d ino idx)) 4096 (λ idx. hit_one page (maps d ino idx)))

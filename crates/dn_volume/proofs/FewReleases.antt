@@ -44,9 +44,11 @@ module _ (d : Disk) (b : Parts) (s : State) (v : IsVolume d b s) where
     where
       planned : (c : DataChange) → length c.blocks.items ≤ 17 → (op : Op) → PlansData d f c op → length f.rows.items ≤ 4096
       planned c few (Create name) is = absurd is
-      planned c few (Write name at text) is = let long : length f.rows.items ≡ length (row_slots d f.ino c.first (length c.blocks.items)) = ap (λ (xs : List ℕ). length xs) is.rows in omega (arith, long, row_slots_few d f.ino c.first (length c.blocks.items), few)
+      planned c few (Write name at text) is = let long : length f.rows.items ≡ length (row_slots d f.ino c.first (length c.blocks.items)) = ap
+          (λ (xs : List ℕ). length xs) is.rows in omega (arith, long, row_slots_few d f.ino c.first (length c.blocks.items), few)
       planned c few (Read name at count) is = absurd is
-      planned c few (Cut name to) is = let long = ap (λ (xs : List ℕ). length xs) is.rows in let most = row_slots_few d f.ino (gone_from to c.blocks.items) (4096 - gone_from to c.blocks.items) in omega (arith, long, most)
+      planned c few (Cut name to) is = let long = ap (λ (xs : List ℕ). length xs) is.rows in let most = row_slots_few d f.ino
+          (gone_from to c.blocks.items) (4096 - gone_from to c.blocks.items) in omega (arith, long, most)
       planned c few (Remove name) is = absurd is
       planned c few (Rename from to) is = absurd is
       planned c few (Size name) is = absurd is
@@ -69,7 +71,8 @@ module _ (d : Disk) (b : Parts) (s : State) (v : IsVolume d b s) where
   -- where a client has none in flight, the others have at most so many
   pub others_few : (k : ℕ) → k < 14 → flight_at b.flights.items k ≡ None → owed_sum b (λ room. room.releases) ≤ 13 * 4096
   others_few k lt none =
-      let moved = total-change owed_at (λ j. if j == k then 4096 else owed_at j) 14 k lt (λ j ne. ap (λ (t : Bool). if t then 4096 else owed_at j) (other_test j k ne)) in
+      let moved = total-change owed_at (λ j. if j == k then 4096 else owed_at j) 14 k lt (λ j ne. ap (λ (t : Bool). if t then 4096 else owed_at j)
+      (other_test j k ne)) in
       let here : (if k == k then 4096 else owed_at k) ≡ 4096 = ap (λ (t : Bool). if t then 4096 else owed_at k) (same_test k k refl) in
       let was : owed_at k ≡ 0 = ap (λ (r : Option Flight). (owed_to r).releases) none in
       let most = total_of (λ j. if j == k then 4096 else owed_at j) 14 each in

@@ -31,25 +31,51 @@ module _ (d : Disk) where
 
   data_granted : (f : Flight) (c : DataChange) (op : Op) → PlansData d f c op → IsGranted (files d) op
   data_granted f c (Create name) plans = absurd plans
-  data_granted f c (Write name at text) plans = record { legal = one_name name plans.legal; finds = found name f.ino plans.leads; short = plans.short; fits = inr plans.fits }
+  data_granted f c (Write name at text) plans = record {
+    legal = one_name name plans.legal;
+    finds = found name f.ino plans.leads;
+    short = plans.short;
+    fits = inr plans.fits;
+  }
   data_granted f c (Read name at count) plans = absurd plans
-  data_granted f c (Cut name to) plans = record { legal = one_name name plans.legal; finds = found name f.ino plans.leads; short = tt; fits = plans.fits }
+  data_granted f c (Cut name to) plans = record {
+    legal = one_name name plans.legal;
+    finds = found name f.ino plans.leads;
+    short = tt;
+    fits = plans.fits;
+  }
   data_granted f c (Remove name) plans = absurd plans
   data_granted f c (Rename from to) plans = absurd plans
   data_granted f c (Size name) plans = absurd plans
   data_granted f c ListAll plans = absurd plans
 
   names_granted : (f : Flight) (change : DiskChange) (op : Op) → PlansNames d f change op → IsGranted (files d) op
-  names_granted f change (Create name) plans = record { legal = one_name name plans.legal; finds = ap (option_map (bytes d)) plans.unnamed; short = tt; fits = tt }
+  names_granted f change (Create name) plans = record {
+    legal = one_name name plans.legal;
+    finds = ap (option_map (bytes d)) plans.unnamed;
+    short = tt;
+    fits = tt;
+  }
   names_granted f change (Write name at text) plans = absurd plans
   names_granted f change (Read name at count) plans = absurd plans
   names_granted f change (Cut name to) plans = absurd plans
-  names_granted f change (Remove name) plans = record { legal = one_name name plans.legal; finds = found name change.ino plans.leads; short = tt; fits = tt }
-  names_granted f change (Rename from to) plans = record { legal = All-cons IsLegal from (to ∷ []) plans.legal_from (one_name to plans.legal_to); finds = found from plans.ino plans.leads; short = tt; fits = tt }
+  names_granted f change (Remove name) plans = record {
+    legal = one_name name plans.legal;
+    finds = found name change.ino plans.leads;
+    short = tt;
+    fits = tt;
+  }
+  names_granted f change (Rename from to) plans = record {
+    legal = All-cons IsLegal from (to ∷ []) plans.legal_from (one_name to plans.legal_to);
+    finds = found from plans.ino plans.leads;
+    short = tt;
+    fits = tt;
+  }
   names_granted f change (Size name) plans = absurd plans
   names_granted f change ListAll plans = absurd plans
 
-  granted_by : (who : ℕ) (f : Flight) (s : State) (c : Change) → IsFlightOf d who f s c → IsGranted (files d) f.op × (length (taken_by f) ≡ needed d f.op)
+  granted_by : (who : ℕ) (f : Flight) (s : State) (c : Change) → IsFlightOf d who f s c
+      → IsGranted (files d) f.op × (length (taken_by f) ≡ needed d f.op)
   granted_by who f s (Data c) is = (data_granted f c f.op is.plans, is.grows.takes)
   granted_by who f s (Names c) is = (names_granted f is.change f.op is.plans, is.grows.takes)
 

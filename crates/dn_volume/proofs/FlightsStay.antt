@@ -17,5 +17,6 @@ flights_stay who q inodes pages d e s t f other valid long leaves unused_pages o
     by_change (Data c) same is =
         data_stays who q inodes pages d e s t f other valid long leaves out out_pages unused c (λ i lt.
         subst (λ (change : Change). Contains (f.fresh.items ++ f.spare.items ++ blocks_of change) (slice_index c.blocks.items i)) (sym same)
-        (Contains-append_right (f.fresh.items ++ f.spare.items) c.blocks.items (slice_index c.blocks.items i) (Contains-get_or c.blocks.items i 0 lt))) is
+        (Contains-append_right (f.fresh.items ++ f.spare.items) c.blocks.items (slice_index c.blocks.items i)
+        (Contains-get_or c.blocks.items i 0 lt))) is
     by_change (Names c) same is = names_stay who q inodes pages d e s t f other valid long leaves unused_pages out out_pages unused c is

@@ -1,5 +1,29 @@
 -- A volume that was just mounted from an image without files agrees with it.
-use Rattle.std.proofs.Common.{◌≡◌, ◌≢◌, inl, ℕ, zero, suc, ◌+◌, ◌-◌, ◌<◌, ◌≤◌, List, [], ◌∷◌, length, refl, sym, ◌∙◌, ap, subst, arith, Option, Some, None}
+use Rattle.std.proofs.Common.{
+  ◌≡◌,
+  ◌≢◌,
+  inl,
+  ℕ,
+  zero,
+  suc,
+  ◌+◌,
+  ◌-◌,
+  ◌<◌,
+  ◌≤◌,
+  List,
+  [],
+  ◌∷◌,
+  length,
+  refl,
+  sym,
+  ◌∙◌,
+  ap,
+  subst,
+  arith,
+  Option,
+  Some,
+  None,
+}
 use Rattle.std.specs.Prelude.{IsNone, All, Contains, slice_get}
 use Rattle.std.specs.Option.{option_map}
 use Rattle.std.proofs.lemmas.List.Elements.{All-nil}
@@ -46,7 +70,7 @@ module _ (g : Geometry) where
   maps-empty zero idx = refl
   maps-empty (suc k) idx = refl
 
-  named-empty : (name : List ℕ) → named d name ≡ None
+  pub named-empty : (name : List ℕ) → named d name ≡ None
   unfolding named
   named-empty name = refl
 
@@ -62,7 +86,7 @@ module _ (g : Geometry) where
   unfolding rows
   rows-empty = none_from 0 (directs g)
 
-  no_row_in : (row : Row) → Contains (rows d) row → ⊥
+  pub no_row_in : (row : Row) → Contains (rows d) row → ⊥
   no_row_in row has = let none = subst (λ (rs : List Row). Contains rs row) rows-empty has in omega (arith, none.1)
 
   no_row : (page : ℕ) → IsNone (row_of (rows d) page)
@@ -90,7 +114,7 @@ module _ (g : Geometry) where
   no_size zero = refl
   no_size (suc k) = refl
 
-  no_units : (ino : ℕ) → dying_units d ino ≡ 0
+  pub no_units : (ino : ℕ) → dying_units d ino ≡ 0
   no_units zero = refl
   no_units (suc k) = refl
 
@@ -103,14 +127,14 @@ two_members (x ∷ []) p q apart (zero, lt, is) (suc k, lt', is') = omega (arith
 two_members (x ∷ y ∷ xs) p q apart has other = omega arith
 
 module _ (g : Geometry) (b : Parts) (s : State) (fresh : IsFresh g b) (fast : StandsFast (empty_disk g) g s) where
-  none_at : (k : ℕ) → flight_at b.flights.items k ≡ None
+  pub none_at : (k : ℕ) → flight_at b.flights.items k ≡ None
   none_at k = by (slice_get b.flights.items k) refl
     where
       by : (r : Option (Option Flight)) → slice_get b.flights.items k ≡ r → opened r ≡ None
       by None at = refl
       by (Some x) at = fresh.idle k x at
 
-  none_flies : (who : ℕ) (f : Flight) → Flies b who f → ⊥
+  pub none_flies : (who : ℕ) (f : Flight) → Flies b who f → ⊥
   none_flies who f flies = let none = none_at (who - 1) in let some = flies.is in cc
 
   holds_none : (who ino : ℕ) → Holds b who ino → ⊥
@@ -128,7 +152,8 @@ module _ (g : Geometry) (b : Parts) (s : State) (fresh : IsFresh g b) (fast : St
 
   none_raised : (slot : ℕ) → raised b slot ≡ 0
   none_raised slot =
-      let flights = total-zero (λ k. times slot (raised_by (flight_at b.flights.items k))) 14 (λ k lt. ap (λ r. times slot (raised_by r)) (none_at k)) in
+      let flights = total-zero (λ k. times slot (raised_by (flight_at b.flights.items k))) 14 (λ k lt. ap (λ r. times slot (raised_by r)) (none_at k))
+      in
       let shared : times slot (raised_to_share b.sharing) ≡ 0 = ap (λ r. times slot (raised_to_share r)) fresh.sharing in
       let died : times slot (raised_to_die b.reclaiming.raised) ≡ 0 = ap (λ r. times slot (raised_to_die r)) fresh.raised in
       omega (arith, flights, shared, died)
@@ -220,7 +245,8 @@ module _ (g : Geometry) (b : Parts) (s : State) (fresh : IsFresh g b) (fast : St
       balanced = λ k row lt. absurd (let none = ap length (rows-empty g) in omega (arith, lt, none));
       there = λ slot some. absurd (omega (arith, some, none_raised slot, none_added slot, none_dropped slot));
       zero_checked = λ row has. absurd (no_row_in g row has);
-      few = let none = ap length fresh.releases in let owes = nothing_owed (λ room. room.releases) refl in let up = ap one_if fresh.raised in omega (arith, none, owes, up);
+      few = let none = ap length fresh.releases in let owes = nothing_owed (λ room. room.releases) refl in let up = ap one_if fresh.raised in
+          omega (arith, none, owes, up);
     };
     flights = record { clients = fresh.clients; each = λ who f flies. absurd (none_flies who f flies) };
     queue = record { waits = λ ino idx m place. absurd (live_place g ino idx m place) };
@@ -228,16 +254,19 @@ module _ (g : Geometry) (b : Parts) (s : State) (fresh : IsFresh g b) (fast : St
     reclaiming = record {
       waiting =
           let units = total-zero (dying_units e) g.inodes (λ ino lt. no_units g ino) in
-          let none = ap length fresh.releases in let zero' = ap one_if fresh.zero_check in let raised' = ap one_if fresh.raised in let waits = fresh.waiting in omega (arith, units, none, zero', raised', waits);
+          let none = ap length fresh.releases in let zero' = ap one_if fresh.zero_check in let raised' = ap one_if fresh.raised in
+          let waits = fresh.waiting in omega (arith, units, none, zero', raised', waits);
       zero_check = λ slot is. let none = fresh.zero_check in absurd (cc);
       raised = λ p is. let none = fresh.raised in absurd (cc);
     };
     pointers = record { none = λ page lt some none. some refl };
     room = room_is;
-    trace = subst (All (λ (change : CountChange). change.slot < slots b.geometry)) (sym fresh.trace) (All-nil (λ (change : CountChange). change.slot < slots b.geometry));
+    trace = subst (All (λ (change : CountChange). change.slot < slots b.geometry)) (sym fresh.trace)
+        (All-nil (λ (change : CountChange). change.slot < slots b.geometry));
   }
 
-  pub sound : (print : Print) → IsOwn print e → Agree s.now s.past → IsSound print (record { disk = e; start = moment s.past; faults = s.faults }) e b s
+  pub sound : (print : Print) → IsOwn print e → Agree s.now s.past → IsSound print (record { disk = e; start = moment s.past; faults = s.faults }) e b
+      s
   sound print own agree = record {
     own = own;
     legal = subst (λ (h : List Entry). Legal (files e) h (files e)) (sym fresh.history) (λ name. refl);
@@ -255,7 +284,8 @@ module _ (g : Geometry) (b : Parts) (s : State) (fresh : IsFresh g b) (fast : St
   }
     where
       no_entry : (k : ℕ) (entry : Entry) → slice_get b.history.items k ≡ Some entry → ⊥
-      no_entry k entry is = let none : slice_get [] k ≡ Some entry = subst (λ (h : List Entry). slice_get h k ≡ Some entry) fresh.history is in cc none
+      no_entry k entry is = let none : slice_get [] k ≡ Some entry = subst (λ (h : List Entry). slice_get h k ≡ Some entry) fresh.history is in
+          cc none
 
 pub fresh_volumes_agree : FreshVolumesAgree
 fresh_volumes_agree g b s fresh fast still = agrees g b s fresh fast still

@@ -1,5 +1,30 @@
 -- Whether anything stands in the way of an operation.
-use Rattle.std.proofs.Common.{◌≡◌, ◌⊎◌, inl, inr, ⊎_elim, ℕ, suc, ◌+◌, ◌<◌, ◌≤◌, true, false, List, [], ◌∷◌, length, refl, sym, ◌∙◌, ap, arith, Option, Some, None}
+use Rattle.std.proofs.Common.{
+  ◌≡◌,
+  ◌⊎◌,
+  inl,
+  inr,
+  ⊎_elim,
+  ℕ,
+  suc,
+  ◌+◌,
+  ◌<◌,
+  ◌≤◌,
+  true,
+  false,
+  List,
+  [],
+  ◌∷◌,
+  length,
+  refl,
+  sym,
+  ◌∙◌,
+  ap,
+  arith,
+  Option,
+  Some,
+  None,
+}
 use Rattle.std.specs.Prelude.{All, IsSome}
 use Rattle.std.proofs.lemmas.Bool.{cases_lt, cases_eq, cases_Bool}
 use Rattle.std.proofs.lemmas.List.Elements.{All-nil, All-cons}
@@ -43,15 +68,18 @@ byte_or_not b = by (le_or_not 33 b) (lt_or_not b 256) (not_that _ (cases_eq b 12
     by (inl a) (inl c) (inl e) (inr f) = inr (λ is. f is.not_slash)
 
 apart_or_not : (x y : List ℕ) → Decides (x ≡ y)
-apart_or_not x y = ⊎_elim (λ same. inl (same_name-true x y same)) (λ other. inr (λ is. clash (same_name x y) other (ap (same_name x) (sym is) ∙ same_name-same x))) (cases_Bool (same_name x y))
+apart_or_not x y = ⊎_elim (λ same. inl (same_name-true x y same))
+    (λ other. inr (λ is. clash (same_name x y) other (ap (same_name x) (sym is) ∙ same_name-same x))) (cases_Bool (same_name x y))
   where
     clash : (b : _) → b ≡ false → b ≡ true → ⊥
     clash b low high = cc
 
 legal_or_not : (name : List ℕ) → Decides (IsLegal name)
-legal_or_not name = by (le_or_not 1 (length name)) (le_or_not (length name) 255) (all_or_not IsNameByte byte_or_not name) (not_that _ (apart_or_not name (46 ∷ []))) (not_that _ (apart_or_not name (46 ∷ 46 ∷ [])))
+legal_or_not name = by (le_or_not 1 (length name)) (le_or_not (length name) 255) (all_or_not IsNameByte byte_or_not name)
+    (not_that _ (apart_or_not name (46 ∷ []))) (not_that _ (apart_or_not name (46 ∷ 46 ∷ [])))
   where
-    by : Decides (1 ≤ length name) → Decides (length name ≤ 255) → Decides (All IsNameByte name) → Decides (name ≡ 46 ∷ [] → ⊥) → Decides (name ≡ 46 ∷ 46 ∷ [] → ⊥) → Decides (IsLegal name)
+    by : Decides (1 ≤ length name) → Decides (length name ≤ 255) → Decides (All IsNameByte name) → Decides (name ≡ 46 ∷ [] → ⊥)
+        → Decides (name ≡ 46 ∷ 46 ∷ [] → ⊥) → Decides (IsLegal name)
     by (inl a) (inl c) (inl e) (inl f) (inl g) = inl (record { some = a; few = c; bytes = e; not_dot = f; not_dots = g })
     by (inr a) c e f g = inr (λ is. a is.some)
     by (inl a) (inr c) e f g = inr (λ is. c is.few)

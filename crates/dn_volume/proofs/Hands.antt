@@ -59,7 +59,8 @@ module _ (d : Disk) (chain : ℕ → List Row) (pointer : ℕ → ℕ) where
       in_table = λ ino who holds. is.in_table ino who (hands.held who ino holds);
     }
 
-    pub space_stays : b'.free ≡ b.free → ((page : ℕ) → IsUnused d page → IsUnused new page) → ((page : ℕ) → IsUnused new page → IsUnused d page) → HasSpace d b → HasSpace new b'
+    pub space_stays : b'.free ≡ b.free → ((page : ℕ) → IsUnused d page → IsUnused new page) → ((page : ℕ) → IsUnused new page → IsUnused d page)
+        → HasSpace d b → HasSpace new b'
     space_stays same kept only is = record {
       pages = ap (λ (x : FreePages). x.pages) same ∙ is.pages;
       in_order = subst IsInOrder (sym same) is.in_order;
@@ -75,7 +76,9 @@ module _ (d : Disk) (chain : ℕ → List Row) (pointer : ℕ → ℕ) where
 
     pub queue_stays : IsQueued d b → IsQueued new b'
     queue_stays is = record {
-      waits = λ ino idx m place undone. hands.waits ino m.slot (is.waits ino idx m (record { in_table = place.in_table; live = place.live; maps = sym (maps_same d chain pointer ino idx) ∙ place.maps }) undone);
+      waits = λ ino idx m place undone. hands.waits ino m.slot
+          (is.waits ino idx m (record { in_table = place.in_table; live = place.live; maps = sym (maps_same d chain pointer ino idx) ∙ place.maps })
+          undone);
     }
 
   -- the places of dying inodes

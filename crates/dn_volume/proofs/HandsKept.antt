@@ -20,7 +20,10 @@ module _ (b b' : Parts) (flights : b'.flights.items ≡ b.flights.items) where
   flies_still who f flies = record { client = flies.client; is = ap (λ (fs : List (Option Flight)). flight_at fs (who - 1)) flights ∙ flies.is }
 
   pub flies_before : (who : ℕ) (f : Flight) → Flies b' who f → Flies b who f
-  flies_before who f flies = record { client = flies.client; is = ap (λ (fs : List (Option Flight)). flight_at fs (who - 1)) (sym flights) ∙ flies.is }
+  flies_before who f flies = record {
+    client = flies.client;
+    is = ap (λ (fs : List (Option Flight)). flight_at fs (who - 1)) (sym flights) ∙ flies.is;
+  }
 
   pub owed_same : (kind : Room → ℕ) → owed_sum b' kind ≡ owed_sum b kind
   owed_same kind = ap (λ (fs : List (Option Flight)). total 14 (λ k. kind (owed_to (flight_at fs k)))) flights
@@ -43,7 +46,8 @@ module _ (b b' : Parts) (flights : b'.flights.items ≡ b.flights.items) where
     module _ (inodes : b'.inodes.items ≡ b.inodes.items) (queue : b'.queue.items ≡ b.queue.items) where
       waits_still : (ino slot : ℕ) → IsWaiting b ino slot → IsWaiting b' ino slot
       waits_still ino slot (in_queue work n has of_ino of_slot at round) =
-          in_queue work n (subst (λ (ws : List Work). Contains ws work) (sym queue) has) of_ino of_slot (ap (λ (ns : List InodeState). slice_get ns ino) inodes ∙ at) round
+          in_queue work n (subst (λ (ws : List Work). Contains ws work) (sym queue) has) of_ino of_slot
+          (ap (λ (ns : List InodeState). slice_get ns ino) inodes ∙ at) round
       waits_still ino slot (is_begun item is of_ino of_slot) = is_begun item (sharing ∙ is) of_ino of_slot
 
       pub hands_same : SameHands b b'
@@ -59,6 +63,8 @@ module _ (b b' : Parts) (flights : b'.flights.items ≡ b.flights.items) where
     raised_same dying slot =
         let flown : total 14 (λ k. times slot (raised_by (flight_at b'.flights.items k))) ≡ total 14 (λ k. times slot (raised_by (flight_at b.flights.items k))) =
         ap (λ (fs : List (Option Flight)). total 14 (λ k. times slot (raised_by (flight_at fs k)))) flights in
-        let shared : times slot (raised_to_share b'.sharing) ≡ times slot (raised_to_share b.sharing) = ap (λ (x : Option Sharing). times slot (raised_to_share x)) sharing in
-        let died : times slot (raised_to_die b'.reclaiming.raised) ≡ times slot (raised_to_die b.reclaiming.raised) = ap (λ (x : Option DyingPlace). times slot (raised_to_die x)) dying in
+        let shared : times slot (raised_to_share b'.sharing) ≡ times slot (raised_to_share b.sharing) = ap
+        (λ (x : Option Sharing). times slot (raised_to_share x)) sharing in
+        let died : times slot (raised_to_die b'.reclaiming.raised) ≡ times slot (raised_to_die b.reclaiming.raised) = ap
+        (λ (x : Option DyingPlace). times slot (raised_to_die x)) dying in
         omega (arith, flown, shared, died)

@@ -1,6 +1,40 @@
 -- Where nothing waits, the free pages of the disk are those that are kept as free, those that operations in flight have
 -- taken, and at most one that the daemon has raised.
-use Rattle.std.proofs.Common.{◌≡◌, ◌≢◌, ◌⊎◌, inl, inr, ⊎_elim, ℕ, zero, suc, ◌+◌, ◌-◌, ◌/◌, ◌<◌, ◌≤◌, Bool, true, false, List, [], ◌∷◌, ◌++◌, length, take, refl, sym, ◌∙◌, ap, subst, arith, Option, Some, None, length-append}
+use Rattle.std.proofs.Common.{
+  ◌≡◌,
+  ◌≢◌,
+  ◌⊎◌,
+  inl,
+  inr,
+  ⊎_elim,
+  ℕ,
+  zero,
+  suc,
+  ◌+◌,
+  ◌-◌,
+  ◌/◌,
+  ◌<◌,
+  ◌≤◌,
+  Bool,
+  true,
+  false,
+  List,
+  [],
+  ◌∷◌,
+  ◌++◌,
+  length,
+  take,
+  refl,
+  sym,
+  ◌∙◌,
+  ap,
+  subst,
+  arith,
+  Option,
+  Some,
+  None,
+  length-append,
+}
 use Rattle.std.specs.Prelude.{All, AllPairs, Contains, IsSome, IsNone, get_or, slice_get, if◌then◌else◌, ◌==◌}
 use Rattle.std.proofs.lemmas.Bool.{cases_eq, cases_lt, ne_eqb, eqb-true}
 use Rattle.std.proofs.lemmas.Bool.Decides.{Decides-eqb}
@@ -50,8 +84,13 @@ row_of_listed : (rs : List Row) (page : ℕ) (row : Row) → row_of rs page ≡ 
 row_of_listed [] page row is = absurd (cc is)
 row_of_listed (x ∷ rs) page row is = by (x.page == page) refl is (row_of_listed rs page row)
   where
-    by : (t : Bool) → (x.page == page) ≡ t → (if t then Some x else row_of rs page) ≡ Some row → (row_of rs page ≡ Some row → Contains rs row × (row.page ≡ page)) → Contains (x ∷ rs) row × (row.page ≡ page)
-    by true test found rest = let same : x ≡ row = cc found in (subst (Contains (x ∷ rs)) same (here x rs), ap (λ (r : Row). r.page) (sym same) ∙ eqb-true x.page page test)
+    by : (t : Bool) → (x.page == page) ≡ t → (if t then Some x else row_of rs page) ≡ Some row
+        → (row_of rs page ≡ Some row → Contains rs row × (row.page ≡ page)) → Contains (x ∷ rs) row × (row.page ≡ page)
+    by true test found rest = let same : x ≡ row = cc found in (
+      subst (Contains (x ∷ rs)) same (here x rs),
+      ap (λ (r : Row). r.page) (sym same) ∙
+          eqb-true x.page page test,
+    )
     by false test found rest = let more = rest found in (later x row rs more.0, more.1)
 
 -- what stands in a list
@@ -71,7 +110,8 @@ times_listed slot (x ∷ xs) some = ⊎_elim
 take_listed : (n : ℕ) (xs : List ℕ) (x : ℕ) → Contains (take n xs) x → Contains xs x
 take_listed zero xs x has = absurd (none_listed x has)
 take_listed (suc n) [] x has = absurd (none_listed x has)
-take_listed (suc n) (y ∷ xs) x has = ⊎_elim (λ same. subst (Contains (y ∷ xs)) same (here y xs)) (λ rest. later y x xs (take_listed n xs x rest)) (cons_cases y x (take n xs) has)
+take_listed (suc n) (y ∷ xs) x has = ⊎_elim (λ same. subst (Contains (y ∷ xs)) same (here y xs)) (λ rest. later y x xs (take_listed n xs x rest))
+    (cons_cases y x (take n xs) has)
 
 -- the pages that operations have taken
 abbrev taken_at : Option Flight → List ℕ
@@ -89,13 +129,16 @@ count_from b k (suc n) = length (taken_at (flight_at b.flights.items k)) + count
 
 all_length : (b : Parts) (k n : ℕ) → length (all_from b k n) ≡ count_from b k n
 all_length b k zero = refl
-all_length b k (suc n) = let rest = all_length b (k + 1) n in length-append (taken_at (flight_at b.flights.items k)) (all_from b (k + 1) n) ∙ ap (λ (m : ℕ). length (taken_at (flight_at b.flights.items k)) + m) rest
+all_length b k (suc n) = let rest = all_length b (k + 1) n in length-append (taken_at (flight_at b.flights.items k)) (all_from b (k + 1) n) ∙ ap
+    (λ (m : ℕ). length (taken_at (flight_at b.flights.items k)) + m) rest
 
 in_taken : (b : Parts) (k n j page : ℕ) → k ≤ j → j < k + n → Contains (taken_at (flight_at b.flights.items j)) page → Contains (all_from b k n) page
 in_taken b k zero j page le lt has = absurd (omega (arith, le, lt))
 in_taken b k (suc n) j page le lt has = ⊎_elim
-    (λ same. Contains-append_left (taken_at (flight_at b.flights.items k)) (all_from b (k + 1) n) page (subst (λ (i : ℕ). Contains (taken_at (flight_at b.flights.items i)) page) same has))
-    (λ other. Contains-append_right (taken_at (flight_at b.flights.items k)) (all_from b (k + 1) n) page (in_taken b (k + 1) n j page (omega (arith, le, other)) (omega (arith, lt)) has)) (cases_eq j k)
+    (λ same. Contains-append_left (taken_at (flight_at b.flights.items k)) (all_from b (k + 1) n) page
+    (subst (λ (i : ℕ). Contains (taken_at (flight_at b.flights.items i)) page) same has))
+    (λ other. Contains-append_right (taken_at (flight_at b.flights.items k)) (all_from b (k + 1) n) page
+    (in_taken b (k + 1) n j page (omega (arith, le, other)) (omega (arith, lt)) has)) (cases_eq j k)
 
 -- what they do, as scripts
 abbrev ops_at : Option Flight → List Op
@@ -112,8 +155,10 @@ scripts_length b k (suc n) = ap suc (scripts_length b (k + 1) n)
 
 script_at : (b : Parts) (k n i : ℕ) (ops : List Op) → slice_get (scripts_from b k n) i ≡ Some ops → ops ≡ ops_at (flight_at b.flights.items (k + i))
 script_at b k zero i ops is = absurd (cc is)
-script_at b k (suc n) zero ops is = let same : ops_at (flight_at b.flights.items k) ≡ ops = cc is in let e : k ≡ k + 0 = omega arith in sym same ∙ ap (λ (j : ℕ). ops_at (flight_at b.flights.items j)) e
-script_at b k (suc n) (suc i) ops is = let e : k + 1 + i ≡ k + suc i = omega arith in script_at b (k + 1) n i ops is ∙ ap (λ (j : ℕ). ops_at (flight_at b.flights.items j)) e
+script_at b k (suc n) zero ops is = let same : ops_at (flight_at b.flights.items k) ≡ ops = cc is in let e : k ≡ k + 0 = omega arith in
+    sym same ∙ ap (λ (j : ℕ). ops_at (flight_at b.flights.items j)) e
+script_at b k (suc n) (suc i) ops is = let e : k + 1 + i ≡ k + suc i = omega arith in script_at b (k + 1) n i ops is ∙ ap
+    (λ (j : ℕ). ops_at (flight_at b.flights.items j)) e
 
 module _ (d : Disk) (b : Parts) (s : State) (volume : IsVolume d b s) (none_waits : b.reclaiming.waiting ≡ 0) where
   -- rows at one slot are one
@@ -133,26 +178,45 @@ module _ (d : Disk) (b : Parts) (s : State) (volume : IsVolume d b s) (none_wait
       both o one other = cc
 
   -- a slot of the rows of places is that of a mapped page
-  slots_mapped : (ino n from slot : ℕ) → ino < d.geometry.inodes → Contains (row_slots d ino from n) slot → (row : Row) × Contains (rows d) row × (row.slot ≡ slot) × IsMapped d row.page
+  slots_mapped : (ino n from slot : ℕ) → ino < d.geometry.inodes → Contains (row_slots d ino from n) slot → (row : Row) × Contains (rows d)
+      row × (row.slot ≡ slot) × IsMapped d row.page
   unfolding row_slots
   slots_mapped ino zero from slot lt has = absurd (none_listed slot has)
-  slots_mapped ino (suc n) from slot lt has = ⊎_elim (λ first. at_place (maps d ino from) refl first) (λ rest. slots_mapped ino n (from + 1) slot lt rest) (Contains-append_cases (slot_of d (maps d ino from)) (row_slots d ino (from + 1) n) slot has)
+  slots_mapped ino (suc n) from slot lt has = ⊎_elim (λ first. at_place (maps d ino from) refl first) (λ rest. slots_mapped ino n (from + 1) slot lt
+      rest) (Contains-append_cases (slot_of d (maps d ino from)) (row_slots d ino (from + 1) n) slot has)
     where
       slot_is : (row : Row) → Contains (row.slot ∷ []) slot → row.slot ≡ slot
       slot_is row first = ⊎_elim (λ same. same) (λ none. absurd (none_listed slot none)) (cons_cases row.slot slot [] first)
 
-      at_row : (m : Mapping) → maps d ino from ≡ Some m → (r : Option Row) → row_of (rows d) m.block ≡ r → Contains (slot_of_row r) slot → (row : Row) × Contains (rows d) row × (row.slot ≡ slot) × IsMapped d row.page
+      at_row : (m : Mapping) → maps d ino from ≡ Some m → (r : Option Row) → row_of (rows d) m.block ≡ r → Contains (slot_of_row r) slot
+          → (row : Row) × Contains (rows d) row × (row.slot ≡ slot) × IsMapped d row.page
       at_row m is None at first = absurd (none_listed slot first)
       at_row m is (Some row) at first =
-          let listed = row_of_listed (rows d) m.block row at in
-          (row, listed.0, slot_is row first, record { ino = ino; idx = from; maps_to = record { in_table = lt; in_file = maps-in_file d volume.fast.valid ino from m lt is; by = m; is = is; block = sym listed.1 } })
+          let listed = row_of_listed (rows d) m.block row at in (
+            row,
+            listed.0,
+            slot_is row first,
+            record {
+              ino = ino;
+              idx = from;
+              maps_to = record {
+                in_table = lt;
+                in_file = maps-in_file d volume.fast.valid ino from m lt is;
+                by = m;
+                is = is;
+                block = sym listed.1;
+              };
+            },
+          )
 
-      at_place : (m : Option Mapping) → maps d ino from ≡ m → Contains (slot_of d m) slot → (row : Row) × Contains (rows d) row × (row.slot ≡ slot) × IsMapped d row.page
+      at_place : (m : Option Mapping) → maps d ino from ≡ m → Contains (slot_of d m) slot → (row : Row) × Contains (rows d) row × (row.slot ≡ slot) ×
+          IsMapped d row.page
       at_place None is first = absurd (none_listed slot first)
       at_place (Some m) is first = at_row m is (row_of (rows d) m.block) refl first
 
   -- the rows that an operation has raised are those of mapped pages
-  data_rows : (f : Flight) (c : DataChange) (op : Op) (slot : ℕ) → f.ino < d.geometry.inodes → PlansData d f c op → Contains f.rows.items slot → (row : Row) × Contains (rows d) row × (row.slot ≡ slot) × IsMapped d row.page
+  data_rows : (f : Flight) (c : DataChange) (op : Op) (slot : ℕ) → f.ino < d.geometry.inodes → PlansData d f c op → Contains f.rows.items slot
+      → (row : Row) × Contains (rows d) row × (row.slot ≡ slot) × IsMapped d row.page
   data_rows f c (Create name) slot lt plans has = absurd plans
   data_rows f c (Write name at text) slot lt plans has = slots_mapped f.ino _ _ slot lt (subst (λ (xs : List ℕ). Contains xs slot) plans.rows has)
   data_rows f c (Read name at count) slot lt plans has = absurd plans
@@ -162,16 +226,19 @@ module _ (d : Disk) (b : Parts) (s : State) (volume : IsVolume d b s) (none_wait
   data_rows f c (Size name) slot lt plans has = absurd plans
   data_rows f c ListAll slot lt plans has = absurd plans
 
-  flight_rows : (who : ℕ) (f : Flight) (slot : ℕ) (c : Change) → IsFlightOf d who f s c → Contains f.rows.items slot → (row : Row) × Contains (rows d) row × (row.slot ≡ slot) × IsMapped d row.page
+  flight_rows : (who : ℕ) (f : Flight) (slot : ℕ) (c : Change) → IsFlightOf d who f s c → Contains f.rows.items slot → (row : Row) × Contains (rows d)
+      row × (row.slot ≡ slot) × IsMapped d row.page
   flight_rows who f slot (Data c) is has = data_rows f c f.op slot is.grows.in_table is.plans has
   flight_rows who f slot (Names c) is has = absurd (none_listed slot (subst (λ (xs : List ℕ). Contains xs slot) is.no_rows has))
 
-  raised_mapped : (k slot : ℕ) (x : Option Flight) → flight_at b.flights.items k ≡ x → 1 ≤ times slot (raised_by x) → (row : Row) × Contains (rows d) row × (row.slot ≡ slot) × IsMapped d row.page
+  raised_mapped : (k slot : ℕ) (x : Option Flight) → flight_at b.flights.items k ≡ x → 1 ≤ times slot (raised_by x) → (row : Row) × Contains (rows d)
+      row × (row.slot ≡ slot) × IsMapped d row.page
   raised_mapped k slot None is some = absurd (omega (arith, some))
   raised_mapped k slot (Some f) is some =
       let less : k + 1 - 1 ≡ k = omega arith in
       let flies : Flies b (k + 1) f = record { client = omega arith; is = ap (flight_at b.flights.items) less ∙ is } in
-      flight_rows (k + 1) f slot f.change (volume.flights.each (k + 1) f flies) (take_listed f.raised f.rows.items slot (times_listed slot (take f.raised f.rows.items) some))
+      flight_rows (k + 1) f slot f.change (volume.flights.each (k + 1) f flies)
+      (take_listed f.raised f.rows.items slot (times_listed slot (take f.raised f.rows.items) some))
 
   -- the row that the daemon has raised, if there is one
   abbrev Shared : Row → Type 0
@@ -184,7 +251,8 @@ module _ (d : Disk) (b : Parts) (s : State) (volume : IsVolume d b s) (none_wait
       by : (step : SharingStep) → 1 ≤ times row.slot (raised_at step) → step ≡ Remap row.slot
       by Look none = absurd (omega (arith, none))
       by (Settle slot) none = absurd (omega (arith, none))
-      by (Remap slot) one = ⊎_elim (λ same. ap Remap same) (λ none. absurd (none_listed row.slot none)) (cons_cases slot row.slot [] (times_listed row.slot (slot ∷ []) one))
+      by (Remap slot) one = ⊎_elim (λ same. ap Remap same) (λ none. absurd (none_listed row.slot none))
+          (cons_cases slot row.slot [] (times_listed row.slot (slot ∷ []) one))
 
   -- a free page with a row is the one that the daemon has raised
   free_row : (page : ℕ) (row : Row) → IsFree d page → Contains (rows d) row → row.page ≡ page → Shared row
@@ -193,7 +261,8 @@ module _ (d : Disk) (b : Parts) (s : State) (volume : IsVolume d b s) (none_wait
       let where_is = total-some (λ k. times row.slot (raised_by (flight_at b.flights.items k))) 14 some in
       let found = raised_mapped where_is.0 row.slot (flight_at b.flights.items where_is.0) refl where_is.2 in
       let same = one_row found.0 row found.1 there found.2 in
-      absurd (let counted = (counts_mappings d page).1 (subst (IsMapped d) (ap (λ (r : Row). r.page) same ∙ at) found.3) in omega (arith, counted, free.unmapped)))
+      absurd (let counted = (counts_mappings d page).1 (subst (IsMapped d) (ap (λ (r : Row). r.page) same ∙ at) found.3) in
+      omega (arith, counted, free.unmapped)))
       (λ few. shared_row row b.sharing refl (left_over few)) (some_or_few (total 14 (λ k. times row.slot (raised_by (flight_at b.flights.items k)))))
     where
       some_or_few : (n : ℕ) → (1 ≤ n) ⊎ (n ≡ 0)
@@ -201,7 +270,8 @@ module _ (d : Disk) (b : Parts) (s : State) (volume : IsVolume d b s) (none_wait
       some_or_few (suc n) = inl (omega arith)
 
       balanced : IsBalanced d row (raised b row.slot) (added b row.slot) (dropped b row.slot)
-      balanced = subst (λ (r : Row). IsBalanced d r (raised b r.slot) (added b r.slot) (dropped b r.slot)) there.2 (volume.counts.balanced there.0 row there.1)
+      balanced = subst (λ (r : Row). IsBalanced d r (raised b r.slot) (added b r.slot) (dropped b r.slot)) there.2
+          (volume.counts.balanced there.0 row there.1)
 
       unmapped : mappings d row.page ≡ 0
       unmapped = ap (mappings d) at ∙ free.unmapped
@@ -223,13 +293,15 @@ module _ (d : Disk) (b : Parts) (s : State) (volume : IsVolume d b s) (none_wait
 
       some_raised : 1 ≤ raised b row.slot
       some_raised = ⊎_elim (λ some. some)
-          (λ none. absurd (not_zero (let r = balanced.references in omega (arith, r, unmapped, nothing_dropped)) (let u = balanced.updates in let r = balanced.references in omega (arith, u, r, none, unmapped, nothing_dropped))))
+          (λ none. absurd (not_zero (let r = balanced.references in omega (arith, r, unmapped, nothing_dropped)) (let u = balanced.updates in
+          let r = balanced.references in omega (arith, u, r, none, unmapped, nothing_dropped))))
           (some_or_few (raised b row.slot))
 
       left_over : total 14 (λ k. times row.slot (raised_by (flight_at b.flights.items k))) ≡ 0 → 1 ≤ times row.slot (raised_to_share b.sharing)
       left_over few =
           let some = some_raised in
-          let died : times row.slot (raised_to_die b.reclaiming.raised) ≡ 0 = ap (λ r. times row.slot (raised_to_die r)) (none_raised d b s volume none_waits) in
+          let died : times row.slot (raised_to_die b.reclaiming.raised) ≡ 0 = ap (λ r. times row.slot (raised_to_die r))
+          (none_raised d b s volume none_waits) in
           omega (arith, some, few, died)
 
   shared_same : (r q : Row) → Contains (rows d) r → Contains (rows d) q → Shared r → Shared q → r ≡ q
@@ -247,11 +319,21 @@ module _ (d : Disk) (b : Parts) (s : State) (volume : IsVolume d b s) (none_wait
       let less : k + 1 - 1 ≡ k = omega arith in
       let flies : Flies b (k + 1) f = record { client = omega arith; is = ap (flight_at b.flights.items) less ∙ is } in
       let granted = flights_granted d (k + 1) f s (volume.flights.each (k + 1) f flies) in
-      inl ((f.op, here f.op [], granted.0, sym granted.1), λ op has also. ⊎_elim (λ same. subst (λ (o : Op). needed d o ≤ length (taken_by f)) same (let e = granted.1 in omega (arith, e))) (λ none. absurd (none_listed op none)) (cons_cases f.op op [] has))
+      inl (
+        (f.op, here f.op [], granted.0, sym granted.1),
+        λ op has also. ⊎_elim (λ same. subst (λ (o : Op). needed d o ≤ length (taken_by f)) same
+            (let e = granted.1 in omega (arith, e))) (λ none. absurd (none_listed op none)) (cons_cases f.op op [] has),
+      )
 
   needs_from : (k n : ℕ) → AreNeeds d (scripts_from b k n) (count_from b k n)
   needs_from k zero = refl
-  needs_from k (suc n) = (length (taken_at (flight_at b.flights.items k)), count_from b (k + 1) n, need_at k (flight_at b.flights.items k) refl, needs_from (k + 1) n, refl)
+  needs_from k (suc n) = (
+    length (taken_at (flight_at b.flights.items k)),
+    count_from b (k + 1) n,
+    need_at k (flight_at b.flights.items k) refl,
+    needs_from (k + 1) n,
+    refl,
+  )
 
   -- the longest log
   used_or_not : (u : Use) → IsUsed u ⊎ (IsUsed u → ⊥)
@@ -260,19 +342,45 @@ module _ (d : Disk) (b : Parts) (s : State) (volume : IsVolume d b s) (none_wait
   used_or_not (Dying cut) = inl tt
 
   abbrev Longest : ℕ → ℕ → Type 0
-  Longest n best = (best < suc n) × IsUsed (d.inode best).use_of × ((i : ℕ) → i < suc n → IsUsed (d.inode i).use_of → length (d.inode i).log.pages ≤ length (d.inode best).log.pages)
+  Longest n best = (best < suc n) × IsUsed (d.inode best).use_of × ((i : ℕ) → i < suc n → IsUsed (d.inode i).use_of
+      → length (d.inode i).log.pages ≤ length (d.inode best).log.pages)
 
   longest : (n : ℕ) → (best : ℕ) × Longest n best
-  longest zero = (0, (omega arith, subst IsUsed (sym volume.fast.valid.root) tt, λ i lt used. let e : i ≡ 0 = omega (arith, lt) in subst (λ (j : ℕ). length (d.inode i).log.pages ≤ length (d.inode j).log.pages) e (omega arith)))
+  longest zero = (
+    0,
+    (
+      omega arith,
+      subst IsUsed (sym volume.fast.valid.root) tt,
+      λ i lt used. let e : i ≡ 0 = omega (arith, lt) in
+          subst (λ (j : ℕ). length (d.inode i).log.pages ≤ length (d.inode j).log.pages) e (omega arith),
+    ),
+  )
   longest (suc n) = by (longest n) (used_or_not (d.inode (suc n)).use_of)
     where
-      keeps : (best : ℕ) → Longest n best → ((IsUsed (d.inode (suc n)).use_of) → length (d.inode (suc n)).log.pages ≤ length (d.inode best).log.pages) → Longest (suc n) best
-      keeps best (lt, used, most) last = (omega (arith, lt), used, λ i small is. ⊎_elim (λ below. most i below is) (λ top. let e : suc n ≡ i = omega (arith, small, top) in subst (λ (j : ℕ). IsUsed (d.inode j).use_of → length (d.inode j).log.pages ≤ length (d.inode best).log.pages) e last is) (cases_lt i (suc n)))
+      keeps : (best : ℕ) → Longest n best → ((IsUsed (d.inode (suc n)).use_of) → length (d.inode (suc n)).log.pages ≤ length (d.inode best).log.pages)
+          → Longest (suc n) best
+      keeps best (lt, used, most) last = (
+        omega (arith, lt),
+        used,
+        λ i small is. ⊎_elim (λ below. most i below is)
+            (λ top. let e : suc n ≡ i = omega (arith, small, top) in subst (λ (j : ℕ). IsUsed (d.inode j).use_of → length (d.inode j).log.pages ≤ length
+            (d.inode best).log.pages) e last is) (cases_lt i (suc n)),
+      )
 
-      by : ((best : ℕ) × Longest n best) → (IsUsed (d.inode (suc n)).use_of ⊎ (IsUsed (d.inode (suc n)).use_of → ⊥)) → (best : ℕ) × Longest (suc n) best
+      by : ((best : ℕ) × Longest n best) → (IsUsed (d.inode (suc n)).use_of ⊎ (IsUsed (d.inode (suc n)).use_of → ⊥)) → (best : ℕ) × Longest (suc n)
+          best
       by (best, was) (inr unused) = (best, keeps best was (λ used. absurd (unused used)))
       by (best, was) (inl used) = ⊎_elim
-          (λ longer. (suc n, (omega arith, used, λ i small is. ⊎_elim (λ below. let le = was.2 i below is in omega (arith, le, longer)) (λ top. let e : suc n ≡ i = omega (arith, small, top) in subst (λ (j : ℕ). length (d.inode j).log.pages ≤ length (d.inode (suc n)).log.pages) e (omega arith)) (cases_lt i (suc n)))))
+          (λ longer. (
+            suc n,
+            (
+              omega arith,
+              used,
+              λ i small is. ⊎_elim (λ below. let le = was.2 i below is in omega (arith, le, longer))
+                  (λ top. let e : suc n ≡ i = omega (arith, small, top) in
+                  subst (λ (j : ℕ). length (d.inode j).log.pages ≤ length (d.inode (suc n)).log.pages) e (omega arith)) (cases_lt i (suc n)),
+            ),
+          ))
           (λ le. (best, keeps best was (λ used'. le))) (cases_lt (length (d.inode best).log.pages) (length (d.inode (suc n)).log.pages))
 
   half : (h : ℕ) × IsHalf d h
@@ -294,17 +402,21 @@ module _ (d : Disk) (b : Parts) (s : State) (volume : IsVolume d b s) (none_wait
   first_row [] = inr (λ p has. absurd (none_listed p has))
   first_row (x ∷ pages) = by (some_or_none (row_of (rows d) x)) (first_row pages)
     where
-      by : IsSome (row_of (rows d) x) ⊎ IsNone (row_of (rows d) x) → ((p : ℕ) × Contains pages p × IsSome (row_of (rows d) p)) ⊎ ((p : ℕ) → Contains pages p → IsNone (row_of (rows d) p))
+      by : IsSome (row_of (rows d) x) ⊎ IsNone (row_of (rows d) x) → ((p : ℕ) × Contains pages p × IsSome (row_of (rows d) p))
+          ⊎ ((p : ℕ) → Contains pages p → IsNone (row_of (rows d) p))
           → ((p : ℕ) × Contains (x ∷ pages) p × IsSome (row_of (rows d) p)) ⊎ ((p : ℕ) → Contains (x ∷ pages) p → IsNone (row_of (rows d) p))
       by (inl some) rest = inl (x, here x pages, some)
       by (inr none) (inl found) = inl (found.0, later x found.0 pages found.1, found.2)
-      by (inr none) (inr all) = inr (λ p has. ⊎_elim (λ same. subst (λ (q : ℕ). IsNone (row_of (rows d) q)) same none) (λ rest. all p rest) (cons_cases x p pages has))
+      by (inr none) (inr all) = inr (λ p has. ⊎_elim (λ same. subst (λ (q : ℕ). IsNone (row_of (rows d) q)) same none) (λ rest. all p rest)
+          (cons_cases x p pages has))
 
   unused_listed : (page : ℕ) → IsUnused d page → Contains b.free.free page ⊎ Contains (all_from b 0 14) page
-  unused_listed page unused = ⊎_elim (λ none. inl ((volume.space.free page).1 (unused, none))) (λ some. inr (taken (volume.space.taker page) (volume.space.taken page some))) (cases_eq (volume.space.taker page) 0)
+  unused_listed page unused = ⊎_elim (λ none. inl ((volume.space.free page).1 (unused, none)))
+      (λ some. inr (taken (volume.space.taker page) (volume.space.taken page some))) (cases_eq (volume.space.taker page) 0)
     where
       few : (who : ℕ) (f : Flight) → flight_at b.flights.items (who - 1) ≡ Some f → who - 1 < 14
-      few who f is = ⊎_elim (λ found. let lt = found.1 in let all = volume.flights.clients in omega (arith, lt, all)) (λ none. absurd (gone (slice_get b.flights.items (who - 1)) none.1 is)) (slice_get_cases b.flights.items (who - 1)).1
+      few who f is = ⊎_elim (λ found. let lt = found.1 in let all = volume.flights.clients in omega (arith, lt, all))
+          (λ none. absurd (gone (slice_get b.flights.items (who - 1)) none.1 is)) (slice_get_cases b.flights.items (who - 1)).1
         where
           gone : (r : Option (Option Flight)) → r ≡ None → opened r ≡ Some f → ⊥
           gone None none some = cc some
@@ -312,7 +424,8 @@ module _ (d : Disk) (b : Parts) (s : State) (volume : IsVolume d b s) (none_wait
 
       taken : (who : ℕ) → Takes b who page → Contains (all_from b 0 14) page
       taken who (for_client f flies has) =
-          in_taken b 0 14 (who - 1) page (omega arith) (let lt = few who f flies.is in omega (arith, lt)) (subst (λ (x : Option Flight). Contains (taken_at x) page) (sym flies.is) has)
+          in_taken b 0 14 (who - 1) page (omega arith) (let lt = few who f flies.is in omega (arith, lt))
+          (subst (λ (x : Option Flight). Contains (taken_at x) page) (sym flies.is) has)
 
   bounded : (pages : List ℕ) → AllPairs (λ p q. p ≢ q) pages → All (IsFree d) pages → length pages ≤ length b.free.free + count_from b 0 14 + 1
   bounded pages apart free = ⊎_elim one_more none_more (first_row pages)
@@ -324,10 +437,12 @@ module _ (d : Disk) (b : Parts) (s : State) (volume : IsVolume d b s) (none_wait
       free_at page has = subst (IsFree d) has.2 (free has.0 page has.1)
 
       listed : (page : ℕ) → Contains pages page → IsNone (row_of (rows d) page) → Contains (b.free.free ++ all_from b 0 14) page
-      listed page has none = ⊎_elim (λ f. Contains-append_left b.free.free (all_from b 0 14) page f) (λ t. Contains-append_right b.free.free (all_from b 0 14) page t) (unused_listed page (record { free = free_at page has; no_row = none }))
+      listed page has none = ⊎_elim (λ f. Contains-append_left b.free.free (all_from b 0 14) page f)
+          (λ t. Contains-append_right b.free.free (all_from b 0 14) page t) (unused_listed page (record { free = free_at page has; no_row = none }))
 
       none_more : ((p : ℕ) → Contains pages p → IsNone (row_of (rows d) p)) → length pages ≤ length b.free.free + count_from b 0 14 + 1
-      none_more none = let le = distinct-le pages (b.free.free ++ all_from b 0 14) apart (λ page has. listed page has (none page has)) in omega (arith, le, long)
+      none_more none = let le = distinct-le pages (b.free.free ++ all_from b 0 14) apart (λ page has. listed page has (none page has)) in
+          omega (arith, le, long)
 
       one_more : ((p : ℕ) × Contains pages p × IsSome (row_of (rows d) p)) → length pages ≤ length b.free.free + count_from b 0 14 + 1
       one_more (p, has, some) = let le = distinct-le pages (p ∷ (b.free.free ++ all_from b 0 14)) apart each in omega (arith, le, long)
@@ -336,7 +451,8 @@ module _ (d : Disk) (b : Parts) (s : State) (volume : IsVolume d b s) (none_wait
           same_page page in_pages has_row =
               let one = row_listed (rows d) p some in
               let two = row_listed (rows d) page has_row in
-              let same = shared_same one.0 two.0 one.1 two.1 (free_row p one.0 (free_at p has) one.1 one.2) (free_row page two.0 (free_at page in_pages) two.1 two.2) in
+              let same = shared_same one.0 two.0 one.1 two.1 (free_row p one.0 (free_at p has) one.1 one.2)
+              (free_row page two.0 (free_at page in_pages) two.1 two.2) in
               sym one.2 ∙ ap (λ (r : Row). r.page) same ∙ two.2
 
           each : (page : ℕ) → Contains pages page → Contains (p ∷ (b.free.free ++ all_from b 0 14)) page
@@ -353,11 +469,13 @@ module _ (d : Disk) (b : Parts) (s : State) (volume : IsVolume d b s) (none_wait
     );
   }
     where
-      told : (i : ℕ) (op : Op) (x : Option Flight) → flight_at b.flights.items (0 + i) ≡ x → Contains (ops_at x) op → (i + 1 ≢ who) × (f : Flight) × Flies b (i + 1) f × (f.op ≡ op)
+      told : (i : ℕ) (op : Op) (x : Option Flight) → flight_at b.flights.items (0 + i) ≡ x → Contains (ops_at x) op
+          → (i + 1 ≢ who) × (f : Flight) × Flies b (i + 1) f × (f.op ≡ op)
       told i op None is has = absurd (none_listed op has)
       told i op (Some f) is has =
           let place : i + 1 - 1 ≡ 0 + i = omega arith in (
-            (λ same. let e : 0 + i ≡ who - 1 = omega (arith, same) in absurd (clash (flight_at b.flights.items (0 + i)) (ap (flight_at b.flights.items) e ∙ idle) is)),
+            (λ same. let e : 0 + i ≡ who - 1 = omega (arith, same) in
+                absurd (clash (flight_at b.flights.items (0 + i)) (ap (flight_at b.flights.items) e ∙ idle) is)),
             f,
             record { client = omega arith; is = ap (flight_at b.flights.items) place ∙ is },
             ⊎_elim (λ same. same) (λ none. absurd (none_listed op none)) (cons_cases f.op op [] has),
@@ -369,7 +487,8 @@ module _ (d : Disk) (b : Parts) (s : State) (volume : IsVolume d b s) (none_wait
       said_op : (i : ℕ) (op : Op) (f : Flight) → Flies b (i + 1) f → f.op ≡ op → Contains (ops_at (flight_at b.flights.items (0 + i))) op
       said_op i op f flies is =
           let place : i + 1 - 1 ≡ 0 + i = omega arith in
-          subst (λ (x : Option Flight). Contains (ops_at x) op) (sym (ap (flight_at b.flights.items) (sym place) ∙ flies.is)) (subst (Contains (f.op ∷ [])) is (here f.op []))
+          subst (λ (x : Option Flight). Contains (ops_at x) op) (sym (ap (flight_at b.flights.items) (sym place) ∙ flies.is))
+          (subst (Contains (f.op ∷ [])) is (here f.op []))
 
   short : (who : ℕ) (op : Op) → LacksSpace d b op → IsShortOfSpace d (scripts_from b 0 14) op (needed d op) (length b.free.free)
   short who op lacks = record {
@@ -384,4 +503,9 @@ module _ (d : Disk) (b : Parts) (s : State) (volume : IsVolume d b s) (none_wait
   }
 
 pub wants_are_short : WantsAreShort
-wants_are_short d b s who op client volume idle none lacks = (scripts_from b 0 14, flying d b s volume none who client idle, short d b s volume none who op lacks)
+wants_are_short d b s who op client volume idle none lacks = (
+  scripts_from b 0 14,
+  flying d b s volume none who client idle,
+  short d b s volume none
+      who op lacks,
+)

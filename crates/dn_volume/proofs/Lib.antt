@@ -16,9 +16,11 @@ pub mod SoundStays
 pub mod Soundness
 pub mod Begun
 pub mod Fresh
+pub mod Wrong
 pub mod Stills
 pub mod Kept
 pub mod Heads
+pub mod Within
 pub mod SameRoom
 pub mod Replaced
 pub mod Stepped

@@ -51,7 +51,13 @@ module _ (d e : Disk) (b b' : Parts) (lost gained : ℕ → ℕ) (moves : MovesM
   there_moved : (slot : ℕ) → 1 ≤ raised b' slot + added b' slot + dropped b' slot → HasRow e slot
   there_moved slot some =
       let has = was.there slot (omega (arith, some, moves.raised_move slot, moves.added_move slot, moves.dropped_move slot)) in
-      record { row = has.row; is = record { there = subst (λ (rs : List Row). Contains rs has.row) (sym moves.rows_same) has.is.there; slot_is = has.is.slot_is } }
+      record {
+        row = has.row;
+        is = record {
+          there = subst (λ (rs : List Row). Contains rs has.row) (sym moves.rows_same) has.is.there;
+          slot_is = has.is.slot_is;
+        };
+      }
 
   pub mappings_counted : AreCounted e b'
   mappings_counted = record {
@@ -138,9 +144,11 @@ module _ (d e : Disk) (b b' : Parts) (row : Row) (goes : GoesOut d e b b' row) (
       let right_here : IsRight d b row = subst (IsRight d b) here right in
       let slot_here : row.slot ≡ slot = ap (λ (x : Row). x.slot) (sym here) ∙ found.is.slot_is in
       let busy : 1 ≤ raised b row.slot + added b row.slot + dropped b row.slot =
-      subst (λ (x : ℕ). 1 ≤ raised b x + added b x + dropped b x) (sym slot_here) (omega (arith, some, same.raised_same, same.added_same, same.dropped_same)) in
+      subst (λ (x : ℕ). 1 ≤ raised b x + added b x + dropped b x) (sym slot_here)
+      (omega (arith, some, same.raised_same, same.added_same, same.dropped_same)) in
       omega (arith, right_here.updates, goes.no_update, busy)))
-      (λ (still : Contains (rows e) found.row). record { row = found.row; is = record { there = still; slot_is = found.is.slot_is } }) (goes.takes.kept found.row found.is.there)
+      (λ (still : Contains (rows e) found.row). record { row = found.row; is = record { there = still; slot_is = found.is.slot_is } })
+      (goes.takes.kept found.row found.is.there)
 
   one_checked : (p q : ℕ) → b.reclaiming.zero_check ≡ Some p → b.reclaiming.zero_check ≡ Some q → p ≡ q
   one_checked p q there here = cc
@@ -151,6 +159,7 @@ module _ (d e : Disk) (b b' : Parts) (row : Row) (goes : GoesOut d e b b' row) (
     there = there_out;
     zero_checked = λ r has none no_update.
         let only = goes.takes.only r has in
-        absurd (only.1 (one_checked r.slot row.slot (was.zero_checked r only.0 none no_update) (was.zero_checked row goes.has goes.no_reference goes.no_update)));
+        absurd (only.1 (one_checked r.slot row.slot (was.zero_checked r only.0 none no_update) (was.zero_checked row goes.has goes.no_reference
+        goes.no_update)));
     few = goes.few;
   }

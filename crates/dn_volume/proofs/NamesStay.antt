@@ -17,7 +17,19 @@ use Rattle.dn_model.specs.Valid.{IsValid}
 use Rattle.dn_model.specs.declared.op.Op.{Op}
 use Rattle.dn_model.specs.declared.op.Op.TheVariants.{Create, Write, Read, Cut, Remove, Rename, Size, List as ListAll}
 use Rattle.law_write.specs.Events.{IsUnused}
-use Rattle.law_names.specs.NameChange.{NameChange as DiskChange, Turn, Stays, Comes, Goes, FreshNames, in_root, in_inode, turn_words, turn_field, root_after}
+use Rattle.law_names.specs.NameChange.{
+  NameChange as DiskChange,
+  Turn,
+  Stays,
+  Comes,
+  Goes,
+  FreshNames,
+  in_root,
+  in_inode,
+  turn_words,
+  turn_field,
+  root_after,
+}
 use Rattle.dn_volume.specs.declared.flight.Flight.{Flight}
 use Rattle.dn_volume.specs.declared.flight.NameChange.{NameChange}
 use Rattle.dn_volume.specs.Parties.{taken_by, blocks_of}
@@ -81,22 +93,27 @@ module _ (inodes pages : List ℕ) (d e : Disk) (valid : IsValid d) (rest : Keep
     root_after_same = ap (λ (log : Log). record { pages = log.pages ++ change.fresh; items = log.items ++ change.more }) root_log
 
     pub fresh_same : (a v : ℕ) → FreshNames e change a v → FreshNames d change a v
-    fresh_same a v (in_root said) = in_root (subst (λ (log : Log). Prepared 0 log (record { pages = log.pages ++ change.fresh; items = log.items ++ change.more }) a v) root_log said)
+    fresh_same a v (in_root said) = in_root
+        (subst (λ (log : Log). Prepared 0 log (record { pages = log.pages ++ change.fresh; items = log.items ++ change.more }) a v) root_log said)
     fresh_same a v (in_inode said) =
-        in_inode (subst (λ (n : Inode). SaysRun (inode_word change.ino (turn_field change.turn)) (turn_words change.turn n.log) a v) (rest.inode change.ino node_out) said)
+        in_inode (subst (λ (n : Inode). SaysRun (inode_word change.ino (turn_field change.turn)) (turn_words change.turn n.log) a v)
+        (rest.inode change.ino node_out) said)
 
-module _ (who q : ℕ) (inodes pages : List ℕ) (d e : Disk) (s t : State) (f : Flight) (other : q ≢ who) (valid : IsValid d) (long : length s.now ≡ 512 * d.geometry.pages) (leaves : LeavesRest who inodes pages d e s t)
+module _ (who q : ℕ) (inodes pages : List ℕ) (d e : Disk) (s t : State) (f : Flight) (other : q ≢ who) (valid : IsValid d)
+    (long : length s.now ≡ 512 * d.geometry.pages) (leaves : LeavesRest who inodes pages d e s t)
     (unused_pages : (page : ℕ) → Contains pages page → IsUnused d page)
     (out : (i : ℕ) → Contains f.held.items i → Contains inodes i → ⊥) (out_pages : (page : ℕ) → Contains (taken_by f) page → Contains pages page → ⊥)
     (unused : (page : ℕ) → Contains (taken_by f) page → IsUnused d page) where
   -- a word of a page of the grown log is none that is stored to
   module _ (change : DiskChange) (live : (d.inode 0).use_of ≡ Live) (root_in : 0 < d.geometry.inodes) (root_held : Contains f.held.items 0)
       (room : length ((d.inode 0).log.pages ++ change.fresh) ≡ (count (root_after d change) + 62) / 63)
-      (node_in : change.ino < d.geometry.inodes) (node_held : Contains f.held.items change.ino) (among : (page : ℕ) → Contains change.fresh page → Contains (taken_by f) page) where
+      (node_in : change.ino < d.geometry.inodes) (node_held : Contains f.held.items change.ino) (among : (page : ℕ) → Contains change.fresh page
+      → Contains (taken_by f) page) where
     used : IsUsed (d.inode 0).use_of
     used = subst IsUsed (sym live) tt
 
-    page_apart : (k a : ℕ) → k < length ((d.inode 0).log.pages ++ change.fresh) → IsInPage (slice_index ((d.inode 0).log.pages ++ change.fresh) k) a → IsWordOf inodes pages d a → ⊥
+    page_apart : (k a : ℕ) → k < length ((d.inode 0).log.pages ++ change.fresh) → IsInPage (slice_index ((d.inode 0).log.pages ++ change.fresh) k) a
+        → IsWordOf inodes pages d a → ⊥
     page_apart k a lt here w =
         let page = slice_index ((d.inode 0).log.pages ++ change.fresh) k in
         elim (Contains-append_cases (d.inode 0).log.pages change.fresh page (Contains-get_or ((d.inode 0).log.pages ++ change.fresh) k 0 lt)) [
@@ -105,19 +122,23 @@ module _ (who q : ℕ) (inodes pages : List ℕ) (d e : Disk) (s t : State) (f :
         ]
 
     prepared_apart : (a v : ℕ) → Prepared 0 (d.inode 0).log (root_after d change) a v → IsWordOf inodes pages d a → ⊥
-    prepared_apart a v (new_head none some is value) w = inode_out inodes pages d valid 0 1 a root_in (omega arith) is (out 0 root_held) unused_pages w
+    prepared_apart a v (new_head none some is value) w = inode_out inodes pages d valid 0 1 a root_in (omega arith) is (out 0 root_held) unused_pages
+        w
     prepared_apart a v (new_footer k past lt is value) w = page_apart k a (omega (arith, lt)) (omega (arith, is), omega (arith, is)) w
     prepared_apart a v (new_slot k j past lt small is value) w = page_apart (k / 63) a (fits k lt) (omega (arith, is), omega (arith, is, small)) w
       where
         fits : (k : ℕ) → k < count (root_after d change) → k / 63 < length ((d.inode 0).log.pages ++ change.fresh)
         fits k lt = omega (arith, lt, room)
 
-    turn_apart : (turn : Turn) (log : Log) (a v : ℕ) → SaysRun (inode_word change.ino (turn_field turn)) (turn_words turn log) a v → IsWordOf inodes pages d a → ⊥
+    turn_apart : (turn : Turn) (log : Log) (a v : ℕ) → SaysRun (inode_word change.ino (turn_field turn)) (turn_words turn log) a v
+        → IsWordOf inodes pages d a → ⊥
     turn_apart Stays log a v said w = omega (arith, said.0.0, said.0.1)
     turn_apart Comes log a v said w =
-        inode_out inodes pages d valid change.ino (a - inode_word change.ino 0) a node_in (omega (arith, said.0.0, said.0.1)) (omega (arith, said.0.0)) (out change.ino node_held) unused_pages w
+        inode_out inodes pages d valid change.ino (a - inode_word change.ino 0) a node_in (omega (arith, said.0.0, said.0.1))
+        (omega (arith, said.0.0)) (out change.ino node_held) unused_pages w
     turn_apart Goes log a v said w =
-        inode_out inodes pages d valid change.ino (a - inode_word change.ino 0) a node_in (omega (arith, said.0.0, said.0.1)) (omega (arith, said.0.0)) (out change.ino node_held) unused_pages w
+        inode_out inodes pages d valid change.ino (a - inode_word change.ino 0) a node_in (omega (arith, said.0.0, said.0.1))
+        (omega (arith, said.0.0)) (out change.ino node_held) unused_pages w
 
     fresh_apart : (a v : ℕ) → FreshNames d change a v → IsWordOf inodes pages d a → ⊥
     fresh_apart a v (in_root said) w = prepared_apart a v said w
@@ -125,7 +146,8 @@ module _ (who q : ℕ) (inodes pages : List ℕ) (d e : Disk) (s t : State) (f :
 
     pub ready_same : IsReady q (FreshNames d change) s → IsReady q (FreshNames e change) t
     ready_same ready =
-        ready-weaken q t (FreshNames d change) (FreshNames e change) (fresh_same inodes pages d e valid leaves.rest (out 0 root_held) f change (out change.ino node_held))
+        ready-weaken q t (FreshNames d change) (FreshNames e change) (fresh_same inodes pages d e valid leaves.rest (out 0 root_held) f change
+        (out change.ino node_held))
         (record {
           within = λ a v new. omega (arith, ready.within a v new, leaves.only.words);
           reads = λ a v new. leaves.only.read a (fresh_apart a v new) ∙ ready.reads a v new;
@@ -157,7 +179,8 @@ module _ (who q : ℕ) (inodes pages : List ℕ) (d e : Disk) (s t : State) (f :
       let same = root_after_same inodes pages d e valid leaves.rest (out 0 root_held) f is.change (out is.change.ino node_held) in
       record {
         root = is.root;
-        grows = grows_same who q inodes pages d e s t f other valid long leaves out out_pages unused (names_need inodes pages d e valid leaves.rest (out 0 root_held) f is.change (out is.change.ino node_held) f.op is.plans) is.grows;
+        grows = grows_same who q inodes pages d e s t f other valid long leaves out out_pages unused (names_need inodes pages d e valid leaves.rest
+            (out 0 root_held) f is.change (out is.change.ino node_held) f.op is.plans) is.grows;
         change = is.change;
         plans = plans_names inodes pages d e valid leaves.rest (out 0 root_held) f is.change (out is.change.ino node_held) f.op is.plans;
         node_is = is.node_is;
@@ -167,21 +190,27 @@ module _ (who q : ℕ) (inodes pages : List ℕ) (d e : Disk) (s t : State) (f :
         holds_node = is.holds_node;
         slots = is.slots;
         no_rows = is.no_rows;
-        ready = λ prepared. ready_same is.change live root_in root_held (room_of is.change fresh is.slots (subst (λ (n : ℕ). length ((d.inode n).log.pages ++ f.fresh.items) ≡ (count (d.inode n).log + length f.slots.items + 62) / 63) is.root is.grows.room))
+        ready = λ prepared. ready_same is.change live root_in root_held
+            (room_of is.change fresh is.slots
+            (subst (λ (n : ℕ). length ((d.inode n).log.pages ++ f.fresh.items) ≡ (count (d.inode n).log + length f.slots.items + 62) / 63) is.root
+            is.grows.room))
             (subst (λ (n : ℕ). n < d.geometry.inodes) (sym is.node_is) is.node_in_table) node_held
             (λ page has. among page (subst (λ (xs : List ℕ). Contains xs page) fresh has)) (is.ready prepared);
         tail = λ prepared. is.tail prepared ∙ sym (ap (λ (log : Log). tail_at log.pages (count log)) same);
       }
     where
       among : (page : ℕ) → Contains f.fresh.items page → Contains (taken_by f) page
-      among page has = Contains-append_left (f.fresh.items ++ f.spare.items) (blocks_of f.change) page (Contains-append_left f.fresh.items f.spare.items page has)
+      among page has = Contains-append_left (f.fresh.items ++ f.spare.items) (blocks_of f.change) page
+          (Contains-append_left f.fresh.items f.spare.items page has)
 
       room_of : (change : DiskChange) → change.fresh ≡ f.fresh.items → spelled change.more ≡ f.slots.items
           → length ((d.inode 0).log.pages ++ f.fresh.items) ≡ (count (d.inode 0).log + length f.slots.items + 62) / 63
           → length ((d.inode 0).log.pages ++ change.fresh) ≡ (count (root_after d change) + 62) / 63
       room_of change fresh slots room =
-          let grown : IsGrown (d.inode 0).log (root_after d change) = record { fresh = change.fresh; more = change.more; pages = refl; items = refl } in
+          let grown : IsGrown (d.inode 0).log (root_after d change) = record { fresh = change.fresh; more = change.more; pages = refl; items = refl }
+          in
           let more = count-grown (d.inode 0).log (root_after d change) grown in
           let long = ap length slots in
-          let pages_are : length ((d.inode 0).log.pages ++ change.fresh) ≡ length ((d.inode 0).log.pages ++ f.fresh.items) = ap (λ (xs : List ℕ). length ((d.inode 0).log.pages ++ xs)) fresh in
+          let pages_are : length ((d.inode 0).log.pages ++ change.fresh) ≡ length ((d.inode 0).log.pages ++ f.fresh.items) = ap
+          (λ (xs : List ℕ). length ((d.inode 0).log.pages ++ xs)) fresh in
           omega (arith, room, more, long, pages_are)

@@ -17,7 +17,8 @@ Tops d script n = ((op : Op) × Contains script op × IsGranted (files d) op × 
 record IsTop (d : Disk) (script : List Op) (n : ℕ) : Type 0 where
   pub reached : Tops d script n
   pub most : (op : Op) → Contains script op → IsGranted (files d) op → needed d op ≤ n
-  pub none : ((op : Op) × Contains script op × IsGranted (files d) op × (needed d op ≡ n)) ⊎ ((n ≡ 0) × ((op : Op) → Contains script op → IsGranted (files d) op → ⊥))
+  pub none : ((op : Op) × Contains script op × IsGranted (files d) op × (needed d op ≡ n))
+      ⊎ ((n ≡ 0) × ((op : Op) → Contains script op → IsGranted (files d) op → ⊥))
 
 of_need : (d : Disk) (script : List Op) (n : ℕ) → IsNeed d script n → IsTop d script n
 of_need d [] n is = record {
@@ -38,29 +39,39 @@ top_of : (d : Disk) (script : List Op) → (n : ℕ) × IsTop d script n
 top_of d [] = (0, of_need d [] 0 refl)
 top_of d (op ∷ script) = by (top_of d script) (granted_or_not (files d) op)
   where
-    shifted : (n : ℕ) → ((o : Op) × Contains script o × IsGranted (files d) o × (needed d o ≡ n)) → ((o : Op) × Contains (op ∷ script) o × IsGranted (files d) o × (needed d o ≡ n))
+    shifted : (n : ℕ) → ((o : Op) × Contains script o × IsGranted (files d) o × (needed d o ≡ n))
+        → ((o : Op) × Contains (op ∷ script) o × IsGranted (files d) o × (needed d o ≡ n))
     shifted n found = (found.0, later op found.0 script found.1, found.2, found.3)
 
     no_more : (n : ℕ) → (IsGranted (files d) op → ⊥) → IsTop d script n → IsTop d (op ∷ script) n
     no_more n not top = record {
       reached = ⊎_elim (λ found. inl (shifted n found)) (λ is. inr is) top.reached;
-      most = λ o has granted. ⊎_elim (λ same. absurd (not (subst (IsGranted (files d)) (sym same) granted))) (λ rest. top.most o rest granted) (cons_cases op o script has);
-      none = ⊎_elim (λ found. inl (shifted n found)) (λ none. inr (none.0, λ o has granted. ⊎_elim (λ same. not (subst (IsGranted (files d)) (sym same) granted)) (λ rest. none.1 o rest granted) (cons_cases op o script has))) top.none;
+      most = λ o has granted. ⊎_elim (λ same. absurd (not (subst (IsGranted (files d)) (sym same) granted))) (λ rest. top.most o rest granted)
+          (cons_cases op o script has);
+      none = ⊎_elim (λ found. inl (shifted n found))
+          (λ none. inr (
+            none.0,
+            λ o has granted. ⊎_elim (λ same. not (subst (IsGranted (files d)) (sym same) granted)) (λ rest. none.1 o rest granted)
+                (cons_cases op o script has),
+          )) top.none;
     }
 
     greater : (n : ℕ) → IsGranted (files d) op → n ≤ needed d op → IsTop d script n → IsTop d (op ∷ script) (needed d op)
     greater n granted le top = record {
       reached = inl (op, here op script, granted, refl);
-      most = λ o has is. ⊎_elim (λ same. subst (λ (p : Op). needed d p ≤ needed d op) same (omega arith)) (λ rest. omega (arith, le, top.most o rest is)) (cons_cases op o script has);
+      most = λ o has is. ⊎_elim (λ same. subst (λ (p : Op). needed d p ≤ needed d op) same (omega arith))
+          (λ rest. omega (arith, le, top.most o rest is)) (cons_cases op o script has);
       none = inl (op, here op script, granted, refl);
     }
 
     less : (n : ℕ) → IsGranted (files d) op → needed d op < n → IsTop d script n → IsTop d (op ∷ script) n
     less n granted lt top =
-        let found : (o : Op) × Contains script o × IsGranted (files d) o × (needed d o ≡ n) = ⊎_elim (λ found. found) (λ is. absurd (omega (arith, lt, is))) top.reached in
+        let found : (o : Op) × Contains script o × IsGranted (files d) o × (needed d o ≡ n) = ⊎_elim (λ found. found)
+        (λ is. absurd (omega (arith, lt, is))) top.reached in
         record {
           reached = inl (shifted n found);
-          most = λ o has is. ⊎_elim (λ same. subst (λ (p : Op). needed d p ≤ n) same (omega (arith, lt))) (λ rest. top.most o rest is) (cons_cases op o script has);
+          most = λ o has is. ⊎_elim (λ same. subst (λ (p : Op). needed d p ≤ n) same (omega (arith, lt))) (λ rest. top.most o rest is)
+              (cons_cases op o script has);
           none = inl (shifted n found);
         }
 
@@ -79,9 +90,11 @@ more_need d short long n m grown top top' =
 -- each script of the one list is grown in the other
 pub data AreGrown : List (List Op) → List (List Op) → Type 0 where
   no_scripts : AreGrown [] []
-  one_script : (short long : List Op) (shorts longs : List (List Op)) → Grown short long → AreGrown shorts longs → AreGrown (short ∷ shorts) (long ∷ longs)
+  one_script : (short long : List Op) (shorts longs : List (List Op)) → Grown short long → AreGrown shorts longs
+      → AreGrown (short ∷ shorts) (long ∷ longs)
 
-pub more_needs : (d : Disk) (shorts longs : List (List Op)) (n : ℕ) → AreGrown shorts longs → AreNeeds d shorts n → (m : ℕ) × AreNeeds d longs m × (n ≤ m)
+pub more_needs : (d : Disk) (shorts longs : List (List Op)) (n : ℕ) → AreGrown shorts longs → AreNeeds d shorts n
+    → (m : ℕ) × AreNeeds d longs m × (n ≤ m)
 more_needs d [] [] n no_scripts is = (n, is, omega arith)
 more_needs d [] (long ∷ longs) n grown is = elim grown [ ]
 more_needs d (short ∷ shorts) [] n grown is = elim grown [ ]
@@ -93,7 +106,8 @@ more_needs d (short ∷ shorts) (long ∷ longs) n (one_script _ _ _ _ grown res
       omega (arith, sum, more.2, more_need d short long k here'.0 grown (of_need d short k need) here'.1),
     )
 
-pub still_short : (d : Disk) (shorts longs : List (List Op)) (op : Op) (need free : ℕ) → AreGrown shorts longs → IsShortOfSpace d shorts op need free → IsShortOfSpace d longs op need free
+pub still_short : (d : Disk) (shorts longs : List (List Op)) (op : Op) (need free : ℕ) → AreGrown shorts longs → IsShortOfSpace d shorts op need free
+    → IsShortOfSpace d longs op need free
 still_short d shorts longs op need free grown short =
     let more = more_needs d shorts longs short.x grown short.others in
     record {
@@ -134,7 +148,8 @@ put_other zero (suc j) op (script ∷ scripts) other = refl
 put_other (suc i) zero op (script ∷ scripts) other = refl
 put_other (suc i) (suc j) op (script ∷ scripts) other = put_other i j op scripts (λ same. other (ap suc same))
 
-pub put_here : (i : ℕ) (op : Op) (scripts : List (List Op)) (script : List Op) → slice_get scripts i ≡ Some script → slice_get (put_op i op scripts) i ≡ Some (op ∷ script)
+pub put_here : (i : ℕ) (op : Op) (scripts : List (List Op)) (script : List Op) → slice_get scripts i ≡ Some script → slice_get (put_op i op scripts)
+    i ≡ Some (op ∷ script)
 put_here i op [] script is = absurd (cc is)
 put_here zero op (first ∷ scripts) script is = let same : first ≡ script = cc is in ap (λ (s : List Op). Some (op ∷ s)) same
 put_here (suc i) op (first ∷ scripts) script is = put_here i op scripts script is

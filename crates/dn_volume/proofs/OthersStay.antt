@@ -38,12 +38,14 @@ module _ (who : ℕ) (inodes pages : List ℕ) (d e : Disk) (b b' : Parts) (s t 
 
       by_node : (r : Option InodeState) → slice_get b.inodes.items ino ≡ r → p ≡ q
       by_node None is =
-          ⊎_elim (λ found. absurd (none_some (slice_get b.inodes.items ino) found.0 is found.2)) (λ past. absurd (omega (arith, inside, past.0))) (slice_get_cases b.inodes.items ino).1
+          ⊎_elim (λ found. absurd (none_some (slice_get b.inodes.items ino) found.0 is found.2)) (λ past. absurd (omega (arith, inside, past.0)))
+          (slice_get_cases b.inodes.items ino).1
       by_node (Some n) is = some_same n.holder p q ((volume.holders.told ino p n is).1 hp) ((volume.holders.told ino q n is).1 hq)
 
   takes_unused : (q page : ℕ) → Takes b q page → IsUnused d page
   takes_unused q page (for_client f flies has) =
-      volume.space.unused page (λ none. let is = volume.space.takes q page (for_client f flies has) in let some = flies.client in omega (arith, is, some, none))
+      volume.space.unused page (λ none. let is = volume.space.takes q page (for_client f flies has) in let some = flies.client in
+      omega (arith, is, some, none))
 
   -- the pages are unused, and others have taken none of them
   unused_pages : (page : ℕ) → Contains pages page → IsUnused d page
@@ -52,7 +54,8 @@ module _ (who : ℕ) (inodes pages : List ℕ) (d e : Disk) (b b' : Parts) (s t 
   out_pages : (q page : ℕ) (f : Flight) → q ≢ who → Flies b q f → Contains (taken_by f) page → Contains pages page → ⊥
   out_pages q page f other flies taken has =
       let his = volume.space.takes q page (for_client f flies taken) in
-      ⊎_elim (λ takes. other (sym his ∙ volume.space.takes who page takes)) (λ free. let none = ((volume.space.free page).0 free).1 in let some = flies.client in omega (arith, his, none, some)) (for_it.page page has)
+      ⊎_elim (λ takes. other (sym his ∙ volume.space.takes who page takes)) (λ free. let none = ((volume.space.free page).0 free).1 in
+      let some = flies.client in omega (arith, his, none, some)) (for_it.page page has)
 
   -- nor do they hold any of the inodes
   undying : (q : ℕ) (f : Flight) → Flies b q f → GrowsBy d f
@@ -64,7 +67,8 @@ module _ (who : ℕ) (inodes pages : List ℕ) (d e : Disk) (b b' : Parts) (s t 
 
   out_inodes : (q i : ℕ) (f : Flight) → q ≢ who → Flies b q f → Contains f.held.items i → Contains inodes i → ⊥
   out_inodes q i f other flies held has =
-      ⊎_elim (λ holds. other (one_holder i q who (by_client f flies held) holds)) (λ dies. (undying q f flies).undying i dies.1 held dies.2) (for_it.inode i has)
+      ⊎_elim (λ holds. other (one_holder i q who (by_client f flies held) holds)) (λ dies. (undying q f flies).undying i dies.1 held dies.2)
+      (for_it.inode i has)
 
   flight_is : (q : ℕ) (f : Flight) → q ≢ who → Flies b' q f → Flies b q f
   flight_is q f other flies = record { client = flies.client; is = sym (same.flights q flies.client other) ∙ flies.is }
@@ -72,14 +76,16 @@ module _ (who : ℕ) (inodes pages : List ℕ) (d e : Disk) (b b' : Parts) (s t 
   pub others_fly : (q : ℕ) (f : Flight) → q ≢ who → Flies b' q f → IsFlight e q f t
   others_fly q f other flies' =
       let flies = flight_is q f other flies' in
-      flights_stay who q inodes pages d e s t f other volume.fast.valid volume.fast.long leaves unused_pages (λ i. out_inodes q i f other flies) (λ page. out_pages q page f other flies)
+      flights_stay who q inodes pages d e s t f other volume.fast.valid volume.fast.long leaves unused_pages (λ i. out_inodes q i f other flies)
+      (λ page. out_pages q page f other flies)
       (λ page has. takes_unused q page (for_client f flies has)) (volume.flights.each q f flies)
 
   pub daemon_stays : who ≢ 15 → (sharing : Sharing) → b'.sharing ≡ Some sharing → IsSharing e sharing
   daemon_stays other sharing is' =
       let is = sym (same.sharing other) ∙ is' in
       sharing_stays inodes pages d e volume.fast.valid leaves.rest b volume.counts sharing (volume.sharing sharing is) is (λ has.
-      ⊎_elim (λ holds. other (one_holder sharing.work.ino who 15 holds (by_daemon sharing refl is refl))) (λ dies. no_dying _ _ (volume.sharing sharing is).begun.live dies.2) (for_it.inode sharing.work.ino has))
+      ⊎_elim (λ holds. other (one_holder sharing.work.ino who 15 holds (by_daemon sharing refl is refl)))
+      (λ dies. no_dying _ _ (volume.sharing sharing is).begun.live dies.2) (for_it.inode sharing.work.ino has))
     where
       no_dying : (u : Use) (cut : ℕ) → u ≡ Live → u ≡ Dying cut → ⊥
       no_dying u cut live dying = cc
@@ -88,14 +94,16 @@ module _ (who : ℕ) (inodes pages : List ℕ) (d e : Disk) (b b' : Parts) (s t 
   place_stays other stays p is' =
       let is = sym stays ∙ is' in
       let was = volume.reclaiming.raised p is in
-      raised_stays inodes pages d e volume.fast.valid leaves.rest b volume.counts p is (λ has. ⊎_elim (λ holds. held p.ino was.before holds was.dying) (λ dies. other dies.0) (for_it.inode p.ino has)) was
+      raised_stays inodes pages d e volume.fast.valid leaves.rest b volume.counts p is (λ has. ⊎_elim (λ holds. held p.ino was.before holds was.dying)
+      (λ dies. other dies.0) (for_it.inode p.ino has)) was
     where
       clash : (u : Use) (cut : ℕ) → u ≡ Live → u ≡ Dying cut → ⊥
       clash u cut live dying = cc
 
       held : (ino cut : ℕ) → Holds b who ino → (d.inode ino).use_of ≡ Dying cut → ⊥
       held ino cut (by_client f flies listed) dying = (undying who f flies).undying ino cut listed dying
-      held ino cut (by_daemon sharing him is same) dying = clash _ cut (volume.sharing sharing is).begun.live (subst (λ (i : ℕ). (d.inode i).use_of ≡ Dying cut) (sym same) dying)
+      held ino cut (by_daemon sharing him is same) dying = clash _ cut (volume.sharing sharing is).begun.live
+          (subst (λ (i : ℕ). (d.inode i).use_of ≡ Dying cut) (sym same) dying)
 
 pub others_stay : OthersStay
 others_stay who inodes pages d e b b' s t volume fast for_it leaves same raised = (

@@ -52,7 +52,8 @@ sum_zero g from (suc n) none =
     omega (arith, here, later)
 
 -- terms of a run become 0, and no other differs
-run_lost : (f g : ℕ → ℕ) (first n rest : ℕ) → ((j : ℕ) → j < first → g j ≡ f j) → ((j : ℕ) → first ≤ j → j < first + n → g j ≡ 0) → ((j : ℕ) → first + n ≤ j → g j ≡ f j)
+run_lost : (f g : ℕ → ℕ) (first n rest : ℕ) → ((j : ℕ) → j < first → g j ≡ f j) → ((j : ℕ) → first ≤ j → j < first + n → g j ≡ 0)
+    → ((j : ℕ) → first + n ≤ j → g j ≡ f j)
     → total (first + n + rest) f ≡ total (first + n + rest) g + sum_from f first n
 run_lost f g first n rest before inside behind =
     let f_all = total_split f (first + n) rest in
@@ -67,7 +68,8 @@ run_lost f g first n rest before inside behind =
 page_in : (rs : List Row) (page : ℕ) (row : Row) → row_of rs page ≡ Some row → row.page ≡ page
 page_in [] page row is = cc
 page_in (r ∷ rs) page row is = elim (cases_eq r.page page) [
-  | inl here ↦ sym (ap (λ (x : Row). x.page) (some_same r row (sym (ap (λ (t : Bool). if t then Some r else row_of rs page) (same_test r.page page here)) ∙ is))) ∙ here
+  | inl here ↦ sym (ap (λ (x : Row). x.page)
+      (some_same r row (sym (ap (λ (t : Bool). if t then Some r else row_of rs page) (same_test r.page page here)) ∙ is))) ∙ here
   | inr there ↦ page_in rs page row (sym (ap (λ (t : Bool). if t then Some r else row_of rs page) (other_test r.page page there)) ∙ is)
 ]
   where
@@ -86,16 +88,20 @@ module _ (d : Disk) (valid : IsValid d) (row : Row) (has : Contains (rows d) row
     where
       by_row : (r : Option Row) → row_of (rows d) m.block ≡ r → times row.slot (slot_of_row r) ≡ (if m.block == row.page then 1 else 0)
       by_row None none = elim (cases_eq m.block row.page) [
-        | inl here ↦ absurd (none_or_some (row_of (rows d) row.page) (subst (λ (p : ℕ). IsNone (row_of (rows d) p)) here (none_is (row_of (rows d) m.block) none)) (row_found (rows d) row has))
+        | inl here ↦ absurd (none_or_some (row_of (rows d) row.page) (subst (λ (p : ℕ). IsNone (row_of (rows d) p)) here
+            (none_is (row_of (rows d) m.block) none)) (row_found (rows d) row has))
         | inr there ↦ sym (ap (λ (t : Bool). if t then 1 else 0) (other_test m.block row.page there))
       ]
       by_row (Some r) is = elim (cases_eq m.block row.page) [
         | inl here ↦
-            let same : r ≡ row = distinct_same (λ (x : Row). x.page) (rows d) valid.rows_apart.page r row (found_in (rows d) m.block r is) has (page_in (rows d) m.block r is ∙ here) in
-            ap (λ (t : Bool). (if t then 1 else 0) + 0) (same_test r.slot row.slot (ap (λ (x : Row). x.slot) same)) ∙ sym (ap (λ (t : Bool). if t then 1 else 0) (same_test m.block row.page here))
+            let same : r ≡ row = distinct_same (λ (x : Row). x.page) (rows d) valid.rows_apart.page r row (found_in (rows d) m.block r is) has
+            (page_in (rows d) m.block r is ∙ here) in
+            ap (λ (t : Bool). (if t then 1 else 0) + 0) (same_test r.slot row.slot (ap (λ (x : Row). x.slot) same)) ∙ sym
+            (ap (λ (t : Bool). if t then 1 else 0) (same_test m.block row.page here))
         | inr there ↦
             ap (λ (t : Bool). (if t then 1 else 0) + 0) (other_test r.slot row.slot (λ e. there (sym (page_in (rows d) m.block r is)
-            ∙ ap (λ (x : Row). x.page) (distinct_same (λ (x : Row). x.slot) (rows d) valid.rows_apart.slot r row (found_in (rows d) m.block r is) has e))))
+            ∙ ap (λ (x : Row). x.page) (distinct_same (λ (x : Row). x.slot) (rows d) valid.rows_apart.slot r row (found_in (rows d) m.block r is) has
+            e))))
             ∙ sym (ap (λ (t : Bool). if t then 1 else 0) (other_test m.block row.page there))
       ]
 
@@ -107,12 +113,16 @@ module _ (d : Disk) (valid : IsValid d) (row : Row) (has : Contains (rows d) row
       omega (arith, both, slot_hits (maps d ino from), slots_hit ino (from + 1) n)
 
   -- what the row's page loses where a run of places of an inode goes from the pages that they were on
-  pub places_lost : (e : Disk) (ino first n : ℕ) → RemapsInode ino d e → first + n ≤ 4096 → ((j : ℕ) → j < first → maps e ino j ≡ maps d ino j) → ((j : ℕ) → first + n ≤ j → maps e ino j ≡ maps d ino j)
-      → ((j : ℕ) → first ≤ j → j < first + n → hit row.page (maps e ino j) ≡ 0) → mappings e row.page + times row.slot (row_slots d ino first n) ≡ mappings d row.page
+  pub places_lost : (e : Disk) (ino first n : ℕ) → RemapsInode ino d e → first + n ≤ 4096 → ((j : ℕ) → j < first → maps e ino j ≡ maps d ino j)
+      → ((j : ℕ) → first + n ≤ j → maps e ino j ≡ maps d ino j)
+      → ((j : ℕ) → first ≤ j → j < first + n → hit row.page (maps e ino j) ≡ 0) → mappings e row.page + times row.slot (row_slots d ino first n) ≡
+      mappings d row.page
   places_lost e ino first n remaps fits before behind inside =
       let moved = inode_moves ino d e remaps row.page in
       let split : first + n + (4096 - (first + n)) ≡ 4096 = omega (arith, fits) in
       let lost : places d row.page ino ≡ places e row.page ino + sum_from (λ idx. hit row.page (maps d ino idx)) first n =
-      subst (λ (k : ℕ). total k (λ idx. hit row.page (maps d ino idx)) ≡ total k (λ idx. hit row.page (maps e ino idx)) + sum_from (λ idx. hit row.page (maps d ino idx)) first n) split
-      (run_lost (λ idx. hit row.page (maps d ino idx)) (λ idx. hit row.page (maps e ino idx)) first n (4096 - (first + n)) (λ j lt. ap (hit row.page) (before j lt)) inside (λ j le. ap (hit row.page) (behind j le))) in
+      subst (λ (k : ℕ). total k (λ idx. hit row.page (maps d ino idx)) ≡ total k (λ idx. hit row.page (maps e ino idx)) + sum_from
+      (λ idx. hit row.page (maps d ino idx)) first n) split
+      (run_lost (λ idx. hit row.page (maps d ino idx)) (λ idx. hit row.page (maps e ino idx)) first n (4096 - (first + n))
+      (λ j lt. ap (hit row.page) (before j lt)) inside (λ j le. ap (hit row.page) (behind j le))) in
       omega (arith, moved, lost, slots_hit ino first n)

@@ -27,15 +27,19 @@ pub record RaisesRow (b b' : Parts) (k : ℕ) (f f' : Flight) : Type 0 where
 pub raised_more : (b b' : Parts) (k : ℕ) (f f' : Flight) → RaisesRow b b' k f f' → (slot : ℕ)
     → raised b' slot ≡ raised b slot + times slot (get_or f.rows.items f.raised 0 ∷ [])
 raised_more b b' k f f' is slot =
-    let moved = total-change (λ j. times slot (raised_by (flight_at b.flights.items j))) (λ j. times slot (raised_by (flight_at b'.flights.items j))) 14 k is.client
+    let moved = total-change (λ j. times slot (raised_by (flight_at b.flights.items j))) (λ j. times slot (raised_by (flight_at b'.flights.items j)))
+    14 k is.client
     (λ j ne. ap (λ (r : Option Flight). times slot (raised_by r)) (is.others j ne)) in
-    let before : times slot (raised_by (flight_at b.flights.items k)) ≡ times slot (take f.raised f.rows.items) = ap (λ (r : Option Flight). times slot (raised_by r)) is.was in
+    let before : times slot (raised_by (flight_at b.flights.items k)) ≡ times slot (take f.raised f.rows.items) = ap
+    (λ (r : Option Flight). times slot (raised_by r)) is.was in
     let after : times slot (raised_by (flight_at b'.flights.items k)) ≡ times slot (take f.raised f.rows.items) + times slot (get_or f.rows.items f.raised 0 ∷ []) =
     ap (λ (r : Option Flight). times slot (raised_by r)) is.is
     ∙ ap (λ (n : ℕ). times slot (take n f'.rows.items)) is.one_more
     ∙ ap (λ (xs : List ℕ). times slot (take (suc f.raised) xs)) is.rows_same
     ∙ ap (times slot) (take-suc f.rows.items f.raised 0 is.some)
     ∙ times-append slot (take f.raised f.rows.items) (get_or f.rows.items f.raised 0 ∷ []) in
-    let shared : times slot (raised_to_share b'.sharing) ≡ times slot (raised_to_share b.sharing) = ap (λ r. times slot (raised_to_share r)) is.sharing in
-    let died : times slot (raised_to_die b'.reclaiming.raised) ≡ times slot (raised_to_die b.reclaiming.raised) = ap (λ r. times slot (raised_to_die r)) is.dying in
+    let shared : times slot (raised_to_share b'.sharing) ≡ times slot (raised_to_share b.sharing) = ap (λ r. times slot (raised_to_share r))
+    is.sharing in
+    let died : times slot (raised_to_die b'.reclaiming.raised) ≡ times slot (raised_to_die b.reclaiming.raised) = ap
+    (λ r. times slot (raised_to_die r)) is.dying in
     omega (arith, moved, before, after, shared, died)

@@ -21,19 +21,22 @@ found_in (r ∷ rs) page row is = by_test (found_in rs page row) (r.page == page
     some_same : r ∷ [] ≡ r ∷ [] → Some r ≡ Some row → r ≡ row
     some_same e at = cc
 
-    by_test : (row_of rs page ≡ Some row → Contains rs row) → (b : Bool) → (r.page == page) ≡ b → (if b then Some r else row_of rs page) ≡ Some row → Contains (r ∷ rs) row
+    by_test : (row_of rs page ≡ Some row → Contains rs row) → (b : Bool) → (r.page == page) ≡ b → (if b then Some r else row_of rs page) ≡ Some row
+        → Contains (r ∷ rs) row
     by_test later true test at = subst (Contains (r ∷ rs)) (some_same refl at) (listed_here r rs)
     by_test later false test at = listed_later r rs row (later at)
 
 module _ (d : Disk) where
   row_there : (r : Option Row) (page : ℕ) → row_of (rows d) page ≡ r → All (HasRow d) (slot_of_row r)
   row_there None page is = All-nil (HasRow d)
-  row_there (Some row) page is = All-cons (HasRow d) row.slot [] (record { row = row; is = record { there = found_in (rows d) page row is; slot_is = refl } }) (All-nil (HasRow d))
+  row_there (Some row) page is = All-cons (HasRow d) row.slot []
+      (record { row = row; is = record { there = found_in (rows d) page row is; slot_is = refl } }) (All-nil (HasRow d))
 
   pub row_slots_there : (ino from n : ℕ) → All (HasRow d) (row_slots d ino from n)
   unfolding row_slots
   row_slots_there ino from zero = All-nil (HasRow d)
-  row_slots_there ino from (suc n) = All-append (HasRow d) (slot_of d (maps d ino from)) (row_slots d ino (from + 1) n) (one (maps d ino from)) (row_slots_there ino (from + 1) n)
+  row_slots_there ino from (suc n) = All-append (HasRow d) (slot_of d (maps d ino from)) (row_slots d ino (from + 1) n) (one (maps d ino from))
+      (row_slots_there ino (from + 1) n)
     where
       one : (m : Option Mapping) → All (HasRow d) (slot_of d m)
       one None = All-nil (HasRow d)

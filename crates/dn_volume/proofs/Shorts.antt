@@ -1,5 +1,33 @@
 -- Want of room or of an inode stays accounted for, while scripts are told further.
-use Rattle.std.proofs.Common.{◌≡◌, ◌≢◌, ◌⊎◌, inl, inr, ⊎_elim, ℕ, zero, suc, ◌+◌, ◌-◌, ◌≤◌, List, [], ◌∷◌, ◌++◌, length, drop, refl, sym, ◌∙◌, ap, subst, arith, Option, Some, None}
+use Rattle.std.proofs.Common.{
+  ◌≡◌,
+  ◌≢◌,
+  ◌⊎◌,
+  inl,
+  inr,
+  ⊎_elim,
+  ℕ,
+  zero,
+  suc,
+  ◌+◌,
+  ◌-◌,
+  ◌≤◌,
+  List,
+  [],
+  ◌∷◌,
+  ◌++◌,
+  length,
+  drop,
+  refl,
+  sym,
+  ◌∙◌,
+  ap,
+  subst,
+  arith,
+  Option,
+  Some,
+  None,
+}
 use Rattle.std.specs.Prelude.{Contains, slice_get, ◌↔◌}
 use Rattle.std.proofs.lemmas.Bool.{cases_eq}
 use Rattle.std.proofs.lemmas.List.{drop-append-le}
@@ -54,7 +82,8 @@ same_later b b' k w scripts same are = record {
   );
 }
 
-module _ (b b' : Parts) (k w who : ℕ) (new : Op) (scripts : List (List Op)) (some : 1 ≤ who) (one : OneLater b b' k who new) (are : AreLater b k w scripts) where
+module _ (b b' : Parts) (k w who : ℕ) (new : Op) (scripts : List (List Op)) (some : 1 ≤ who) (one : OneLater b b' k who new)
+    (are : AreLater b k w scripts) where
   -- the client's own script is left out
   own_script : who ≡ w → AreLater b' k w scripts
   own_script same = record {
@@ -74,19 +103,31 @@ module _ (b b' : Parts) (k w who : ℕ) (new : Op) (scripts : List (List Op)) (s
         (cases_eq (who - 1) i);
   }
     where
-      there_script : (i : ℕ) (ops : List Op) (op : Op) → (who - 1 ≡ i → ⊥) → slice_get scripts i ≡ Some ops → Contains ops op ↔ ((i + 1 ≢ w) × IsLater b' k (i + 1) op)
+      there_script : (i : ℕ) (ops : List Op) (op : Op) → (who - 1 ≡ i → ⊥) → slice_get scripts i ≡ Some ops
+          → Contains ops op ↔ ((i + 1 ≢ w) × IsLater b' k (i + 1) op)
       there_script i ops op apart is = (
         λ has. let told = (are.script i ops is op).0 has in (told.0, (one (i + 1) op).0 (inl told.1)),
-        λ told. (are.script i ops is op).1 (told.0, ⊎_elim (λ was. was) (λ new'. absurd (apart (let e = new'.0 in omega (arith, e)))) ((one (i + 1) op).1 told.1)),
+        λ told. (are.script i ops is op).1 (
+          told.0,
+          ⊎_elim (λ was. was) (λ new'. absurd (apart (let e = new'.0 in omega (arith, e))))
+              ((one (i + 1) op).1 told.1),
+        ),
       )
 
-      longer_script : (i : ℕ) (old : List Op) (op : Op) → who ≡ i + 1 → slice_get scripts i ≡ Some old → Contains (new ∷ old) op ↔ ((i + 1 ≢ w) × IsLater b' k (i + 1) op)
+      longer_script : (i : ℕ) (old : List Op) (op : Op) → who ≡ i + 1 → slice_get scripts i ≡ Some old
+          → Contains (new ∷ old) op ↔ ((i + 1 ≢ w) × IsLater b' k (i + 1) op)
       longer_script i old op same is = (
-        λ has. (λ e. other (same ∙ e), (one (i + 1) op).0 (⊎_elim (λ e. inr (sym same, sym e)) (λ rest. inl ((are.script i old is op).0 rest).1) (cons_cases new op old has))),
-        λ told. ⊎_elim (λ was. later new op old ((are.script i old is op).1 (told.0, was))) (λ new'. subst (Contains (new ∷ old)) (sym new'.1) (here new old)) ((one (i + 1) op).1 told.1),
+        λ has. (
+          λ e. other (same ∙ e),
+          (one (i + 1) op).0 (⊎_elim (λ e. inr (sym same, sym e)) (λ rest. inl ((are.script i old is op).0 rest).1)
+              (cons_cases new op old has)),
+        ),
+        λ told. ⊎_elim (λ was. later new op old ((are.script i old is op).1 (told.0, was))) (λ new'. subst (Contains (new ∷ old)) (sym new'.1)
+            (here new old)) ((one (i + 1) op).1 told.1),
       )
 
-      here_script : (i : ℕ) (ops : List Op) (op : Op) → who - 1 ≡ i → slice_get (put_op (who - 1) new scripts) i ≡ Some ops → Contains ops op ↔ ((i + 1 ≢ w) × IsLater b' k (i + 1) op)
+      here_script : (i : ℕ) (ops : List Op) (op : Op) → who - 1 ≡ i → slice_get (put_op (who - 1) new scripts) i ≡ Some ops
+          → Contains ops op ↔ ((i + 1 ≢ w) × IsLater b' k (i + 1) op)
       here_script i ops op same is = by_old (slice_get scripts i) refl
         where
           put : slice_get (put_op i new scripts) i ≡ Some ops
@@ -96,7 +137,8 @@ module _ (b b' : Parts) (k w who : ℕ) (new : Op) (scripts : List (List Op)) (s
           by_old (Some old) was =
               let e : Some (new ∷ old) ≡ Some ops = sym (put_here i new scripts old was) ∙ put in
               let same_ops : new ∷ old ≡ ops = cc e in
-              subst (λ (xs : List Op). Contains xs op ↔ ((i + 1 ≢ w) × IsLater b' k (i + 1) op)) same_ops (longer_script i old op (omega (arith, same, some)) was)
+              subst (λ (xs : List Op). Contains xs op ↔ ((i + 1 ≢ w) × IsLater b' k (i + 1) op)) same_ops
+              (longer_script i old op (omega (arith, same, some)) was)
           by_old None was = absurd (past_none scripts i was put)
             where
               past_none : (xs : List (List Op)) (j : ℕ) → slice_get xs j ≡ None → slice_get (put_op j new xs) j ≡ Some ops → ⊥
@@ -105,10 +147,12 @@ module _ (b b' : Parts) (k w who : ℕ) (new : Op) (scripts : List (List Op)) (s
               past_none (x ∷ xs) (suc j) none found = past_none xs j none found
 
   pub one_later : (longs : List (List Op)) × AreLater b' k w longs × AreGrown scripts longs
-  one_later = ⊎_elim (λ same. (scripts, own_script same, same_grown scripts)) (λ other. (put_op (who - 1) new scripts, put_script other, put_grown (who - 1) new scripts)) (cases_eq who w)
+  one_later = ⊎_elim (λ same. (scripts, own_script same, same_grown scripts))
+      (λ other. (put_op (who - 1) new scripts, put_script other, put_grown (who - 1) new scripts)) (cases_eq who w)
 
 -- Each event tells scripts so.
-entry_later : (b : Parts) (k q : ℕ) (op : Op) (entry : Entry) → Contains (drop k b.history.items) entry → entry.who ≡ q → entry.op ≡ op → IsLater b k q op
+entry_later : (b : Parts) (k q : ℕ) (op : Op) (entry : Entry) → Contains (drop k b.history.items) entry → entry.who ≡ q → entry.op ≡ op
+    → IsLater b k q op
 entry_later b k q op entry has who is = record { why = inl (entry, has, who, is) }
 
 flight_later : (b : Parts) (k q : ℕ) (op : Op) (f : Flight) → Flies b q f → f.op ≡ op → IsLater b k q op
@@ -127,18 +171,22 @@ module _ (b b' : Parts) (k who : ℕ) (entry : Entry) (few : k ≤ length b.hist
     (entry_who : entry.who ≡ who) where
   in_old : (e : Entry) → Contains (drop k b.history.items) e → Contains (drop k b'.history.items) e
   in_old e has = subst (λ (h : List Entry). Contains (drop k h) e) (sym more)
-      (subst (λ (h : List Entry). Contains h e) (sym (drop-append-le k b.history.items (entry ∷ []) few)) (Contains-append_left (drop k b.history.items) (entry ∷ []) e has))
+      (subst (λ (h : List Entry). Contains h e) (sym (drop-append-le k b.history.items (entry ∷ []) few))
+      (Contains-append_left (drop k b.history.items) (entry ∷ []) e has))
 
   in_new : Contains (drop k b'.history.items) entry
   in_new = subst (λ (h : List Entry). Contains (drop k h) entry) (sym more)
-      (subst (λ (h : List Entry). Contains h entry) (sym (drop-append-le k b.history.items (entry ∷ []) few)) (Contains-append_right (drop k b.history.items) (entry ∷ []) entry (here entry [])))
+      (subst (λ (h : List Entry). Contains h entry) (sym (drop-append-le k b.history.items (entry ∷ []) few))
+      (Contains-append_right (drop k b.history.items) (entry ∷ []) entry (here entry [])))
 
   either : (e : Entry) → Contains (drop k b'.history.items) e → Contains (drop k b.history.items) e ⊎ (entry ≡ e)
   either e has = ⊎_elim inl (λ new. inr (⊎_elim (λ same. same) (λ none. absurd (none_listed e none)) (cons_cases entry e [] new)))
       (Contains-append_cases (drop k b.history.items) (entry ∷ []) e
-      (subst (λ (h : List Entry). Contains h e) (drop-append-le k b.history.items (entry ∷ []) few) (subst (λ (h : List Entry). Contains (drop k h) e) more has)))
+      (subst (λ (h : List Entry). Contains h e) (drop-append-le k b.history.items (entry ∷ []) few) (subst (λ (h : List Entry). Contains (drop k h) e)
+      more has)))
 
-  pub answered_later : (left : ℕ) (op : Op) → entry.op ≡ op → InFlight b who op left → SameOthers who b b' → flight_at b'.flights.items (who - 1) ≡ None → SameLater b b' k
+  pub answered_later : (left : ℕ) (op : Op) → entry.op ≡ op → InFlight b who op left → SameOthers who b b'
+      → flight_at b'.flights.items (who - 1) ≡ None → SameLater b b' k
   answered_later left op entry_op flew others landed q o = (
     λ is. ⊎_elim (λ e. entry_later b' k q o e.0 (in_old e.0 e.1) e.2 e.3) (λ f. by_client f.0 f.1 f.2 (cases_eq q who)) is.why,
     λ is. ⊎_elim (λ e. ⊎_elim (λ old. entry_later b k q o e.0 old e.2 e.3)
@@ -146,7 +194,8 @@ module _ (b b' : Parts) (k who : ℕ) (entry : Entry) (few : k ≤ length b.hist
         (subst (λ (n : ℕ). Flies b n flew.flight) (sym entry_who ∙ ap (λ (x : Entry). x.who) same ∙ e.2) flew.flies)
         (flew.op_is ∙ sym entry_op ∙ ap (λ (x : Entry). x.op) same ∙ e.3))
         (either e.0 e.1))
-        (λ f. flight_later b k q o f.0 (record { client = f.1.client; is = sym (others.flights q f.1.client (not_who f.0 f.1)) ∙ f.1.is }) f.2) is.why,
+        (λ f. flight_later b k q o f.0 (record { client = f.1.client; is = sym (others.flights q f.1.client (not_who f.0 f.1)) ∙ f.1.is }) f.2)
+        is.why,
   )
     where
       not_who : (f : Flight) → Flies b' q f → q ≡ who → ⊥
@@ -155,8 +204,10 @@ module _ (b b' : Parts) (k who : ℕ) (entry : Entry) (few : k ≤ length b.hist
       by_client : (f : Flight) → Flies b q f → f.op ≡ o → ((q ≡ who) ⊎ (q ≡ who → ⊥)) → IsLater b' k q o
       by_client f flies is (inl same) =
           entry_later b' k q o entry in_new (entry_who ∙ sym same)
-          (entry_op ∙ sym flew.op_is ∙ ap (λ (g : Flight). g.op) (one_flight b who flew.flight f flew.flies (subst (λ (n : ℕ). Flies b n f) same flies)) ∙ is)
-      by_client f flies is (inr other) = flight_later b' k q o f (record { client = flies.client; is = others.flights q flies.client other ∙ flies.is }) is
+          (entry_op ∙ sym flew.op_is ∙ ap (λ (g : Flight). g.op)
+          (one_flight b who flew.flight f flew.flies (subst (λ (n : ℕ). Flies b n f) same flies)) ∙ is)
+      by_client f flies is (inr other) = flight_later b' k q o f
+          (record { client = flies.client; is = others.flights q flies.client other ∙ flies.is }) is
 
   -- an operation is answered at once
   pub at_once_later : (op : Op) → entry.op ≡ op → b'.flights.items ≡ b.flights.items → OneLater b b' k who op
@@ -164,7 +215,8 @@ module _ (b b' : Parts) (k who : ℕ) (entry : Entry) (few : k ≤ length b.hist
     λ is. ⊎_elim (λ was. ⊎_elim (λ e. entry_later b' k q o e.0 (in_old e.0 e.1) e.2 e.3) (λ f. flight_later b' k q o f.0 (there f.0 f.1) f.2) was.why)
         (λ new. entry_later b' k q o entry in_new (entry_who ∙ sym new.0) (entry_op ∙ sym new.1)) is,
     λ is. ⊎_elim (λ e. ⊎_elim (λ old. inl (entry_later b k q o e.0 old e.2 e.3))
-        (λ new. inr (sym e.2 ∙ sym (ap (λ (x : Entry). x.who) new) ∙ entry_who, sym e.3 ∙ sym (ap (λ (x : Entry). x.op) new) ∙ entry_op)) (either e.0 e.1))
+        (λ new. inr (sym e.2 ∙ sym (ap (λ (x : Entry). x.who) new) ∙ entry_who, sym e.3 ∙ sym (ap (λ (x : Entry). x.op) new) ∙ entry_op))
+        (either e.0 e.1))
         (λ f. inl (flight_later b k q o f.0 (back f.0 f.1) f.2)) is.why,
   )
     where
@@ -175,12 +227,14 @@ module _ (b b' : Parts) (k who : ℕ) (entry : Entry) (few : k ≤ length b.hist
       back f flies = record { client = flies.client; is = ap (λ fs. flight_at fs (q - 1)) (sym same) ∙ flies.is }
 
 -- an operation begins
-pub begun_later : (b b' : Parts) (k who left : ℕ) (op : Op) → b'.history.items ≡ b.history.items → flight_at b.flights.items (who - 1) ≡ None → InFlight b' who op left → SameOthers who b b' → OneLater b b' k who op
+pub begun_later : (b b' : Parts) (k who left : ℕ) (op : Op) → b'.history.items ≡ b.history.items → flight_at b.flights.items (who - 1) ≡ None
+    → InFlight b' who op left → SameOthers who b b' → OneLater b b' k who op
 begun_later b b' k who left op same idle flew others q o = (
   λ is. ⊎_elim (λ was. ⊎_elim (λ e. entry_later b' k q o e.0 (subst (λ (h : List Entry). Contains (drop k h) e.0) (sym same) e.1) e.2 e.3)
       (λ f. flight_later b' k q o f.0 (record { client = f.1.client; is = others.flights q f.1.client (not_who f.0 f.1) ∙ f.1.is }) f.2) was.why)
       (λ new. flight_later b' k q o flew.flight (subst (λ (n : ℕ). Flies b' n flew.flight) (sym new.0) flew.flies) (flew.op_is ∙ sym new.1)) is,
-  λ is. ⊎_elim (λ e. inl (entry_later b k q o e.0 (subst (λ (h : List Entry). Contains (drop k h) e.0) same e.1) e.2 e.3)) (λ f. by_client f.0 f.1 f.2 (cases_eq q who)) is.why,
+  λ is. ⊎_elim (λ e. inl (entry_later b k q o e.0 (subst (λ (h : List Entry). Contains (drop k h) e.0) same e.1) e.2 e.3))
+      (λ f. by_client f.0 f.1 f.2 (cases_eq q who)) is.why,
 )
   where
     not_who : (f : Flight) → Flies b q f → q ≡ who → ⊥
@@ -188,24 +242,32 @@ begun_later b b' k who left op same idle flew others q o = (
 
     by_client : (f : Flight) → Flies b' q f → f.op ≡ o → ((q ≡ who) ⊎ (q ≡ who → ⊥)) → IsLater b k q o ⊎ ((q ≡ who) × (o ≡ op))
     by_client f flies is (inl at) =
-        inr (at, sym is ∙ sym (ap (λ (g : Flight). g.op) (one_flight b' who flew.flight f flew.flies (subst (λ (n : ℕ). Flies b' n f) at flies))) ∙ flew.op_is)
-    by_client f flies is (inr other) = inl (flight_later b k q o f (record { client = flies.client; is = sym (others.flights q flies.client other) ∙ flies.is }) is)
+        inr (
+          at,
+          sym is ∙ sym (ap (λ (g : Flight). g.op) (one_flight b' who flew.flight f flew.flies (subst (λ (n : ℕ). Flies b' n f) at flies))) ∙
+              flew.op_is,
+        )
+    by_client f flies is (inr other) = inl
+        (flight_later b k q o f (record { client = flies.client; is = sym (others.flights q flies.client other) ∙ flies.is }) is)
 
 -- So wants stay accounted for: those of the history so far.
 module _ (base : Base) (b b' : Parts) (s t : State) (on : Extends s.past t.past) (short : AreShort base b s) where
-  pub same_space : ((k : ℕ) → k ≤ length b.history.items → SameLater b b' k) → (k needed free : ℕ) (entry : Entry) → slice_get b.history.items k ≡ Some entry → entry.reply ≡ Refused (NoSpace needed free)
+  pub same_space : ((k : ℕ) → k ≤ length b.history.items → SameLater b b' k) → (k needed free : ℕ) (entry : Entry)
+      → slice_get b.history.items k ≡ Some entry → entry.reply ≡ Refused (NoSpace needed free)
       → (e : Disk) × (scripts : List (List Op)) × WasLeft base t e × AreLater b' k entry.who scripts × IsShortOfSpace e scripts entry.op needed free
   same_space same k needed free entry is reply =
       let was = short.space k needed free entry is reply in
       (was.0, was.1, was_left base s t was.0 on was.2, same_later b b' k entry.who was.1 (same k (within b.history.items k entry is)) was.3, was.4)
     where
       within : (xs : List Entry) (i : ℕ) (x : Entry) → slice_get xs i ≡ Some x → i ≤ length xs
-      within xs i x found = ⊎_elim (λ in'. let lt = in'.1 in omega (arith, lt)) (λ past. absurd (clash (slice_get xs i) past.1 found)) (slice_get_cases xs i).1
+      within xs i x found = ⊎_elim (λ in'. let lt = in'.1 in omega (arith, lt)) (λ past. absurd (clash (slice_get xs i) past.1 found))
+          (slice_get_cases xs i).1
         where
           clash : (r : Option Entry) → r ≡ None → r ≡ Some x → ⊥
           clash r none some = cc
 
-  pub grown_space : (who : ℕ) (op : Op) → 1 ≤ who → ((k : ℕ) → k ≤ length b.history.items → OneLater b b' k who op) → (k needed free : ℕ) (entry : Entry) → slice_get b.history.items k ≡ Some entry → entry.reply ≡ Refused (NoSpace needed free)
+  pub grown_space : (who : ℕ) (op : Op) → 1 ≤ who → ((k : ℕ) → k ≤ length b.history.items → OneLater b b' k who op)
+      → (k needed free : ℕ) (entry : Entry) → slice_get b.history.items k ≡ Some entry → entry.reply ≡ Refused (NoSpace needed free)
       → (e : Disk) × (scripts : List (List Op)) × WasLeft base t e × AreLater b' k entry.who scripts × IsShortOfSpace e scripts entry.op needed free
   grown_space who op some one k needed free entry is reply =
       let was = short.space k needed free entry is reply in
@@ -213,12 +275,14 @@ module _ (base : Base) (b b' : Parts) (s t : State) (on : Extends s.past t.past)
       (was.0, grown.0, was_left base s t was.0 on was.2, grown.1, still_short was.0 was.1 grown.0 entry.op needed free grown.2 was.4)
     where
       within : (xs : List Entry) (i : ℕ) (x : Entry) → slice_get xs i ≡ Some x → i ≤ length xs
-      within xs i x found = ⊎_elim (λ in'. let lt = in'.1 in omega (arith, lt)) (λ past. absurd (clash (slice_get xs i) past.1 found)) (slice_get_cases xs i).1
+      within xs i x found = ⊎_elim (λ in'. let lt = in'.1 in omega (arith, lt)) (λ past. absurd (clash (slice_get xs i) past.1 found))
+          (slice_get_cases xs i).1
         where
           clash : (r : Option Entry) → r ≡ None → r ≡ Some x → ⊥
           clash r none some = cc
 
-  pub old_inode : (k : ℕ) (entry : Entry) → slice_get b.history.items k ≡ Some entry → entry.reply ≡ Refused NoInode → (e : Disk) × WasLeft base t e × IsShortOfInodes e entry.op
+  pub old_inode : (k : ℕ) (entry : Entry) → slice_get b.history.items k ≡ Some entry → entry.reply ≡ Refused NoInode → (e : Disk) × WasLeft base t
+      e × IsShortOfInodes e entry.op
   old_inode k entry is reply = let was = short.inode k entry is reply in (was.0, was_left base s t was.0 on was.1, was.2)
 
   -- the history stays
@@ -228,20 +292,24 @@ module _ (base : Base) (b b' : Parts) (s t : State) (on : Extends s.past t.past)
     inode = λ k entry is. old_inode k entry (subst (λ (h : List Entry). slice_get h k ≡ Some entry) same is);
   }
 
-  pub begins_short : (who : ℕ) (op : Op) → 1 ≤ who → b'.history.items ≡ b.history.items → ((k : ℕ) → k ≤ length b.history.items → OneLater b b' k who op) → AreShort base b' t
+  pub begins_short : (who : ℕ) (op : Op) → 1 ≤ who → b'.history.items ≡ b.history.items
+      → ((k : ℕ) → k ≤ length b.history.items → OneLater b b' k who op) → AreShort base b' t
   begins_short who op some same one = record {
-    space = λ k needed free entry is. grown_space who op some one k needed free entry (subst (λ (h : List Entry). slice_get h k ≡ Some entry) same is);
+    space = λ k needed free entry is. grown_space who op some one k needed free entry (subst (λ (h : List Entry). slice_get h k ≡ Some entry) same
+        is);
     inode = λ k entry is. old_inode k entry (subst (λ (h : List Entry). slice_get h k ≡ Some entry) same is);
   }
 
 -- an entry of a longer history is an old one, or the last
-pub old_or_last : (xs : List Entry) (x : Entry) (k : ℕ) (entry : Entry) → slice_get (xs ++ x ∷ []) k ≡ Some entry → (slice_get xs k ≡ Some entry) ⊎ ((k ≡ length xs) × (x ≡ entry))
+pub old_or_last : (xs : List Entry) (x : Entry) (k : ℕ) (entry : Entry) → slice_get (xs ++ x ∷ []) k ≡ Some entry → (slice_get xs k ≡ Some entry)
+    ⊎ ((k ≡ length xs) × (x ≡ entry))
 old_or_last [] x zero entry is = inr (refl, cc is)
 old_or_last [] x (suc k) entry is = absurd (cc is)
 old_or_last (y ∷ xs) x zero entry is = inl is
 old_or_last (y ∷ xs) x (suc k) entry is = ⊎_elim (λ old. inl old) (λ last. inr (ap suc last.0, last.1)) (old_or_last xs x k entry is)
 
-module _ (base : Base) (b b' : Parts) (s t : State) (on : Extends s.past t.past) (short : AreShort base b s) (last : Entry) (more : b'.history.items ≡ b.history.items ++ last ∷ []) where
+module _ (base : Base) (b b' : Parts) (s t : State) (on : Extends s.past t.past) (short : AreShort base b s) (last : Entry)
+    (more : b'.history.items ≡ b.history.items ++ last ∷ []) where
   -- an entry more, which isn't a want
   pub more_short : ((why : Refusal) → last.reply ≡ Refused why → ⊥) → ((k : ℕ) → k ≤ length b.history.items → SameLater b b' k) → AreShort base b' t
   more_short done same = record {
@@ -255,20 +323,25 @@ module _ (base : Base) (b b' : Parts) (s t : State) (on : Extends s.past t.past)
 
   -- an entry more that may be one
   pub wants_short : (op : Op) → 1 ≤ last.who → last.op ≡ op → ((k : ℕ) → k ≤ length b.history.items → OneLater b b' k last.who op)
-      → ((needed free : ℕ) → last.reply ≡ Refused (NoSpace needed free) → (e : Disk) × (scripts : List (List Op)) × WasLeft base t e × AreLater b' (length b.history.items) last.who scripts × IsShortOfSpace e scripts last.op needed free)
+      → ((needed free : ℕ) → last.reply ≡ Refused (NoSpace needed free) → (e : Disk) × (scripts : List (List Op)) × WasLeft base t e × AreLater b'
+      (length b.history.items) last.who scripts × IsShortOfSpace e scripts last.op needed free)
       → (last.reply ≡ Refused NoInode → (e : Disk) × WasLeft base t e × IsShortOfInodes e last.op) → AreShort base b' t
   wants_short op some op_is one space inode = record {
     space = λ k needed free entry is reply. ⊎_elim (λ old. grown_space base b b' s t on short last.who op some one k needed free entry old reply)
         (λ new. new_space k needed free entry new.0 new.1 reply)
         (old_or_last b.history.items last k entry (subst (λ (h : List Entry). slice_get h k ≡ Some entry) more is));
     inode = λ k entry is reply. ⊎_elim (λ old. old_inode base b b' s t on short k entry old reply)
-        (λ new. subst (λ (x : Entry). (e : Disk) × WasLeft base t e × IsShortOfInodes e x.op) new.1 (inode (ap (λ (x : Entry). x.reply) new.1 ∙ reply)))
+        (λ new. subst (λ (x : Entry). (e : Disk) × WasLeft base t e × IsShortOfInodes e x.op) new.1
+        (inode (ap (λ (x : Entry). x.reply) new.1 ∙ reply)))
         (old_or_last b.history.items last k entry (subst (λ (h : List Entry). slice_get h k ≡ Some entry) more is));
   }
     where
       new_space : (k needed free : ℕ) (entry : Entry) → k ≡ length b.history.items → last ≡ entry → entry.reply ≡ Refused (NoSpace needed free)
-          → (e : Disk) × (scripts : List (List Op)) × WasLeft base t e × AreLater b' k entry.who scripts × IsShortOfSpace e scripts entry.op needed free
+          → (e : Disk) × (scripts : List (List Op)) × WasLeft base t e × AreLater b' k entry.who scripts × IsShortOfSpace e scripts entry.op needed
+          free
       new_space k needed free entry here' same reply =
-          subst (λ (n : ℕ). (e : Disk) × (scripts : List (List Op)) × WasLeft base t e × AreLater b' n entry.who scripts × IsShortOfSpace e scripts entry.op needed free) (sym here')
-          (subst (λ (x : Entry). (e : Disk) × (scripts : List (List Op)) × WasLeft base t e × AreLater b' (length b.history.items) x.who scripts × IsShortOfSpace e scripts x.op needed free) same
+          subst (λ (n : ℕ). (e : Disk) × (scripts : List (List Op)) × WasLeft base t e × AreLater b' n entry.who scripts × IsShortOfSpace e scripts
+          entry.op needed free) (sym here')
+          (subst (λ (x : Entry). (e : Disk) × (scripts : List (List Op)) × WasLeft base t e × AreLater b' (length b.history.items) x.who
+          scripts × IsShortOfSpace e scripts x.op needed free) same
           (space needed free (ap (λ (x : Entry). x.reply) same ∙ reply)))

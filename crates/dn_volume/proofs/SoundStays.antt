@@ -1,5 +1,27 @@
 -- An event keeps a volume sound.
-use Rattle.std.proofs.Common.{◌≡◌, ◌⊎◌, inl, inr, ⊎_elim, ℕ, ◌≤◌, List, [], ◌∷◌, ◌++◌, length, refl, sym, ◌∙◌, ap, subst, arith, Option, Some, length-append}
+use Rattle.std.proofs.Common.{
+  ◌≡◌,
+  ◌⊎◌,
+  inl,
+  inr,
+  ⊎_elim,
+  ℕ,
+  ◌≤◌,
+  List,
+  [],
+  ◌∷◌,
+  ◌++◌,
+  length,
+  refl,
+  sym,
+  ◌∙◌,
+  ap,
+  subst,
+  arith,
+  Option,
+  Some,
+  length-append,
+}
 use Rattle.std.specs.Prelude.{Contains, slice_index, if◌then◌else◌, ◌==◌}
 use Rattle.std.proofs.lemmas.List.{take-append-le, take_all}
 use Rattle.pm_device.specs.Past.{Past, Left, LeftOf, moment}
@@ -33,7 +55,8 @@ pub after_more : (xs ys : List CountChange) (slot word : ℕ) → word_after (xs
 after_more [] ys slot word = refl
 after_more (x ∷ xs) ys slot word = after_more xs ys slot (if x.slot == slot then x.word else word)
 
-pub traced_on : (base : Base) (d e : Disk) (b b' : Parts) → Traces d e b b' → ((slot : ℕ) → word_at d slot ≡ word_after b.trace.items slot (word_at base.disk slot))
+pub traced_on : (base : Base) (d e : Disk) (b b' : Parts) → Traces d e b b'
+    → ((slot : ℕ) → word_at d slot ≡ word_after b.trace.items slot (word_at base.disk slot))
     → (slot : ℕ) → word_at e slot ≡ word_after b'.trace.items slot (word_at base.disk slot)
 traced_on base d e b b' traces was slot =
     traces.words slot
@@ -62,15 +85,20 @@ AloneSince print base history d = (ino idx : ℕ) (m : Mapping) → LivePlace d 
     → WasAlone base ino idx m.block ⊎ ((f : Files) × IsOnTheWay (base_files base) history f × HasTwin print f (page_bytes d m.block))
 
 abbrev pub PagesSince : Base → List Entry → Disk → Type 0
-PagesSince base history d = (row : Row) → Contains (rows d) row → (f : Files) × IsOnTheWay (base_files base) history f × HasPage f (page_bytes d row.page)
+PagesSince base history d = (row : Row) → Contains (rows d) row → (f : Files) × IsOnTheWay (base_files base) history f × HasPage f
+    (page_bytes d row.page)
 
-module _ (print : Print) (base : Base) (history more : List Entry) (d e : Disk) (legal : Legal (base_files base) history (files d)) (accounts : AccountsFor print d e) where
+module _ (print : Print) (base : Base) (history more : List Entry) (d e : Disk) (legal : Legal (base_files base) history (files d))
+    (accounts : AccountsFor print d e) where
   pub alone_on : AloneSince print base history d → AloneSince print base (history ++ more) e
   alone_on since ino idx m place alone =
       ⊎_elim (λ was. by_old was (since ino idx was.mapping was.place was.alone))
-      (λ twin. inr (files d, way_on (base_files base) history more (files d) (way_here (base_files base) history (files d) legal), twin)) (accounts.alone ino idx m place alone)
+      (λ twin. inr (files d, way_on (base_files base) history more (files d) (way_here (base_files base) history (files d) legal), twin))
+      (accounts.alone ino idx m place alone)
     where
-      by_old : (was : WasAloneOn d e ino idx m) → (WasAlone base ino idx was.mapping.block ⊎ ((f : Files) × IsOnTheWay (base_files base) history f × HasTwin print f (page_bytes d was.mapping.block)))
+      by_old : (was : WasAloneOn d e ino idx m)
+          → (WasAlone base ino idx was.mapping.block ⊎ ((f : Files) × IsOnTheWay (base_files base) history f × HasTwin print f
+          (page_bytes d was.mapping.block)))
           → WasAlone base ino idx m.block ⊎ ((f : Files) × IsOnTheWay (base_files base) (history ++ more) f × HasTwin print f (page_bytes e m.block))
       by_old was (inl early) = inl (subst (WasAlone base ino idx) was.page_is early)
       by_old was (inr found) = inr (
@@ -82,17 +110,25 @@ module _ (print : Print) (base : Base) (history more : List Entry) (d e : Disk) 
   pub pages_on : PagesSince base history d → PagesSince base (history ++ more) e
   pages_on since row has =
       ⊎_elim (λ had. by_old had (since had.was had.there))
-      (λ page. (files d, way_on (base_files base) history more (files d) (way_here (base_files base) history (files d) legal), page)) (accounts.row_pages row has)
+      (λ page. (files d, way_on (base_files base) history more (files d) (way_here (base_files base) history (files d) legal), page))
+      (accounts.row_pages row has)
     where
       by_old : (had : HadRow d e row) → ((f : Files) × IsOnTheWay (base_files base) history f × HasPage f (page_bytes d had.was.page))
           → (f : Files) × IsOnTheWay (base_files base) (history ++ more) f × HasPage f (page_bytes e row.page)
-      by_old had found = (found.0, way_on (base_files base) history more found.0 found.1, subst (HasPage found.0) (ap (page_bytes d) had.page_is ∙ sym had.bytes_are) found.2)
+      by_old had found = (
+        found.0,
+        way_on (base_files base) history more found.0 found.1,
+        subst (HasPage found.0)
+            (ap (page_bytes d) had.page_is ∙ sym had.bytes_are) found.2,
+      )
 
 -- with the same history
-pub alone_since : (print : Print) (base : Base) (history history' : List Entry) (d : Disk) → history' ≡ history → AloneSince print base history d → AloneSince print base history' d
+pub alone_since : (print : Print) (base : Base) (history history' : List Entry) (d : Disk) → history' ≡ history → AloneSince print base history d
+    → AloneSince print base history' d
 alone_since print base history history' d same since = subst (λ (h : List Entry). AloneSince print base h d) (sym same) since
 
-pub pages_since : (base : Base) (history history' : List Entry) (d : Disk) → history' ≡ history → PagesSince base history d → PagesSince base history' d
+pub pages_since : (base : Base) (history history' : List Entry) (d : Disk) → history' ≡ history → PagesSince base history d
+    → PagesSince base history' d
 pages_since base history history' d same since = subst (λ (h : List Entry). PagesSince base h d) (sym same) since
 
 -- what the words stand for now may be left now
@@ -118,7 +154,8 @@ left_now s p told agree = subst (λ (o : Option Past). Left o (moment o) s.now) 
 pub stands_now : (d : Disk) (b : Parts) (s : State) → StandsFast d b.geometry s → StandsFor s.now d
 stands_now d b s fast = stands_for_read d s.now fast.valid fast.stands.reads fast.long
 
-pub was_left_now : (base : Base) (d : Disk) (b : Parts) (s : State) (p : Past) → s.past ≡ Some p → Agree s.now s.past → StandsFast d b.geometry s → base.start ≤ moment s.past → WasLeft base s d
+pub was_left_now : (base : Base) (d : Disk) (b : Parts) (s : State) (p : Past) → s.past ≡ Some p → Agree s.now s.past → StandsFast d b.geometry s
+    → base.start ≤ moment s.past → WasLeft base s d
 was_left_now base d b s p told agree fast begun = record {
   m = moment s.past;
   c = s.now;

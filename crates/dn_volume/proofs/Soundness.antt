@@ -29,7 +29,8 @@ use Rattle.dn_volume.proofs.Shorts.{stays_short, goes_on_later, answered_later, 
 use Rattle.dn_volume.proofs.SoundStays.{traced_on, alone_on, pages_on, alone_since, pages_since, rose_since, image_now}
 
 -- a volume that isn't stopped and is sound has a disk
-pub sound_disk : {D F : Type 0} (state : D → State) (print : Print) (base : Base) (v : Volume D F) → v.parts.stopped ≡ false → Sound state print base v
+pub sound_disk : {D F : Type 0} (state : D → State) (print : Print) (base : Base) (v : Volume D F) → v.parts.stopped ≡ false
+    → Sound state print base v
     → (d : Disk) × IsVolume d v.parts (state v.device) × IsSound print base d v.parts (state v.device)
 sound_disk state print base v running (is_sound d volume sound) = (d, volume, sound)
 sound_disk state print base v running (was_sound stopped was) = absurd (apart v.parts.stopped running stopped.stopped)
@@ -38,7 +39,8 @@ sound_disk state print base v running (was_sound stopped was) = absurd (apart v.
     apart b low high = cc
 
 -- where the past is told afterwards, wants were accounted for before
-pub told_short : (base : Base) (b b' : Parts) (s t : State) → Extends s.past t.past → ((p : Past) → s.past ≡ Some p → AreShort base b s) → (AreShort base b s → AreShort base b' t) → (p : Past) → t.past ≡ Some p → AreShort base b' t
+pub told_short : (base : Base) (b b' : Parts) (s t : State) → Extends s.past t.past → ((p : Past) → s.past ≡ Some p → AreShort base b s)
+    → (AreShort base b s → AreShort base b' t) → (p : Past) → t.past ≡ Some p → AreShort base b' t
 told_short base b b' s t on short gives p told = let before = told_before s.past t.past on p told in gives (short before.0 before.1)
 
 module _ {D F : Type 0} (state : D → State) (print : Print) (base : Base) (who : ℕ) (v v' : Volume D F) (d e : Disk)
@@ -62,13 +64,16 @@ module _ {D F : Type 0} (state : D → State) (print : Print) (base : Base) (who
     faults = omega (arith, sound.faults, moves.faults);
   }
 
-  pub moved_on : IsSameFiles (files e) (files d) → KeepsOps v.parts v'.parts → v'.parts.history.items ≡ v.parts.history.items → IsSound print base e v'.parts (state v'.device)
+  pub moved_on : IsSameFiles (files e) (files d) → KeepsOps v.parts v'.parts → v'.parts.history.items ≡ v.parts.history.items
+      → IsSound print base e v'.parts (state v'.device)
   moved_on quiet ops same =
       sound_then [] (same ∙ sym (append-nil v.parts.history.items))
-      (subst (λ (h : List Entry). IsOnCourse print (base_files base) base.start h (files e) (state v'.device)) (sym (append-nil v.parts.history.items))
+      (subst (λ (h : List Entry). IsOnCourse print (base_files base) base.start h (files e) (state v'.device))
+      (sym (append-nil v.parts.history.items))
       (stay print base v.parts.history.items d e (state v.device) (state v'.device) sound.own sound.course moves.images quiet))
       (told_short base v.parts v'.parts (state v.device) (state v'.device) moves.images.extends sound.short
-      (λ short. stays_short base v.parts v'.parts (state v.device) (state v'.device) moves.images.extends short same (λ k few. goes_on_later v.parts v'.parts k same ops)))
+      (λ short. stays_short base v.parts v'.parts (state v.device) (state v'.device) moves.images.extends short same
+      (λ k few. goes_on_later v.parts v'.parts k same ops)))
 
 not_refused : (r : Reply) (why : Refusal) → r ≡ Done → r ≡ Refused why → ⊥
 not_refused r why is other = let clash : Done ≡ Refused why = sym is ∙ other in cc clash
@@ -87,7 +92,8 @@ answers_stay_sound state agree print base who op reply v v' running sound answer
     let step : Step (files was.0) a.entry.op a.entry.reply (files a.after) =
     subst (λ (o : Op). Step (files was.0) o a.entry.reply (files a.after)) (sym a.op_is)
     (subst (λ (r : Reply). Step (files was.0) op r (files a.after)) (sym a.reply_is) (done a.granted a.grants (a.files_after own))) in
-    let now : LeavesNow (state v'.device) (IsImageOf print (files a.after)) = λ c left. image_now print a.after v'.parts (state v'.device) a.moves.volume.fast (a.moves.own own) (agree v'.device) c left in
+    let now : LeavesNow (state v'.device) (IsImageOf print (files a.after)) = λ c left. image_now print a.after v'.parts (state v'.device)
+    a.moves.volume.fast (a.moves.own own) (agree v'.device) c left in
     is_sound a.after a.moves.volume
     (sound_then state print base who v v' was.0 a.after was.2 a.moves (a.entry ∷ []) a.history
     (go_on print base v.parts.history.items was.0 a.after (state v.device) (state v'.device) own was.2.course a.moves.images a.entry step now)
@@ -106,7 +112,8 @@ breaks_stay_sound state print base who answers v v' running sound breaks =
       files_then = files d;
       legal = subst (λ (h : List Entry). Legal (base_files base) h (files d)) (sym b.history) s.legal;
       short = told_short base v.parts v'.parts (state v.device) (state v'.device) b.images.extends s.short
-          (λ short. stays_short base v.parts v'.parts (state v.device) (state v'.device) b.images.extends short b.history (λ k few. goes_on_later v.parts v'.parts k b.history b.ops));
+          (λ short. stays_short base v.parts v'.parts (state v.device) (state v'.device) b.images.extends short b.history
+          (λ k few. goes_on_later v.parts v'.parts k b.history b.ops));
       rose = rose_since base.faults (state v.device).faults (state v'.device).faults s.faults b.rose;
       course = by_answer answers refl d b s;
     })

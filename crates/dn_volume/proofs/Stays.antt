@@ -21,7 +21,8 @@ map-same f g [] same = refl
 map-same f g (x ∷ xs) same = ap (λ y. y ∷ map f xs) (same x) ∙ ap (λ ys. g x ∷ ys) (map-same f g xs same)
 
 -- of one inode that the event leaves alone
-module _ (inodes pages : List ℕ) (d e : Disk) (valid : IsValid d) (rest : KeepsRest inodes pages d e) (ino : ℕ) (in_table : ino < d.geometry.inodes) (out : Contains inodes ino → ⊥) where
+module _ (inodes pages : List ℕ) (d e : Disk) (valid : IsValid d) (rest : KeepsRest inodes pages d e) (ino : ℕ) (in_table : ino < d.geometry.inodes)
+    (out : Contains inodes ino → ⊥) where
   pub node_same : e.inode ino ≡ d.inode ino
   node_same = rest.inode ino out
 
@@ -57,7 +58,8 @@ module _ (inodes pages : List ℕ) (d e : Disk) (valid : IsValid d) (rest : Keep
   unfolding bytes
   bytes_same =
       ap (λ (log : Log). map (λ j. mapped_byte e (j % 4096) (maps e ino (j / 4096))) (range_with_len 0 (size_of log))) log_same
-      ∙ map-same (λ j. mapped_byte e (j % 4096) (maps e ino (j / 4096))) (λ j. mapped_byte d (j % 4096) (maps d ino (j / 4096))) (range_with_len 0 (size_of (d.inode ino).log))
+      ∙ map-same (λ j. mapped_byte e (j % 4096) (maps e ino (j / 4096))) (λ j. mapped_byte d (j % 4096) (maps d ino (j / 4096)))
+      (range_with_len 0 (size_of (d.inode ino).log))
       (λ j. ap (mapped_byte e (j % 4096)) (maps_same (j / 4096)) ∙ byte_same (j / 4096) (j % 4096) (maps d ino (j / 4096)) refl)
 
   pub log_of_same : (name : List ℕ) → named d name ≡ Some ino → named e name ≡ Some ino → log_of e name ≡ log_of d name
@@ -66,9 +68,11 @@ module _ (inodes pages : List ℕ) (d e : Disk) (valid : IsValid d) (rest : Keep
 
   refilled_same : (name : List ℕ) (size : ℕ) → named d name ≡ Some ino → named e name ≡ Some ino → refilled e name size ≡ refilled d name size
   refilled_same name size was is =
-      ap (λ (log : Log). if not (size % 4096 == 0) && nat_lt size (size_of log) && is_some (maps e (inode_of (named e name)) (size / 4096)) then 1 else 0) (log_of_same name was is)
+      ap (λ (log : Log). if not (size % 4096 == 0) && nat_lt size (size_of log) && is_some (maps e (inode_of (named e name)) (size / 4096)) then 1
+      else 0) (log_of_same name was is)
       ∙ ap (λ (m : Option Mapping). if not (size % 4096 == 0) && nat_lt size (size_of (log_of d name)) && is_some m then 1 else 0)
-      (ap (λ (r : Option ℕ). maps e (inode_of r) (size / 4096)) is ∙ maps_same (size / 4096) ∙ sym (ap (λ (r : Option ℕ). maps d (inode_of r) (size / 4096)) was))
+      (ap (λ (r : Option ℕ). maps e (inode_of r) (size / 4096)) is ∙ maps_same (size / 4096) ∙ sym
+      (ap (λ (r : Option ℕ). maps d (inode_of r) (size / 4096)) was))
 
   leads_same : (name : List ℕ) → 1 ≤ ino → named d name ≡ Some ino → named e name ≡ Some ino
   leads_same name file was = (rest.named_so ino name file out).1 was
@@ -87,7 +91,8 @@ module _ (inodes pages : List ℕ) (d e : Disk) (valid : IsValid d) (rest : Keep
     fits = plans.fits;
     first = plans.first;
     places = plans.places;
-    size_is = plans.size_is ∙ ap (λ (log : Log). max (size_of log) (at + length text)) (sym (log_same inodes pages d e valid rest f.ino in_table out));
+    size_is = plans.size_is ∙ ap (λ (log : Log). max (size_of log) (at + length text))
+        (sym (log_same inodes pages d e valid rest f.ino in_table out));
     rows = plans.rows ∙ sym (row_slots_same inodes pages d e valid rest f.ino in_table out (length c.blocks.items) c.first);
   }
   plans_same (Read name at count) plans = absurd plans
@@ -97,9 +102,11 @@ module _ (inodes pages : List ℕ) (d e : Disk) (valid : IsValid d) (rest : Keep
     leads = leads_same inodes pages d e valid rest f.ino in_table out name file plans.leads;
     fits = plans.fits;
     first = plans.first;
-    places = plans.places ∙ sym (refilled_same inodes pages d e valid rest f.ino in_table out name to plans.leads (leads_same inodes pages d e valid rest f.ino in_table out name file plans.leads));
+    places = plans.places ∙ sym (refilled_same inodes pages d e valid rest f.ino in_table out name to plans.leads
+        (leads_same inodes pages d e valid rest f.ino in_table out name file plans.leads));
     size_is = plans.size_is;
-    rows = plans.rows ∙ sym (row_slots_same inodes pages d e valid rest f.ino in_table out (4096 - gone_from to c.blocks.items) (gone_from to c.blocks.items));
+    rows = plans.rows ∙ sym (row_slots_same inodes pages d e valid rest f.ino in_table out (4096 - gone_from to c.blocks.items)
+        (gone_from to c.blocks.items));
   }
   plans_same (Remove name) plans = absurd plans
   plans_same (Rename from to) plans = absurd plans
@@ -109,12 +116,14 @@ module _ (inodes pages : List ℕ) (d e : Disk) (valid : IsValid d) (rest : Keep
   pub needed_same : (op : Op) → PlansData d f c op → needed e op ≡ needed d op
   needed_same (Create name) plans = absurd plans
   needed_same (Write name at text) plans =
-      ap (λ (log : Log). touched at (length text) + extra (touched at (length text)) log) (log_of_same inodes pages d e valid rest f.ino in_table out name plans.leads (leads_same inodes pages d e valid rest f.ino in_table out name file plans.leads))
+      ap (λ (log : Log). touched at (length text) + extra (touched at (length text)) log) (log_of_same inodes pages d e valid rest f.ino in_table out
+      name plans.leads (leads_same inodes pages d e valid rest f.ino in_table out name file plans.leads))
   needed_same (Read name at count) plans = absurd plans
   needed_same (Cut name to) plans =
       let leads = leads_same inodes pages d e valid rest f.ino in_table out name file plans.leads in
       ap (λ (n : ℕ). n + extra (n + 1) (log_of e name)) (refilled_same inodes pages d e valid rest f.ino in_table out name to plans.leads leads)
-      ∙ ap (λ (log : Log). refilled d name to + extra (refilled d name to + 1) log) (log_of_same inodes pages d e valid rest f.ino in_table out name plans.leads leads)
+      ∙ ap (λ (log : Log). refilled d name to + extra (refilled d name to + 1) log) (log_of_same inodes pages d e valid rest f.ino in_table out name
+      plans.leads leads)
   needed_same (Remove name) plans = absurd plans
   needed_same (Rename from to) plans = absurd plans
   needed_same (Size name) plans = absurd plans

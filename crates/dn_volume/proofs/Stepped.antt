@@ -50,7 +50,8 @@ module _ (who : ℕ) (f f' : Flight) (b b' : Parts) (steps : StepsOn who f f' b 
 
   pub same_holders : (d : Disk) → AreHolders d b → AreHolders d b'
   same_holders d are = record {
-    told = λ ino q n is. let told = are.told ino q n (subst (λ xs. slice_get xs.items ino ≡ Some n) steps.inodes is) in ((λ holder. holds_on q ino (told.0 holder)), (λ holds. told.1 (held_was q ino holds)));
+    told = λ ino q n is. let told = are.told ino q n (subst (λ xs. slice_get xs.items ino ≡ Some n) steps.inodes is) in
+        ((λ holder. holds_on q ino (told.0 holder)), (λ holds. told.1 (held_was q ino holds)));
     in_table = λ ino q holds. are.in_table ino q (held_was q ino holds);
   }
 
@@ -86,7 +87,8 @@ module _ (who : ℕ) (f f' : Flight) (b b' : Parts) (steps : StepsOn who f f' b 
       let same : times slot (raised_by new) ≡ times slot (raised_by old) = ap (times slot) none.raised in
       omega (arith, moved, same)
 
-  pub same_counts : RaisesNone f f' → owed_sum b' (λ room. room.releases) ≤ owed_sum b (λ room. room.releases) → (d : Disk) → AreCounted d b → AreCounted d b'
+  pub same_counts : RaisesNone f f' → owed_sum b' (λ room. room.releases) ≤ owed_sum b (λ room. room.releases) → (d : Disk) → AreCounted d b
+      → AreCounted d b'
   same_counts none less d are = record {
     balanced = λ k x lt. let row = get_or (rows d) k x in let was = are.balanced k x lt in
         record {
@@ -95,7 +97,9 @@ module _ (who : ℕ) (f f' : Flight) (b b' : Parts) (steps : StepsOn who f f' b 
         };
     there = λ slot some. are.there slot (omega (arith, some, same_raised none slot, added_same slot, dropped_same slot));
     zero_checked = λ row has rfc uc. ap (λ r. r.zero_check) steps.reclaiming ∙ are.zero_checked row has rfc uc;
-    few = let was = are.few in let same = ap (λ r. length r.releases.items) steps.reclaiming in let up : one_if b'.reclaiming.raised ≡ one_if b.reclaiming.raised = ap (λ r. one_if r.raised) steps.reclaiming in omega (arith, was, same, less, up);
+    few = let was = are.few in let same = ap (λ r. length r.releases.items) steps.reclaiming in
+        let up : one_if b'.reclaiming.raised ≡ one_if b.reclaiming.raised = ap (λ r. one_if r.raised) steps.reclaiming in
+        omega (arith, was, same, less, up);
   }
     where
       added_same : (slot : ℕ) → added b' slot ≡ added b slot
@@ -109,5 +113,6 @@ module _ (who : ℕ) (f f' : Flight) (b b' : Parts) (steps : StepsOn who f f' b 
     where
       on : (ino slot : ℕ) → IsWaiting b ino slot → IsWaiting b' ino slot
       on ino slot (in_queue work n has at_ino at_slot at round) =
-          in_queue work n (subst (λ x. Contains x.items work) (sym steps.queue) has) at_ino at_slot (subst (λ xs. slice_get xs.items ino ≡ Some n) (sym steps.inodes) at) round
+          in_queue work n (subst (λ x. Contains x.items work) (sym steps.queue) has) at_ino at_slot (subst (λ xs. slice_get xs.items ino ≡ Some n)
+          (sym steps.inodes) at) round
       on ino slot (is_begun sharing is at_ino at_slot) = is_begun sharing (steps.replaces.sharing ∙ is) at_ino at_slot

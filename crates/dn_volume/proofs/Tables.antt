@@ -14,7 +14,10 @@ is_table d b s v = record {
   geometry = v.table.geometry;
   accepted = subst IsAccepted v.table.geometry v.fast.valid.accepted;
   size = v.fast.long ∙ ap (λ g. 512 * g.pages) v.table.geometry;
-  says = λ a w said. elim said [ inl chain ↦ v.fast.stands.reads a w (of_chains chain) | inr pointer ↦ v.fast.stands.reads a w (of_pointers pointer) ];
+  says = λ a w said. elim said [
+    | inl chain ↦ v.fast.stands.reads a w (of_chains chain)
+    | inr pointer ↦ v.fast.stands.reads a w (of_pointers pointer)
+  ];
   good = record { table = v.fast.valid.table; apart = v.fast.valid.rows_apart; pointers = v.fast.valid.pointers; leads = v.fast.valid.leads };
   set = v.table.set;
   free = v.table.free;
@@ -30,7 +33,8 @@ none_map None P Q f has = f has
 none_map (Some r) P Q f has = tt
 
 -- a volume that agrees and isn't stopped has a disk
-pub running_disk : {D F : Type 0} (state : D → State) (v : Volume D F) → v.parts.stopped ≡ false → Agrees state v → (d : Disk) × IsVolume d v.parts (state v.device)
+pub running_disk : {D F : Type 0} (state : D → State) (v : Volume D F) → v.parts.stopped ≡ false → Agrees state v → (d : Disk) × IsVolume d v.parts
+    (state v.device)
 running_disk state v running (agrees_with d is) = (d, is)
 running_disk state v running (is_stopped stopped) = absurd (apart v.parts.stopped running stopped.stopped)
   where

@@ -23,7 +23,8 @@ counts_one x m is = subst (λ (y : Option Mapping). 1 ≤ (if is_some y then 1 e
 
 module _ (d : Disk) (b : Parts) (s : State) (volume : IsVolume d b s) (none_waits : b.reclaiming.waiting ≡ 0) where
   -- a dying inode is at least one unit of work, and one with a mapped place at least five
-  dying_counts : (ino cut : ℕ) → ino < d.geometry.inodes → (d.inode ino).use_of ≡ Dying cut → 1 + 4 * mapped_places d ino ≤ total d.geometry.inodes (dying_units d)
+  dying_counts : (ino cut : ℕ) → ino < d.geometry.inodes → (d.inode ino).use_of ≡ Dying cut → 1 + 4 * mapped_places d ino ≤ total d.geometry.inodes
+      (dying_units d)
   dying_counts ino cut lt dies =
       let units : dying_units d ino ≡ 1 + 4 * mapped_places d ino = ap (λ (u : Use). units_by_use u (mapped_places d ino)) dies in
       let le = term-le (dying_units d) d.geometry.inodes ino lt in
@@ -58,9 +59,11 @@ module _ (d : Disk) (b : Parts) (s : State) (volume : IsVolume d b s) (none_wait
       omega (arith, one, waits, none, none_waits)
 
   pub none_released : length b.reclaiming.releases.items ≡ 0
-  none_released = let waits = volume.reclaiming.waiting in let none : one_if b.reclaiming.raised ≡ 0 = ap one_if none_raised in omega (arith, waits, none, none_waits)
+  none_released = let waits = volume.reclaiming.waiting in let none : one_if b.reclaiming.raised ≡ 0 = ap one_if none_raised in
+      omega (arith, waits, none, none_waits)
 
-  all_live : ((i : ℕ) → 1 ≤ i → i < d.geometry.inodes → (d.inode i).use_of ≡ Free → ⊥) → (ino : ℕ) → ino < d.geometry.inodes → (d.inode ino).use_of ≡ Live
+  all_live : ((i : ℕ) → 1 ≤ i → i < d.geometry.inodes → (d.inode i).use_of ≡ Free → ⊥) → (ino : ℕ) → ino < d.geometry.inodes
+      → (d.inode ino).use_of ≡ Live
   all_live lacks ino lt = by (d.inode ino).use_of refl
     where
       clash : (u : Use) → u ≡ Live → u ≡ Free → ⊥

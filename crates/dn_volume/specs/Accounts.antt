@@ -1,4 +1,5 @@
--- Why places are left alone, and where the pages of rows come from: through one event, and since a base.
+-- Why places are left alone, and where the pages of rows come from: through one event, and since a
+-- base.
 use Rattle.std.specs.Prelude.{◌≡◌, ◌⊎◌, ℕ, ◌*◌, ◌<◌, List, length, Some, Contains}
 use Rattle.dn_model.specs.Maps.{Mapping}
 use Rattle.dn_model.specs.Table.{Row}
@@ -30,8 +31,11 @@ pub record HadRow (d e : Disk) (row : Row) : Type 0 where
   pub page_is : was.page ≡ row.page
   pub bytes_are : page_bytes e row.page ≡ page_bytes d row.page
 
--- A place that is left alone was so before, or some file of before has its twin. The page of a row had one before, or
+-- A place that is left alone was so before, or some file of before has its twin. The page of a row
+-- had one before, or
 -- has the bytes of a page of a file of before.
 pub record AccountsFor (print : Print) (d e : Disk) : Type 0 where
-  pub alone : (ino idx : ℕ) (m : Mapping) → LivePlace e ino idx m → IsAlone m → WasAloneOn d e ino idx m ⊎ HasTwin print (files d) (page_bytes e m.block)
-  pub row_pages : (row : Row) → Contains (rows e) row → HadRow d e row ⊎ HasPage (files d) (page_bytes e row.page)
+  pub alone : (ino idx : ℕ) (m : Mapping) → LivePlace e ino idx m → IsAlone m
+      → WasAloneOn d e ino idx m ⊎ HasTwin print (files d) (page_bytes e m.block)
+  pub row_pages : (row : Row) → Contains (rows e) row → HadRow d e row ⊎ HasPage (files d)
+      (page_bytes e row.page)

@@ -19,7 +19,8 @@ use Rattle.dn_volume.specs.Reclaims.{IsReclaiming}
 use Rattle.dn_volume.specs.Reserve.{HasRoom}
 use Rattle.dn_volume.specs.Stills.{IsStillBut}
 
--- the device stands for a disk without a fault: as it reads now, and in each image that a stop may leave
+-- the device stands for a disk without a fault: as it reads now, and in each image that a stop may
+-- leave
 pub record StandsFast (d : Disk) (g : Geometry) (s : State) : Type 0 where
   pub geometry : d.geometry ≡ g
   pub long : length s.now ≡ 512 * d.geometry.pages
@@ -33,7 +34,8 @@ NamesSlots b = All (λ (change : CountChange). change.slot < slots b.geometry) b
 pub record HasNoStale (d : Disk) : Type 0 where
   pub none : (page : ℕ) → page < d.geometry.pages → d.pointer page ≢ 0 → HasNoneOf d page → ⊥
 
--- The device stands for this disk. Each further fact speaks of the parts that it names alone, so that what changes no
+-- The device stands for this disk. Each further fact speaks of the parts that it names alone, so
+-- that what changes no
 -- part of it carries it over.
 pub record IsVolume (d : Disk) (b : Parts) (s : State) : Type 0 where
   -- the words stand for the disk, now and in each image that a stop may leave
@@ -76,7 +78,8 @@ pub record HasHead (g : Geometry) (words : List ℕ) : Type 0 where
   pub pages : slice_index words 2 ≡ g.pages
   pub inodes : slice_index words 3 ≡ g.inodes
 
--- What is known once a fence failed. The journal may be open, and what stands elsewhere is known of the images alone.
+-- What is known once a fence failed. The journal may be open, and what stands elsewhere is known of
+-- the images alone.
 pub record IsStopped (b : Parts) (s : State) : Type 0 where
   pub stopped : b.stopped ≡ true
   pub accepted : IsAccepted b.geometry

@@ -1,5 +1,22 @@
 -- The counts of rows, with what is under way.
-use Rattle.std.specs.Prelude.{◌≡◌, ℕ, ◌+◌, ◌≤◌, if◌then◌else◌, ◌==◌, List, [], ◌∷◌, length, take, Option, Some, None, Contains, All}
+use Rattle.std.specs.Prelude.{
+  ◌≡◌,
+  ℕ,
+  ◌+◌,
+  ◌≤◌,
+  if◌then◌else◌,
+  ◌==◌,
+  List,
+  [],
+  ◌∷◌,
+  length,
+  take,
+  Option,
+  Some,
+  None,
+  Contains,
+  All,
+}
 use Rattle.dn_model.specs.Table.{Row}
 use Rattle.dn_model.specs.Disk.{Disk, rows}
 use Rattle.dn_model.specs.Counts.{total}
@@ -51,7 +68,8 @@ raised_to_die (Some place) = place.slot ∷ []
 
 -- how many updates of a row are raised and not committed, have added a mapping, or have dropped one
 abbrev pub raised : Parts → ℕ → ℕ
-raised b slot = total 14 (λ k. times slot (raised_by (flight_at b.flights.items k))) + times slot (raised_to_share b.sharing) + times slot (raised_to_die b.reclaiming.raised)
+raised b slot = total 14 (λ k. times slot (raised_by (flight_at b.flights.items k))) + times slot
+    (raised_to_share b.sharing) + times slot (raised_to_die b.reclaiming.raised)
 
 abbrev pub added : Parts → ℕ → ℕ
 added b slot = times slot (added_to_share b.sharing)
@@ -59,11 +77,16 @@ added b slot = times slot (added_to_share b.sharing)
 abbrev pub dropped : Parts → ℕ → ℕ
 dropped b slot = times slot b.reclaiming.releases.items
 
--- Each row's counts tell its page's mappings and what is under way; what is under way is a row's; and a row whose counts
--- are 0 is to be looked at. The waiting releases and those to come are few: an operation begins only where its own come to
+-- Each row's counts tell its page's mappings and what is under way; what is under way is a row's;
+-- and a row whose counts
+-- are 0 is to be looked at. The waiting releases and those to come are few: an operation begins
+-- only where its own come to
 -- at most 1,048,576 with those that wait, and each other in flight has at most 4,096.
 pub record AreCounted (d : Disk) (b : Parts) : Type 0 where
-  pub balanced : All (λ (row : Row). IsBalanced d row (raised b row.slot) (added b row.slot) (dropped b row.slot)) (rows d)
+  pub balanced : All (λ (row : Row). IsBalanced d row (raised b row.slot) (added b row.slot)
+      (dropped b row.slot)) (rows d)
   pub there : (slot : ℕ) → 1 ≤ raised b slot + added b slot + dropped b slot → HasRow d slot
-  pub zero_checked : (row : Row) → Contains (rows d) row → row.rfc ≡ 0 → row.uc ≡ 0 → b.reclaiming.zero_check ≡ Some row.slot
-  pub few : length b.reclaiming.releases.items + owed_sum b (λ room. room.releases) + one_if b.reclaiming.raised ≤ 1105920
+  pub zero_checked : (row : Row) → Contains (rows d) row → row.rfc ≡ 0 → row.uc ≡ 0
+      → b.reclaiming.zero_check ≡ Some row.slot
+  pub few : length b.reclaiming.releases.items + owed_sum b (λ room. room.releases) + one_if
+      b.reclaiming.raised ≤ 1105920

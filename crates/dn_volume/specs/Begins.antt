@@ -1,5 +1,7 @@
--- What the begin of an operation promises. The causes come in one order, and each answer says that those before its own
--- are not there: first those that the files tell, then that an inode is held, then that an inode, space or room for
+-- What the begin of an operation promises. The causes come in one order, and each answer says that
+-- those before its own
+-- are not there: first those that the files tell, then that an inode is held, then that an inode,
+-- space or room for
 -- releases is wanting, then want of memory.
 use Rattle.std.specs.Prelude.{◌≡◌, ◌≢◌, ◌⊎◌, ◌↔◌, ℕ, ◌+◌, ◌-◌, ◌*◌, ◌/◌, ◌<◌, ◌≤◌, false}
 use Rattle.std.specs.Prelude.{if◌then◌else◌, ◌==◌, List, [], ◌∷◌, ◌++◌, length, slice_get}
@@ -38,7 +40,8 @@ pub record MayBegin (b : Parts) (who : ℕ) : Type 0 where
   pub few : who ≤ 14
   pub idle : flight_at b.flights.items (who - 1) ≡ None
 
--- What is answered in its begin where nothing stands in its way: what only reads, and what changes nothing.
+-- What is answered in its begin where nothing stands in its way: what only reads, and what changes
+-- nothing.
 abbrev pub IsAtOnce : Op → Type 0
 IsAtOnce (op.Create name) = ⊥
 IsAtOnce (op.Write name at text) = text ≡ []
@@ -49,7 +52,8 @@ IsAtOnce (op.Rename from to) = from ≡ to
 IsAtOnce (op.Size name) = Unit {0}
 IsAtOnce op.List = Unit {0}
 
--- The inodes that have to be held, in the order in which they are looked at: none for what is answered at once. A new
+-- The inodes that have to be held, in the order in which they are looked at: none for what is
+-- answered at once. A new
 -- inode is held by nobody.
 abbrev pub wants : Disk → Op → List ℕ
 wants d (op.Create name) = 0 ∷ []
@@ -113,21 +117,24 @@ lost_rows d op.List = []
 abbrev pub LacksReleases : Disk → Parts → Op → Type 0
 LacksReleases d b op = 1048576 < length b.reclaiming.releases.items + length (lost_rows d op)
 
--- The files grant it, it isn't answered at once, and nothing that it has to hold is held: all that is left to be asked is
+-- The files grant it, it isn't answered at once, and nothing that it has to hold is held: all that
+-- is left to be asked is
 -- whether it has what it takes.
 pub record IsUnhindered (d : Disk) (b : Parts) (op : Op) : Type 0 where
   pub granted : IsGranted (files d) op
   pub lasts : IsAtOnce op → ⊥
   pub loose : AreLoose b (wants d op)
 
--- Why an operation is answered in its begin: as of the files, or for want of an inode or of room while nothing waits.
+-- Why an operation is answered in its begin: as of the files, or for want of an inode or of room
+-- while nothing waits.
 -- Where nothing waits, room for releases is never wanting.
 pub data IsAnswerOf (d : Disk) (b : Parts) (op : Op) : Reply → Type 0 where
   of_files : (reply : Reply) → Replies (files d) op reply → (IsGranted (files d) op → IsAtOnce op)
       → IsAnswerOf d b op reply
   no_inode : IsUnhindered d b op → b.reclaiming.waiting ≡ 0 → LacksInode d op
       → IsAnswerOf d b op (Refused NoInode)
-  no_space : IsUnhindered d b op → b.reclaiming.waiting ≡ 0 → (LacksInode d op → ⊥) → LacksSpace d b op
+  no_space : IsUnhindered d b op → b.reclaiming.waiting ≡ 0 → (LacksInode d op → ⊥)
+      → LacksSpace d b op
       → IsAnswerOf d b op (Refused (NoSpace (needed d op) (length b.free.free)))
 
 -- it lacks an inode, space or room for releases, which what waits may yet give
@@ -142,7 +149,8 @@ pub record IsBusy (d : Disk) (b : Parts) (op : Op) (holder : ℕ) : Type 0 where
   pub granted : IsGranted (files d) op
   pub held : IsHeldFirst b (wants d op) holder
 
--- Want of memory comes last: only where it is neither busy nor waits for releases. Room for its entry may be wanting too
+-- Want of memory comes last: only where it is neither busy nor waits for releases. Room for its
+-- entry may be wanting too
 -- where it would be answered at once.
 pub record IsLast (d : Disk) (b : Parts) (op : Op) : Type 0 where
   pub idle : (holder : ℕ) → IsBusy d b op holder → ⊥
@@ -197,7 +205,8 @@ pub record HasBegun {D F : Type 0} (state : D → State) (who : ℕ) (op : Op) (
 -- what the other clients have in flight, as scripts
 pub record AreFlying (b : Parts) (who : ℕ) (scripts : List (List Op)) : Type 0 where
   pub clients : length scripts ≡ 14
-  pub script : (i : ℕ) (ops : List Op) → slice_get scripts i ≡ Some ops → (op : Op) → Contains ops op
+  pub script : (i : ℕ) (ops : List Op) → slice_get scripts i ≡ Some ops → (op : Op)
+      → Contains ops op
       ↔ ((i + 1 ≢ who) × (f : Flight) × Flies b (i + 1) f × (f.op ≡ op))
 
 -- it is answered, and enters the history
@@ -220,7 +229,8 @@ abbrev pub Begins : {D F : Type 0} → (D → State) → ℕ → Op → Volume D
     → Type 0
 Begins state who op v v' d (told.Running left) = HasBegun state who op left v v' d
 Begins state who op v v' d (told.Done reply) = AnswersAtOnce state who op reply v v' d
-Begins state who op v v' d (told.Busy holder) = IsUntouched state v v' d × IsBusy d v.parts op holder
+Begins state who op v v' d (told.Busy holder) = IsUntouched state v v' d × IsBusy d v.parts op
+    holder
 Begins state who op v v' d (told.Released waiting) =
     IsUntouched state v v' d × WaitsForRelease d v.parts op waiting
 Begins state who op v v' d told.Idle = ⊥

@@ -1,5 +1,21 @@
 -- A volume that was just mounted from an image without files.
-use Rattle.std.specs.Prelude.{◌≡◌, ◌↔◌, ℕ, zero, suc, ◌<◌, false, List, [], length, slice_get, Option, Some, None, Contains}
+use Rattle.std.specs.Prelude.{
+  ◌≡◌,
+  ◌↔◌,
+  ℕ,
+  zero,
+  suc,
+  ◌<◌,
+  false,
+  List,
+  [],
+  length,
+  slice_get,
+  Option,
+  Some,
+  None,
+  Contains,
+}
 use Rattle.std.specs.FinMap.{get}
 use Rattle.pm_device.specs.Past.{moment}
 use Rattle.pm_device.specs.State.{State, Agree}
@@ -55,8 +71,11 @@ pub record IsFresh (g : Geometry) (b : Parts) : Type 0 where
 
 -- it agrees with the disk without files, and is sound from it
 abbrev pub FreshVolumesAgree : Type 0
-FreshVolumesAgree = (g : Geometry) (b : Parts) (s : State) → IsFresh g b → StandsFast (empty_disk g) g s → Still s → IsVolume (empty_disk g) b s
+FreshVolumesAgree = (g : Geometry) (b : Parts) (s : State) → IsFresh g b
+    → StandsFast (empty_disk g) g s → Still s → IsVolume (empty_disk g) b s
 
 abbrev pub FreshVolumesAreSound : Type 0
-FreshVolumesAreSound = (g : Geometry) (print : Print) (b : Parts) (s : State) → IsFresh g b → StandsFast (empty_disk g) g s → IsOwn print (empty_disk g) → Agree s.now s.past
-    → IsSound print (record { disk = empty_disk g; start = moment s.past; faults = s.faults }) (empty_disk g) b s
+FreshVolumesAreSound = (g : Geometry) (print : Print) (b : Parts) (s : State) → IsFresh g b
+    → StandsFast (empty_disk g) g s → IsOwn print (empty_disk g) → Agree s.now s.past
+    → IsSound print (record { disk = empty_disk g; start = moment s.past; faults = s.faults })
+    (empty_disk g) b s

@@ -36,5 +36,6 @@ pub record AreNamesOf (d : Disk) (names : FinMap (slice_cmp nat_cmp) ℕ) : Type
 
 -- each inode tells who holds it; so no two hold one
 pub record AreHolders (d : Disk) (b : Parts) : Type 0 where
-  pub told : (ino who : ℕ) (n : InodeState) → slice_get b.inodes.items ino ≡ Some n → (n.holder ≡ Some who) ↔ Holds b who ino
+  pub told : (ino who : ℕ) (n : InodeState) → slice_get b.inodes.items ino ≡ Some n
+      → (n.holder ≡ Some who) ↔ Holds b who ino
   pub in_table : (ino who : ℕ) → Holds b who ino → ino < d.geometry.inodes

@@ -1,4 +1,5 @@
--- What an event leaves of what is kept in memory: how much is the same before and after it. The room that is kept, the
+-- What an event leaves of what is kept in memory: how much is the same before and after it. The
+-- room that is kept, the
 -- history and the number of calls made are told by each event itself.
 use Rattle.std.specs.Prelude.{◌≡◌, ◌⊎◌, ◌↔◌, ℕ, List, length, slice_get, Some, None, Contains}
 use Rattle.dn_volume.specs.declared.flight.Flight.{Flight}
@@ -17,7 +18,8 @@ pub record SameInode (n n' : InodeState) : Type 0 where
 pub record OfInodes (P : ℕ → InodeState → InodeState → Type 0) (old new : List InodeState) : Type 0
   where
     pub all : length new ≡ length old
-    pub each : (ino : ℕ) (n n' : InodeState) → slice_get old ino ≡ Some n → slice_get new ino ≡ Some n'
+    pub each : (ino : ℕ) (n n' : InodeState) → slice_get old ino ≡ Some n
+        → slice_get new ino ≡ Some n'
         → P ino n n'
 
 -- it is the same, and who holds it too
@@ -25,7 +27,8 @@ pub record IsSameInode (ino : ℕ) (n n' : InodeState) : Type 0 where
   pub same : SameInode n n'
   pub holder : n'.holder ≡ n.holder
 
--- It is the same. What the operation holds was held by nobody, and is held by this actor; every other one has the
+-- It is the same. What the operation holds was held by nobody, and is held by this actor; every
+-- other one has the
 -- holder that it had.
 pub record IsHeldInode (who : ℕ) (f : Flight) (ino : ℕ) (n n' : InodeState) : Type 0 where
   pub same : SameInode n n'
@@ -33,7 +36,8 @@ pub record IsHeldInode (who : ℕ) (f : Flight) (ino : ℕ) (n n' : InodeState) 
   pub held : Contains f.held.items ino → n'.holder ≡ Some who
   pub kept : (Contains f.held.items ino → ⊥) → n'.holder ≡ n.holder
 
--- What no begin touches: names, the table, the queue, the work of the daemon and of reclaim, and the trace.
+-- What no begin touches: names, the table, the queue, the work of the daemon and of reclaim, and
+-- the trace.
 pub record SameWork (b b' : Parts) : Type 0 where
   pub geometry : b'.geometry ≡ b.geometry
   pub names : b'.names.map ≡ b.names.map

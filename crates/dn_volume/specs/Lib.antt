@@ -20,5 +20,6 @@ pub mod Begins
 pub mod Works
 pub mod Sound
 pub mod Fresh
+pub mod Wrong
 pub mod Steps
 pub mod Laws

@@ -1,6 +1,22 @@
--- Who takes part in a volume: what each actor holds, and which pages each has taken. A cleaning of a log will hold an
+-- Who takes part in a volume: what each actor holds, and which pages each has taken. A cleaning of
+-- a log will hold an
 -- inode and take pages as actor 16.
-use Rattle.std.specs.Prelude.{◌≡◌, ℕ, zero, suc, ◌-◌, ◌≤◌, List, [], ◌++◌, slice_get, Option, Some, None, Contains}
+use Rattle.std.specs.Prelude.{
+  ◌≡◌,
+  ℕ,
+  zero,
+  suc,
+  ◌-◌,
+  ◌≤◌,
+  List,
+  [],
+  ◌++◌,
+  slice_get,
+  Option,
+  Some,
+  None,
+  Contains,
+}
 use Rattle.dn_volume.specs.declared.flight.Flight.{Flight}
 use Rattle.dn_volume.specs.declared.flight.Change.{Change}
 use Rattle.dn_volume.specs.declared.flight.Change.TheVariants.{Data, Names}
@@ -36,7 +52,8 @@ taken_by f = f.fresh.items ++ f.spare.items ++ blocks_of f.change
 -- this actor holds this inode
 pub data Holds (b : Parts) (who ino : ℕ) : Type 0 where
   by_client : (f : Flight) → Flies b who f → Contains f.held.items ino → Holds b who ino
-  by_daemon : (sharing : Sharing) → who ≡ 15 → b.sharing ≡ Some sharing → sharing.work.ino ≡ ino → Holds b who ino
+  by_daemon : (sharing : Sharing) → who ≡ 15 → b.sharing ≡ Some sharing → sharing.work.ino ≡ ino
+      → Holds b who ino
 
 -- this actor has taken this page
 pub data Takes (b : Parts) (who page : ℕ) : Type 0 where
@@ -44,7 +61,8 @@ pub data Takes (b : Parts) (who page : ℕ) : Type 0 where
 
 -- what everybody but this actor holds and has taken is what it was
 pub record SameOthers (who : ℕ) (b b' : Parts) : Type 0 where
-  pub flights : (q : ℕ) → 1 ≤ q → (q ≡ who → ⊥) → flight_at b'.flights.items (q - 1) ≡ flight_at b.flights.items (q - 1)
+  pub flights : (q : ℕ) → 1 ≤ q → (q ≡ who → ⊥) → flight_at b'.flights.items (q - 1) ≡ flight_at
+      b.flights.items (q - 1)
   pub sharing : (who ≡ 15 → ⊥) → b'.sharing ≡ b.sharing
 
 -- each client has an operation in flight that it had, and each that it had is in flight

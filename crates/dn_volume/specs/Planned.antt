@@ -1,5 +1,26 @@
 -- What a write or a cut in flight was planned to do, as the disk has it.
-use Rattle.std.specs.Prelude.{◌≡◌, ℕ, zero, suc, ◌+◌, ◌-◌, ◌/◌, ◌≤◌, max, if◌then◌else◌, nat_lt, List, [], ◌∷◌, ◌++◌, length, slice_index, Option, Some, None}
+use Rattle.std.specs.Prelude.{
+  ◌≡◌,
+  ℕ,
+  zero,
+  suc,
+  ◌+◌,
+  ◌-◌,
+  ◌/◌,
+  ◌≤◌,
+  max,
+  if◌then◌else◌,
+  nat_lt,
+  List,
+  [],
+  ◌∷◌,
+  ◌++◌,
+  length,
+  slice_index,
+  Option,
+  Some,
+  None,
+}
 use Rattle.log_entry.specs.Name.{IsLegal}
 use Rattle.log_entry.specs.Spelling.{pages_of}
 use Rattle.log_entry.specs.declared.item.LogItem.{LogItem}
@@ -10,7 +31,16 @@ use Rattle.dn_model.specs.Disk.{Disk, maps, rows}
 use Rattle.dn_model.specs.Files.{named}
 use Rattle.dn_model.specs.History.{touched, refilled}
 use Rattle.dn_model.specs.declared.op.Op.{Op}
-use Rattle.dn_model.specs.declared.op.Op.TheVariants.{Create, Write, Read, Cut, Remove, Rename, Size, List as ListAll}
+use Rattle.dn_model.specs.declared.op.Op.TheVariants.{
+  Create,
+  Write,
+  Read,
+  Cut,
+  Remove,
+  Rename,
+  Size,
+  List as ListAll,
+}
 use Rattle.law_write.specs.Runs.{Run, run_items}
 use Rattle.file_content.specs.Content.{merged_byte}
 use Rattle.dn_volume.specs.declared.flight.Flight.{Flight}
@@ -52,7 +82,8 @@ new_byte (Size name) old j = 0
 new_byte ListAll old j = 0
 
 -- a write of a text to the file that the name leads to
-pub record PlansWrite (d : Disk) (f : Flight) (c : DataChange) (name : List ℕ) (at : ℕ) (text : List ℕ) : Type 0 where
+pub record PlansWrite (d : Disk) (f : Flight) (c : DataChange) (name : List ℕ) (at : ℕ)
+    (text : List ℕ) : Type 0 where
   pub held : f.held.items ≡ f.ino ∷ []
   pub legal : IsLegal name
   pub leads : named d name ≡ Some f.ino
@@ -78,7 +109,8 @@ pub record PlansCut (d : Disk) (f : Flight) (c : DataChange) (name : List ℕ) (
   pub first : c.first ≡ to / 4096
   pub places : length c.blocks.items ≡ refilled d name to
   pub size_is : c.size ≡ to
-  pub rows : f.rows.items ≡ row_slots d f.ino (gone_from to c.blocks.items) (4096 - gone_from to c.blocks.items)
+  pub rows : f.rows.items ≡ row_slots d f.ino (gone_from to c.blocks.items)
+      (4096 - gone_from to c.blocks.items)
 
 abbrev pub PlansData : Disk → Flight → DataChange → Op → Type 0
 PlansData d f c (Create name) = ⊥

@@ -4,7 +4,16 @@ use Rattle.log_entry.specs.Name.{IsLegal}
 use Rattle.dn_model.specs.Disk.{Disk, Free}
 use Rattle.dn_model.specs.Files.{named}
 use Rattle.dn_model.specs.declared.op.Op.{Op}
-use Rattle.dn_model.specs.declared.op.Op.TheVariants.{Create, Write, Read, Cut, Remove, Rename, Size, List as ListAll}
+use Rattle.dn_model.specs.declared.op.Op.TheVariants.{
+  Create,
+  Write,
+  Read,
+  Cut,
+  Remove,
+  Rename,
+  Size,
+  List as ListAll,
+}
 use Rattle.law_names.specs.NameChange.{NameChange as DiskChange}
 use Rattle.law_names.specs.Operations.{creation, removal, renaming}
 use Rattle.dn_volume.specs.declared.flight.Flight.{Flight}
@@ -28,16 +37,17 @@ pub record PlansRemove (d : Disk) (f : Flight) (name : List ℕ) (change : DiskC
   pub leads : named d name ≡ Some change.ino
   pub is : change ≡ removal name change.ino f.fresh.items
 
-pub record PlansRename (d : Disk) (f : Flight) (from to : List ℕ) (change : DiskChange) : Type 0 where
-  pub legal_from : IsLegal from
-  pub legal_to : IsLegal to
-  pub apart : from ≢ to
-  pub ino : ℕ
-  pub leads : named d from ≡ Some ino
-  pub replaced : Option ℕ
-  pub replaces : named d to ≡ replaced
-  pub held : f.held.items ≡ 0 ∷ ino ∷ inode_list replaced
-  pub is : change ≡ renaming from to ino replaced f.fresh.items
+pub record PlansRename (d : Disk) (f : Flight) (from to : List ℕ) (change : DiskChange) : Type 0
+  where
+    pub legal_from : IsLegal from
+    pub legal_to : IsLegal to
+    pub apart : from ≢ to
+    pub ino : ℕ
+    pub leads : named d from ≡ Some ino
+    pub replaced : Option ℕ
+    pub replaces : named d to ≡ replaced
+    pub held : f.held.items ≡ 0 ∷ ino ∷ inode_list replaced
+    pub is : change ≡ renaming from to ino replaced f.fresh.items
 
 abbrev pub PlansNames : Disk → Flight → DiskChange → Op → Type 0
 PlansNames d f change (Create name) = PlansCreate d f name change

@@ -1,5 +1,17 @@
 -- What reclaim has to do.
-use Rattle.std.specs.Prelude.{◌≡◌, ℕ, ◌+◌, ◌*◌, ◌<◌, if◌then◌else◌, is_some, length, Option, Some, None}
+use Rattle.std.specs.Prelude.{
+  ◌≡◌,
+  ℕ,
+  ◌+◌,
+  ◌*◌,
+  ◌<◌,
+  if◌then◌else◌,
+  is_some,
+  length,
+  Option,
+  Some,
+  None,
+}
 use Rattle.fact_table.specs.Table.{HasRow, IsAtSlot}
 use Rattle.dn_model.specs.Maps.{Mapping}
 use Rattle.dn_model.specs.Table.{Row}
@@ -36,9 +48,11 @@ pub record IsRaised (d : Disk) (p : DyingPlace) : Type 0 where
   pub at_slot : IsAtSlot d p.slot row
   pub page : by.block ≡ row.page
 
--- one for a zero check, two for each release, and for each dying inode one and four for each place, but three for
+-- one for a zero check, two for each release, and for each dying inode one and four for each place,
+-- but three for
 -- the raised one
 pub record IsReclaiming (d : Disk) (b : Parts) : Type 0 where
-  pub waiting : b.reclaiming.waiting + one_if b.reclaiming.raised ≡ one_if b.reclaiming.zero_check + 2 * length b.reclaiming.releases.items + total d.geometry.inodes (dying_units d)
+  pub waiting : b.reclaiming.waiting + one_if b.reclaiming.raised ≡ one_if b.reclaiming.zero_check +
+      2 * length b.reclaiming.releases.items + total d.geometry.inodes (dying_units d)
   pub zero_check : (slot : ℕ) → b.reclaiming.zero_check ≡ Some slot → HasRow d slot
   pub raised : (p : DyingPlace) → b.reclaiming.raised ≡ Some p → IsRaised d p

@@ -4,7 +4,8 @@ use Rattle.dn_volume.specs.declared.flight.Flight.{Flight}
 use Rattle.dn_volume.specs.declared.volume.Parts.{Parts}
 use Rattle.dn_volume.specs.Parties.{flight_at, taken_by}
 
--- The client at place k (client k + 1) had `old` in flight and has `new`: None where it has none. The item that the
+-- The client at place k (client k + 1) had `old` in flight and has `new`: None where it has none.
+-- The item that the
 -- daemon has begun stays.
 pub record Replaces (k : ℕ) (old new : Option Flight) (b b' : Parts) : Type 0 where
   pub place : k < 14
@@ -23,7 +24,8 @@ abbrev pub taken_of : Option Flight → List ℕ
 taken_of None = []
 taken_of (Some f) = taken_by f
 
--- An operation that goes on holds what it held, has taken what it had, and has the same rows raised.
+-- An operation that goes on holds what it held, has taken what it had, and has the same rows
+-- raised.
 pub record IsFurther (f f' : Flight) : Type 0 where
   pub op : f'.op ≡ f.op
   pub held : f'.held.items ≡ f.held.items

@@ -22,12 +22,14 @@ use Rattle.dn_volume.specs.Reclaims.{one_if}
 abbrev pub slots_of : Flight → ℕ
 slots_of f = length f.slots.items + length f.fresh.items
 
--- What has to stand before a commit of names is stored once: the slots with their links, and an inode's words.
+-- What has to stand before a commit of names is stored once: the slots with their links, and an
+-- inode's words.
 abbrev pub prepared_units : Bool → ℕ → ℕ
 prepared_units true slots = 0
 prepared_units false slots = cost.SLOT_UNITS * slots + cost.TURN_UNITS
 
--- What an operation is owed. A write or a cut fills its pages, raises its rows, and then stores its slots and the tail;
+-- What an operation is owed. A write or a cut fills its pages, raises its rows, and then stores its
+-- slots and the tail;
 -- an operation on names stores its slots first, and then what the journal takes.
 abbrev pub units_by : Flight → Change → ℕ
 units_by f (Data c) =
@@ -54,7 +56,8 @@ owed_to (Some f) = record {
 abbrev pub owed_sum : Parts → (Room → ℕ) → ℕ
 owed_sum b kind = total 14 (λ k. kind (owed_to (flight_at b.flights.items k)))
 
--- What the daemon's item is owed: for each place at most an insertion or a raise, a mapping and a settling, and a flag in
+-- What the daemon's item is owed: for each place at most an insertion or a raise, a mapping and a
+-- settling, and a flag in
 -- the end. Of the place at which it is, it is owed what its step has left.
 abbrev pub units_spent : SharingStep → ℕ
 units_spent Look = 0
@@ -77,7 +80,8 @@ changes_to_share None = 0
 changes_to_share (Some sharing) =
     2 * (sharing.count - sharing.done) - changes_spent sharing.step
 
--- What reclaim has begun: a raised place is owed the fall of its inode's cut, and a row without counts its end.
+-- What reclaim has begun: a raised place is owed the fall of its inode's cut, and a row without
+-- counts its end.
 abbrev pub units_to_reclaim : Parts → ℕ
 units_to_reclaim b =
     cost.FALL_UNITS * one_if b.reclaiming.raised

@@ -17,14 +17,19 @@ use Rattle.dn_volume.specs.declared.volume.Parts.{Parts}
 
 -- the item at this slot of an inode's log waits, or the daemon has begun it
 pub data IsWaiting (b : Parts) (ino slot : ℕ) : Type 0 where
-  in_queue : (work : Work) (n : InodeState) → Contains b.queue.items work → work.ino ≡ ino → work.slot ≡ slot → slice_get b.inodes.items ino ≡ Some n → work.round ≡ n.round → IsWaiting b ino slot
-  is_begun : (sharing : Sharing) → b.sharing ≡ Some sharing → sharing.work.ino ≡ ino → sharing.work.slot ≡ slot → IsWaiting b ino slot
+  in_queue : (work : Work) (n : InodeState) → Contains b.queue.items work → work.ino ≡ ino
+      → work.slot ≡ slot → slice_get b.inodes.items ino ≡ Some n → work.round ≡ n.round
+      → IsWaiting b ino slot
+  is_begun : (sharing : Sharing) → b.sharing ≡ Some sharing → sharing.work.ino ≡ ino
+      → sharing.work.slot ≡ slot → IsWaiting b ino slot
 
 -- each place of a live file that isn't complete does
 pub record IsQueued (d : Disk) (b : Parts) : Type 0 where
-  pub waits : (ino idx : ℕ) (m : Mapping) → LivePlace d ino idx m → (m.flag ≡ Complete → ⊥) → IsWaiting b ino m.slot
+  pub waits : (ino idx : ℕ) (m : Mapping) → LivePlace d ino idx m → (m.flag ≡ Complete → ⊥)
+      → IsWaiting b ino m.slot
 
--- The item that is begun is a Write of a live file, which is in process. Of the places that are done, those that it maps
+-- The item that is begun is a Write of a live file, which is in process. Of the places that are
+-- done, those that it maps
 -- still are left alone, or their pages have rows.
 pub record IsBegun (d : Disk) (sharing : Sharing) : Type 0 where
   pub file : 1 ≤ sharing.work.ino
@@ -33,9 +38,16 @@ pub record IsBegun (d : Disk) (sharing : Sharing) : Type 0 where
   pub block : ℕ
   pub size : ℕ
   pub mask : ℕ
-  pub item : Contains (placed (d.inode sharing.work.ino).log) (record { slot = sharing.work.slot; item = Write sharing.first sharing.count block size InProcess mask })
+  pub item : Contains (placed (d.inode sharing.work.ino).log)
+      (record {
+        slot = sharing.work.slot;
+        item = Write sharing.first sharing.count block size
+            InProcess mask;
+      })
   pub done_few : sharing.done ≤ sharing.count
-  pub done_so : (i : ℕ) (m : Mapping) → i < sharing.done → maps d sharing.work.ino (sharing.first + i) ≡ Some m → m.slot ≡ sharing.work.slot → IsAlone m ⊎ HasRow d m.block
+  pub done_so : (i : ℕ) (m : Mapping) → i < sharing.done
+      → maps d sharing.work.ino (sharing.first + i) ≡ Some m → m.slot ≡ sharing.work.slot
+      → IsAlone m ⊎ HasRow d m.block
 
 -- the row at this slot is raised, and the place's page has the bytes of the row's page and no row
 pub record IsToRemap (d : Disk) (sharing : Sharing) (slot : ℕ) : Type 0 where

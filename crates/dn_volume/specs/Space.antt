@@ -8,7 +8,8 @@ use Rattle.law_write.specs.Events.{IsUnused}
 use Rattle.dn_volume.specs.declared.volume.Parts.{Parts}
 use Rattle.dn_volume.specs.Parties.{Takes}
 
--- Each page that is taken has one taker, 0 standing for none; so no two take one. The unused pages that nobody has
+-- Each page that is taken has one taker, 0 standing for none; so no two take one. The unused pages
+-- that nobody has
 -- taken are the free ones.
 pub record HasSpace (d : Disk) (b : Parts) : Type 0 where
   pub pages : b.free.pages ≡ d.geometry.pages
@@ -25,4 +26,5 @@ pub record AreSlotsOf (d : Disk) (t : Table) : Type 0 where
   pub geometry : d.geometry ≡ t.geometry
   pub set : t.free.pages ≡ t.geometry.pages
   pub free : (k : ℕ) → Contains t.free.free k → HasNoneAt d (directs t.geometry + k)
-  pub taken : (k : ℕ) → k < t.geometry.pages → ¬ Contains t.free.free k → HasRow d (directs t.geometry + k)
+  pub taken : (k : ℕ) → k < t.geometry.pages → ¬ Contains t.free.free k
+      → HasRow d (directs t.geometry + k)

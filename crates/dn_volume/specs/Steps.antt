@@ -1,4 +1,5 @@
--- An operation in flight that goes on: what it holds and has taken stays, and so does all that others have.
+-- An operation in flight that goes on: what it holds and has taken stays, and so does all that
+-- others have.
 use Rattle.std.specs.Prelude.{◌≡◌, ℕ, ◌-◌, ◌≤◌, false, Some}
 use Rattle.dn_volume.specs.declared.flight.Flight.{Flight}
 use Rattle.dn_volume.specs.declared.volume.Parts.{Parts}

@@ -1,4 +1,5 @@
--- What a stop leaves, but for what operations in flight await: so that a device without any is still.
+-- What a stop leaves, but for what operations in flight await: so that a device without any is
+-- still.
 use Rattle.std.specs.Prelude.{◌⊎◌, ℕ, ◌<◌, length}
 use Rattle.pm_device.specs.State.{State}
 use Rattle.pm_device.specs.Settled.{IsSettled, IsFlushed}

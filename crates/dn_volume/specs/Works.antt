@@ -18,7 +18,8 @@ use Rattle.dn_volume.specs.Parties.{Holds}
 use Rattle.dn_volume.specs.Begins.{IsUntouched}
 use Rattle.dn_volume.specs.Events.{MovesOn, Breaks}
 
--- Where a background actor stands before an event: it has nothing to do, it is held up by another actor, or it has begun
+-- Where a background actor stands before an event: it has nothing to do, it is held up by another
+-- actor, or it has begun
 -- something already.
 pub record Stand : Type 1 where
   pub rests : Type 0
@@ -30,9 +31,11 @@ pub record MayWork (stand : Stand) : Type 0 where
   pub some : stand.rests → ⊥
   pub loose : (holder : ℕ) → stand.held holder → ⊥
 
--- An event of a background actor: `lowers` tells what gets less where it gets on, and how many events are left. It takes no
+-- An event of a background actor: `lowers` tells what gets less where it gets on, and how many
+-- events are left. It takes no
 -- memory for what is begun.
-abbrev pub Works : {D F : Type 0} → (D → State) → Print → ℕ → Stand → (lowers : Parts → Parts → ℕ → Type 0)
+abbrev pub Works : {D F : Type 0} → (D → State) → Print → ℕ → Stand
+    → (lowers : Parts → Parts → ℕ → Type 0)
     → Volume D F → Volume D F → Disk → Outcome → Type 0
 Works state print who stand lowers v v' d (told.Running left) =
     MovesOn state print who v v' d × MayWork stand × lowers v.parts v'.parts left
@@ -60,12 +63,14 @@ sharing_events (Some sharing) =
     then 3 * (sharing.count - sharing.done - 1) + step_events sharing.step + 1
     else 1
 
--- What waits or is begun for the daemon, as a number that each of its events lowers: an item has at most 17 places, of at
+-- What waits or is begun for the daemon, as a number that each of its events lowers: an item has at
+-- most 17 places, of at
 -- most 3 events each, is taken by one event and ended by another.
 abbrev pub daemon_work : Parts → ℕ
 daemon_work b = 53 * length b.queue.items + sharing_events b.sharing
 
--- A queued item is stale unless its inode is live, its round is the inode's, and a place is mapped by its slot.
+-- A queued item is stale unless its inode is live, its round is the inode's, and a place is mapped
+-- by its slot.
 pub record IsFresh (d : Disk) (b : Parts) (work : Work) : Type 0 where
   pub live : (d.inode work.ino).use_of ≡ Live
   pub kept : InodeState
@@ -76,7 +81,8 @@ pub record IsFresh (d : Disk) (b : Parts) (work : Work) : Type 0 where
   pub mapped : maps d work.ino place ≡ Some by
   pub by_item : by.slot ≡ work.slot
 
--- the daemon has begun nothing, and the front item, which isn't stale, is of an inode that this actor holds
+-- the daemon has begun nothing, and the front item, which isn't stale, is of an inode that this
+-- actor holds
 pub record IsHeldUp (d : Disk) (b : Parts) (holder : ℕ) : Type 0 where
   pub none_begun : b.sharing ≡ None
   pub work : Work
@@ -99,12 +105,14 @@ pub record DaemonLowers (b b' : Parts) (left : ℕ) : Type 0 where
   pub less : daemon_work b' < daemon_work b
   pub waiting : b'.reclaiming.waiting ≡ b.reclaiming.waiting
 
-abbrev pub DaemonWorks : {D F : Type 0} → (D → State) → Print → Volume D F → Volume D F → Disk → Outcome
+abbrev pub DaemonWorks : {D F : Type 0} → (D → State) → Print → Volume D F → Volume D F → Disk
+    → Outcome
     → Type 0
 DaemonWorks state print v v' d outcome =
     Works state print 15 (daemon_stand d v.parts) DaemonLowers v v' d outcome
 
--- Reclaim has the units that wait left; nobody holds it up. A zero check and a raised dying place are begun.
+-- Reclaim has the units that wait left; nobody holds it up. A zero check and a raised dying place
+-- are begun.
 abbrev pub ReclaimRests : Parts → Type 0
 ReclaimRests b = b.reclaiming.waiting ≡ 0
 
@@ -122,7 +130,8 @@ pub record ReclaimLowers (b b' : Parts) (left : ℕ) : Type 0 where
   pub queue : length b'.queue.items ≡ length b.queue.items
   pub sharing : b'.sharing ≡ b.sharing
 
-abbrev pub ReclaimWorks : {D F : Type 0} → (D → State) → Print → Volume D F → Volume D F → Disk → Outcome
+abbrev pub ReclaimWorks : {D F : Type 0} → (D → State) → Print → Volume D F → Volume D F → Disk
+    → Outcome
     → Type 0
 ReclaimWorks state print v v' d outcome =
     Works state print 16 (reclaim_stand v.parts) ReclaimLowers v v' d outcome

@@ -1,6 +1,7 @@
 // The laws by which an event of a machine is proved. Each function states one; it does nothing.
-ghost use Rattle.dn_volume.specs.Laws.{DecidingStoresLead, FastDevicesLeave, TablesAreThere, AdvancesAreTold, MovesStaySound, AnswersStaySound, BreaksStaySound, BeginsStaySound, FlightsAreGranted, InodesAreShort, WantsAreShort};
+ghost use Rattle.dn_volume.specs.Laws.{DecidingStoresLead, FastDevicesLeave, ValidDisksLieWithin, TablesAreThere, AdvancesAreTold, MovesStaySound, AnswersStaySound, BreaksStaySound, BeginsStaySound, FlightsAreGranted, InodesAreShort, WantsAreShort};
 ghost use Rattle.dn_volume.specs.Fresh.{FreshVolumesAgree, FreshVolumesAreSound};
+ghost use Rattle.dn_volume.specs.Wrong.{LeftOutPlacesAreRefused, StalePointersAreRefused, WrongPartsAreRefused};
 ghost use Rattle.dn_volume.specs.Rely.{FlightsStay, OthersStay};
 ghost use Rattle.dn_volume.specs.StillLaws.{StillFlushes, StillSettles, StillWithoutFlights};
 
@@ -16,6 +17,11 @@ pub fn deciding_stores_lead()
 /// A device that stands for a disk leaves images of that disk alone.
 pub fn fast_devices_leave()
     ensures { FastDevicesLeave }
+{}
+
+/// What a disk without a fault says of its words lies within its pages.
+pub fn valid_disks_lie_within()
+    ensures { ValidDisksLieWithin }
 {}
 
 /// An advance that is the last one adds its entry, and every other leaves the history as it is.
@@ -79,4 +85,12 @@ pub fn flights_are_granted()
 /// Where nothing waits for reclaim, a want of room is one of the disk.
 pub fn wants_are_short()
     ensures { WantsAreShort }
+{}
+
+/// Each group of the invariant refuses something: in a volume without files, each part that is made wrong; and a place
+/// that doesn't wait for the daemon, and a pointer to no row.
+pub fn wrong_parts_are_refused()
+    ensures parts { WrongPartsAreRefused }
+    ensures places { LeftOutPlacesAreRefused }
+    ensures pointers { StalePointersAreRefused }
 {}

@@ -15,7 +15,8 @@ pub fn daemon_rests<D: Pm, F: Fingerprint>(v: &mut Volume<D, F>) -> Outcome
     requires none_begun { v.old.parts.sharing ≡ None }
     requires none_waits { v.old.parts.queue.items ≡ [] }
     ensures agrees { Agrees D.state v.new }
-    ensures event { (d : Disk) → IsVolume d v.old.parts (D.state v.old.device) → DaemonWorks D.state F.print v.old v.new d result }
+    ensures event { (d : Disk) → IsVolume d v.old.parts (D.state v.old.device)
+        → DaemonWorks D.state F.print v.old v.new d result }
 {
     Outcome::Idle
 }

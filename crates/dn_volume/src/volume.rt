@@ -158,7 +158,8 @@ impl<D: Pm, F: Fingerprint> Volume<D, F> {
     /// The actor that holds an inode, if one does.
     pub fn holder_of(&self, ino: u64) -> Option<u32>
         requires { ino < length self.now.parts.inodes.items }
-        ensures { (n : InodeState) → slice_get self.now.parts.inodes.items ino ≡ Some n → result ≡ n.holder }
+        ensures { (n : InodeState) → slice_get self.now.parts.inodes.items ino ≡ Some n
+            → result ≡ n.holder }
     {
         self.parts.inodes[ino as usize].holder
     }
@@ -168,8 +169,10 @@ impl<D: Pm, F: Fingerprint> Volume<D, F> {
         requires agrees { Agrees D.state self.now }
         requires running { self.now.parts.stopped ≡ false }
         requires slot { slot < slots self.now.parts.geometry }
-        ensures found { IfSome result (λ r. (d : Disk) → IsVolume d self.now.parts (D.state self.now.device) → IsAtSlot d slot (as_row r)) }
-        ensures none { IfNone result ((d : Disk) → IsVolume d self.now.parts (D.state self.now.device) → HasNoneAt d slot) }
+        ensures found { IfSome result (λ r. (d : Disk)
+            → IsVolume d self.now.parts (D.state self.now.device) → IsAtSlot d slot (as_row r)) }
+        ensures none { IfNone result
+            ((d : Disk) → IsVolume d self.now.parts (D.state self.now.device) → HasNoneAt d slot) }
     {
         self.parts.fact.row_at(&self.device, slot)
     }

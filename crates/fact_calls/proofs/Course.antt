@@ -20,7 +20,18 @@ use Rattle.fact_calls.proofs.Moments.{moments_begin, moments_stay, moments_on}
 use Rattle.fact_calls.specs.declared.call.TableCall.{TableCall}
 use Rattle.fact_calls.specs.Follows.{MayMake, Follows, After, none_made, one_more}
 use Rattle.law_table.specs.Words.{IsTableWord}
-use Rattle.fact_calls.specs.Made.{IsSameBut, MayCall, HasCalled, HoldsRows, LeavesCall, MakesCall, MayCallAll, HasCalledSome, HasRowsAfter, LeavesAfter}
+use Rattle.fact_calls.specs.Made.{
+  IsSameBut,
+  MayCall,
+  HasCalled,
+  HoldsRows,
+  LeavesCall,
+  MakesCall,
+  MayCallAll,
+  HasCalledSome,
+  HasRowsAfter,
+  LeavesAfter,
+}
 
 module _ (d e : Disk) (same : IsSameBut d e) where
   geometry_same : e.geometry ≡ d.geometry

@@ -107,7 +107,8 @@ pub fn insert_direct<D: Pm>(
     ensures settles { OnOk result (SettlesAll who (D.state device.old) (D.state device.new)) }
     ensures only { StoresOnly (IsPutWord g.now direct page (slot_word g.now direct 0))
         (D.state device.old) (D.state device.new) }
-    ensures others { KeepsFlushed (Others who) (IsPutWord g.now direct page (slot_word g.now direct 0))
+    ensures others { KeepsFlushed (Others who)
+        (IsPutWord g.now direct page (slot_word g.now direct 0))
         (D.state device.old) (D.state device.new) }
     ensures spare { (D.state device.old).spare ≤ (D.state device.new).spare + INSERT_UNITS }
     ensures faults { (D.state device.old).faults ≤ (D.state device.new).faults }
@@ -151,7 +152,8 @@ pub fn insert_chained<D: Pm>(
     ensures settles { OnOk result (SettlesAll who (D.state device.old) (D.state device.new)) }
     ensures only { StoresOnly (IsPutWord g.now slot page (slot_word g.now direct 5))
         (D.state device.old) (D.state device.new) }
-    ensures others { KeepsFlushed (Others who) (IsPutWord g.now slot page (slot_word g.now direct 5))
+    ensures others { KeepsFlushed (Others who)
+        (IsPutWord g.now slot page (slot_word g.now direct 5))
         (D.state device.old) (D.state device.new) }
     ensures spare { (D.state device.old).spare ≤ (D.state device.new).spare + INSERT_UNITS }
     ensures faults { (D.state device.old).faults ≤ (D.state device.new).faults }

@@ -43,7 +43,8 @@ AppendsNew g who ino fresh slots s t = (old new : Disk) (w : Writes ino old new)
 
 -- a word past the log's tail that is prepared, or the tail
 abbrev pub IsItemWord : ℕ → Disk → Disk → ℕ → Type 0
-IsItemWord ino old new a = Said (Prepared ino (old.inode ino).log (new.inode ino).log) a ⊎ (a ≡ inode_word ino 2)
+IsItemWord ino old new a = Said (Prepared ino (old.inode ino).log (new.inode ino).log) a
+    ⊎ (a ≡ inode_word ino 2)
 
 -- only words of the items and the tail are stored to, and what others had flushed elsewhere is
 -- flushed still

@@ -23,7 +23,8 @@ if_ok_map (Err e) P Q f h = h
 
 module _ (image : List ℕ) (map : FinMap nat_cmp Mapping) (size : ℕ) where
   -- one part after another
-  pub appends-then : (start from next : ℕ) (xs ys zs : List ℕ) → AppendsBytes image map size start from xs ys → AppendsBytes image map size from next ys zs → AppendsBytes image map size start next xs zs
+  pub appends-then : (start from next : ℕ) (xs ys zs : List ℕ) → AppendsBytes image map size start from xs ys → AppendsBytes image map size from next
+      ys zs → AppendsBytes image map size start next xs zs
   appends-then start from next xs ys zs first then_more = record {
     rises = omega (arith, first.rises, then_more.rises);
     whole = omega (arith, first.rises, then_more.rises, first.whole, then_more.whole);
@@ -33,12 +34,15 @@ module _ (image : List ℕ) (map : FinMap nat_cmp Mapping) (size : ℕ) where
       | inr high ↦
           let place : length xs + i ≡ length ys + (i - (from - start)) = omega (arith, high, first.whole) in
           let byte : from + (i - (from - start)) ≡ start + i = omega (arith, high, first.rises) in
-          ap (slice_index zs) place ∙ then_more.more (i - (from - start)) (omega (arith, lt, high, first.rises, then_more.rises)) ∙ ap (file_byte image map size) byte
+          ap (slice_index zs) place ∙ then_more.more (i - (from - start)) (omega (arith, lt, high, first.rises, then_more.rises)) ∙ ap
+          (file_byte image map size) byte
     ];
   }
 
-module _ (d : Disk) (ino size : ℕ) (map : FinMap nat_cmp Mapping) (is : IsFileOf d ino size map) (valid : IsValid d) (s : State) (stands : Stands (DiskSays d) s) where
-  module _ (at count start more : ℕ) (start_is : start ≡ min at size) (more_is : more ≡ min count (size - start)) (found : List ℕ) (read : AppendsBytes s.now map size start (start + more) [] found) where
+module _ (d : Disk) (ino size : ℕ) (map : FinMap nat_cmp Mapping) (is : IsFileOf d ino size map) (valid : IsValid d) (s : State)
+    (stands : Stands (DiskSays d) s) where
+  module _ (at count start more : ℕ) (start_is : start ≡ min at size) (more_is : more ≡ min count (size - start)) (found : List ℕ)
+      (read : AppendsBytes s.now map size start (start + more) [] found) where
     found_long : length found ≡ more
     found_long = numbers (length found) read.whole
       where
@@ -46,14 +50,16 @@ module _ (d : Disk) (ino size : ℕ) (map : FinMap nat_cmp Mapping) (is : IsFile
         numbers l e = omega (arith, e)
 
     part_long : length (take count (drop at (bytes d ino))) ≡ more
-    part_long = numbers (length (take count (drop at (bytes d ino)))) (length (drop at (bytes d ino))) (length (bytes d ino)) (length-take count (drop at (bytes d ino))) (length-drop at (bytes d ino)) (length-bytes d ino ∙ is.size_is)
+    part_long = numbers (length (take count (drop at (bytes d ino)))) (length (drop at (bytes d ino))) (length (bytes d ino))
+        (length-take count (drop at (bytes d ino))) (length-drop at (bytes d ino)) (length-bytes d ino ∙ is.size_is)
       where
         numbers : (a b l : ℕ) → a ≡ min count b → b ≡ l - at → l ≡ size → a ≡ more
         numbers a b l p q r = omega (arith, start_is, more_is)
 
     byte_found : (j : ℕ) → j < more → slice_index found j ≡ slice_index (take count (drop at (bytes d ino))) j
     byte_found j lt =
-        ap (slice_index found) (sym (zero-add j)) ∙ read.more j (inside j lt) ∙ byte_is d ino size map is valid s stands (start + j) ∙ ap (slice_index (bytes d ino)) (same j lt)
+        ap (slice_index found) (sym (zero-add j)) ∙ read.more j (inside j lt) ∙ byte_is d ino size map is valid s stands (start + j) ∙ ap
+        (slice_index (bytes d ino)) (same j lt)
         ∙ sym (get_or-drop at (bytes d ino) j 0) ∙ sym (get_or-take count (drop at (bytes d ino)) j 0 (before j lt))
       where
         inside : (j : ℕ) → j < more → j < start + more - start
@@ -67,7 +73,8 @@ module _ (d : Disk) (ino size : ℕ) (map : FinMap nat_cmp Mapping) (is : IsFile
 
     -- the bytes that are read are those from a place on, as far as the file goes
     pub found_is : found ≡ take count (drop at (bytes d ino))
-    found_is = same_number_lists found (take count (drop at (bytes d ino))) (found_long ∙ sym part_long) (λ j lt. byte_found j (low j (length found) lt found_long))
+    found_is = same_number_lists found (take count (drop at (bytes d ino))) (found_long ∙ sym part_long)
+        (λ j lt. byte_found j (low j (length found) lt found_long))
       where
         low : (j l : ℕ) → j < l → l ≡ more → j < more
         low j l lt e = omega (arith, lt, e)

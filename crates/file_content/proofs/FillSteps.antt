@@ -25,7 +25,8 @@ use Rattle.file_content.specs.FillLoop.{FillsTo}
 use Rattle.file_content.proofs.Filling.{filled-whole}
 
 -- a page stays filled while another one is stored to
-pub filled-stores : (who : ℕ) (s t : State) (block page : ℕ) (byte : ℕ → ℕ) → block ≢ page → 512 * block + 512 ≤ length s.now → StoresOnly (IsInPage page) s t → KeepsFlushed Anyone (IsInPage page) s t → IsFilledBy who s block byte → IsFilledBy who t block byte
+pub filled-stores : (who : ℕ) (s t : State) (block page : ℕ) (byte : ℕ → ℕ) → block ≢ page → 512 * block + 512 ≤ length s.now
+    → StoresOnly (IsInPage page) s t → KeepsFlushed Anyone (IsInPage page) s t → IsFilledBy who s block byte → IsFilledBy who t block byte
 filled-stores who s t block page byte differ inside only keeps filled = record {
   bytes_are = λ k lt. ap (λ (w : ℕ). word_byte w (k % 8)) (only.read (512 * block + k / 8) (out (k / 8) (omega (arith, lt)))) ∙ filled.bytes_are k lt;
   flushed = λ k lt. keeps.flushed who (512 * block + k) tt (out k lt) (omega (arith, lt, inside)) (filled.flushed k lt);
@@ -39,11 +40,14 @@ filled-stores who s t block page byte differ inside only keeps filled = record {
 
 module _ (g : Geometry) (who : ℕ) (map : FinMap nat_cmp Mapping) (size first at : ℕ) (text pages : List ℕ) where
   -- a disk that uses none of the pages stands while they are stored to
-  pub still_stands : (d : Disk) → IsValid d → ((i : ℕ) → i < length pages → IsUnused d (slice_index pages i)) → (s t : State) → StoresOnly (IsInPages pages) s t → Stands (DiskSays d) s → Stands (DiskSays d) t
+  pub still_stands : (d : Disk) → IsValid d → ((i : ℕ) → i < length pages → IsUnused d (slice_index pages i)) → (s t : State)
+      → StoresOnly (IsInPages pages) s t → Stands (DiskSays d) s → Stands (DiskSays d) t
   still_stands d valid unused s t only stands =
-      stands-stores (IsInPages pages) s t only (DiskSays d) (λ a v says here. unused_unsaid d valid (slice_index pages here.i) (unused here.i here.below) a v here.in_page says) stands
+      stands-stores (IsInPages pages) s t only (DiskSays d) (λ a v says here. unused_unsaid d valid (slice_index pages here.i)
+      (unused here.i here.below) a v here.in_page says) stands
 
-  module _ (n : ℕ) (s t u : State) (lt : n < length pages) (to : FillsTo g who map size first at text pages n s t) (only : StoresOnly (IsInPage (slice_index pages n)) t u) (long : length s.now ≡ 512 * g.pages) where
+  module _ (n : ℕ) (s t u : State) (lt : n < length pages) (to : FillsTo g who map size first at text pages n s t)
+      (only : StoresOnly (IsInPage (slice_index pages n)) t u) (long : length s.now ≡ 512 * g.pages) where
     wider : (a : ℕ) → IsInPage (slice_index pages n) a → IsInPages pages a
     wider a here = record { i = n; below = lt; in_page = here }
 
@@ -53,17 +57,21 @@ module _ (g : Geometry) (who : ℕ) (map : FinMap nat_cmp Mapping) (size first a
     fills-next apart keeps spare faults fills = record {
       pages_are = record {
         filled = λ d ino is valid same stands unused i below. elim (cases_lt i n) [
-          | inl low ↦ filled-stores who t u (slice_index pages i) (slice_index pages n) (λ k. merged_byte (bytes d ino) at text (4096 * (first + i) + k))
+          | inl low ↦ filled-stores who t u (slice_index pages i) (slice_index pages n)
+              (λ k. merged_byte (bytes d ino) at text (4096 * (first + i) + k))
               (λ e. omega (arith, low, apart i n (omega (arith, low, lt)) lt e))
-              (omega (arith, (unused i (omega (arith, low, lt))).free.data_page.high, ap (λ (h : Geometry). h.pages) same, long, to.only.words)) only keeps (to.pages_are.filled d ino is valid same stands unused i low)
+              (omega (arith, (unused i (omega (arith, low, lt))).free.data_page.high, ap (λ (h : Geometry). h.pages) same, long, to.only.words)) only
+              keeps (to.pages_are.filled d ino is valid same stands unused i low)
           | inr high ↦
               let here : n ≡ i = omega (arith, below, high) in
               subst (λ (j : ℕ). IsFilledBy who u (slice_index pages j) (λ k. merged_byte (bytes d ino) at text (4096 * (first + j) + k))) here
-              (filled-whole d ino size map is u who (slice_index pages n) (first + n) at text (fills d ino size is (omega arith) valid same (still_stands d valid unused s t to.only stands)))
+              (filled-whole d ino size map is u who (slice_index pages n) (first + n) at text (fills d ino size is (omega arith) valid same
+              (still_stands d valid unused s t to.only stands)))
         ];
       };
       only = stores_only-then (IsInPages pages) s t u to.only (stores_only-weaken (IsInPage (slice_index pages n)) (IsInPages pages) t u wider only);
-      keeps = keeps-then Anyone (IsInPages pages) s t u to.keeps (keeps-weaken Anyone Anyone (IsInPage (slice_index pages n)) (IsInPages pages) t u (λ q anyone. anyone) wider keeps);
+      keeps = keeps-then Anyone (IsInPages pages) s t u to.keeps (keeps-weaken Anyone Anyone (IsInPage (slice_index pages n)) (IsInPages pages) t u
+          (λ q anyone. anyone) wider keeps);
       spare = omega (arith, spare, to.spare);
       faults = omega (arith, faults, to.faults);
     }

@@ -24,7 +24,8 @@ kept-all old size j long = elim (cases_lt j size) [
   | inr high ↦ if_false (nat_lt j size) _ _ (not_below j size high) ∙ sym (get_or_past old j 0 (omega (arith, long, high)))
 ]
 
-module _ (d : Disk) (ino whole : ℕ) (map : FinMap nat_cmp Mapping) (is : IsFileOf d ino whole map) (valid : IsValid d) (s : State) (stands : Stands (DiskSays d) s) where
+module _ (d : Disk) (ino whole : ℕ) (map : FinMap nat_cmp Mapping) (is : IsFileOf d ino whole map) (valid : IsValid d) (s : State)
+    (stands : Stands (DiskSays d) s) where
   -- the bytes below a size, as they are read
   kept-read : (size j : ℕ) → size ≤ whole → file_byte s.now map size j ≡ kept_byte size (bytes d ino) j
   unfolding file_byte
@@ -35,7 +36,8 @@ module _ (d : Disk) (ino whole : ℕ) (map : FinMap nat_cmp Mapping) (is : IsFil
     | inr high ↦ if_false (nat_lt j size) _ _ (not_below j size high) ∙ sym (if_false (nat_lt j size) _ _ (not_below j size high))
   ]
 
-  pub filled_is : (t : State) (who block size place at : ℕ) (text page new : List ℕ) → size ≤ whole → IsPlaceOf s.now map size place page → PutsText (4096 * place) at text page new → HoldsBytes who block new t
+  pub filled_is : (t : State) (who block size place at : ℕ) (text page new : List ℕ) → size ≤ whole → IsPlaceOf s.now map size place page
+      → PutsText (4096 * place) at text page new → HoldsBytes who block new t
       → IsFilledBy who t block (λ k. put_byte at text (4096 * place + k) (kept_byte size (bytes d ino) (4096 * place + k)))
   filled_is t who block size place at text page new le read puts holds = record {
     bytes_are = λ k lt.
@@ -45,10 +47,12 @@ module _ (d : Disk) (ino whole : ℕ) (map : FinMap nat_cmp Mapping) (is : IsFil
   }
 
 -- all of the file is kept
-pub filled-whole : (d : Disk) (ino size : ℕ) (map : FinMap nat_cmp Mapping) → IsFileOf d ino size map → (t : State) (who block place at : ℕ) (text : List ℕ)
+pub filled-whole : (d : Disk) (ino size : ℕ) (map : FinMap nat_cmp Mapping) → IsFileOf d ino size map → (t : State) (who block place at : ℕ)
+    (text : List ℕ)
     → IsFilledBy who t block (λ k. put_byte at text (4096 * place + k) (kept_byte size (bytes d ino) (4096 * place + k)))
     → IsFilledBy who t block (λ k. put_byte at text (4096 * place + k) (slice_index (bytes d ino) (4096 * place + k)))
 filled-whole d ino size map is t who block place at text filled = record {
-  bytes_are = λ k lt. filled.bytes_are k lt ∙ ap (put_byte at text (4096 * place + k)) (kept-all (bytes d ino) size (4096 * place + k) (length-bytes d ino ∙ is.size_is));
+  bytes_are = λ k lt. filled.bytes_are k lt ∙ ap (put_byte at text (4096 * place + k)) (kept-all (bytes d ino) size (4096 * place + k)
+      (length-bytes d ino ∙ is.size_is));
   flushed = filled.flushed;
 }

@@ -15,21 +15,29 @@ block_given m old new gives = record { pages = gives.pages; free = λ page. (to 
     to page there = elim (cases_eq page m.block) [ inl e ↦ inr (sym e) | inr ne ↦ inl ((gives.others page ne).0 there) ]
 
     from : (page : ℕ) → Contains old.free page ⊎ (m.block ≡ page) → Contains new.free page
-    from page (inl there) = elim (cases_eq page m.block) [ inl e ↦ subst (Contains new.free) (sym e) gives.there | inr ne ↦ (gives.others page ne).1 there ]
+    from page (inl there) = elim (cases_eq page m.block) [
+      | inl e ↦ subst (Contains new.free) (sym e) gives.there
+      | inr ne ↦ (gives.others page ne).1
+          there
+    ]
     from page (inr e) = subst (Contains new.free) e gives.there
 
 module _ (map : FinMap nat_cmp Mapping) (first i : ℕ) (old now : FreePages) (so_far : GivesBlocks map first i old now) where
   -- the page of the next place isn't free yet
-  pub next_taken : (places : ℕ) (mapping : Option Mapping) → mapping ≡ get map (first + i) → i < places → IfSome (get map (first + i)) (λ m. ¬ Contains old.free m.block)
-      → ((i j page : ℕ) → i < places → j < places → IsBlockOf (get map (first + i)) page → IsBlockOf (get map (first + j)) page → i ≡ j) → IfSome mapping (λ m. ¬ Contains now.free m.block)
+  pub next_taken : (places : ℕ) (mapping : Option Mapping) → mapping ≡ get map (first + i) → i < places → IfSome (get map (first + i))
+      (λ m. ¬ Contains old.free m.block)
+      → ((i j page : ℕ) → i < places → j < places → IsBlockOf (get map (first + i)) page → IsBlockOf (get map (first + j)) page → i ≡ j)
+      → IfSome mapping (λ m. ¬ Contains now.free m.block)
   next_taken places None e lt taken apart = tt
   next_taken places (Some m) e lt taken apart = λ there. elim ((so_far.free m.block).0 there) [
     | inl before ↦ subst (λ (o : Option Mapping). IfSome o (λ x. ¬ Contains old.free x.block)) (sym e) taken before
-    | inr among ↦ absurd (let same = apart among.i i m.block (omega (arith, among.below, lt)) lt among.block (subst (λ (o : Option Mapping). IsBlockOf o m.block) e refl) in omega (arith, same, among.below))
+    | inr among ↦ absurd (let same = apart among.i i m.block (omega (arith, among.below, lt)) lt among.block
+        (subst (λ (o : Option Mapping). IsBlockOf o m.block) e refl) in omega (arith, same, among.below))
   ]
 
   -- the page of the next place is free too
-  pub blocks-next : (mapping : Option Mapping) (new : FreePages) → mapping ≡ get map (first + i) → GivesBlock mapping now new → GivesBlocks map first (i + 1) old new
+  pub blocks-next : (mapping : Option Mapping) (new : FreePages) → mapping ≡ get map (first + i) → GivesBlock mapping now new
+      → GivesBlocks map first (i + 1) old new
   blocks-next mapping new e gives = record { pages = gives.pages ∙ so_far.pages; free = λ page. (to page, from page) }
     where
       earlier : (page : ℕ) → Contains old.free page ⊎ IsBlockAmong map first i page → Contains old.free page ⊎ IsBlockAmong map first (i + 1) page
@@ -49,5 +57,6 @@ module _ (map : FinMap nat_cmp Mapping) (first i : ℕ) (old now : FreePages) (s
         | inr high ↦
             let same : among.i ≡ i = omega (arith, among.below, high) in
             (gives.free page).1
-            (inr (subst (λ (o : Option Mapping). IsBlockOf o page) (sym e) (subst (λ (k : ℕ). IsBlockOf (get map (first + k)) page) same among.block)))
+            (inr (subst (λ (o : Option Mapping). IsBlockOf o page) (sym e) (subst (λ (k : ℕ). IsBlockOf (get map (first + k)) page) same
+            among.block)))
       ]

@@ -9,15 +9,19 @@ use Rattle.file_content.specs.declared.runs.Run.{Run}
 use Rattle.file_content.specs.Runs.{seen, all_seen}
 use Rattle.file_content.specs.Slots.{IsCutInto}
 
-pub runs_below : (n first : ℕ) (runs : List Run) → IsChained first (all_seen runs) → first + places_in (all_seen runs) ≤ n → All (λ run. run.first + run.count ≤ n) runs
+pub runs_below : (n first : ℕ) (runs : List Run) → IsChained first (all_seen runs) → first + places_in (all_seen runs) ≤ n
+    → All (λ run. run.first + run.count ≤ n) runs
 runs_below n first [] chained inside = All-nil (λ (run : Run). run.first + run.count ≤ n)
 runs_below n first (run ∷ runs) chained inside =
-    All-cons (λ (r : Run). r.first + r.count ≤ n) run runs (omega (arith, chained.0, inside)) (runs_below n (first + run.count) runs chained.3 (omega (arith, inside)))
+    All-cons (λ (r : Run). r.first + r.count ≤ n) run runs (omega (arith, chained.0, inside)) (runs_below n (first + run.count) runs chained.3
+    (omega (arith, inside)))
 
-pub blocks_below : (n first : ℕ) (runs : List Run) → IsChained first (all_seen runs) → ((i : ℕ) → i < places_in (all_seen runs) → block_at (all_seen runs) i < n) → All (λ run. run.block + run.count ≤ n) runs
+pub blocks_below : (n first : ℕ) (runs : List Run) → IsChained first (all_seen runs)
+    → ((i : ℕ) → i < places_in (all_seen runs) → block_at (all_seen runs) i < n) → All (λ run. run.block + run.count ≤ n) runs
 blocks_below n first [] chained below = All-nil (λ (run : Run). run.block + run.count ≤ n)
 blocks_below n first (run ∷ runs) chained below =
-    All-cons (λ (r : Run). r.block + r.count ≤ n) run runs last_below (blocks_below n (first + run.count) runs chained.3 (λ i lt. subst (λ (b : ℕ). b < n) (block_at-later (seen run) (all_seen runs) i) (below (run.count + i) (omega (arith, lt)))))
+    All-cons (λ (r : Run). r.block + r.count ≤ n) run runs last_below (blocks_below n (first + run.count) runs chained.3
+    (λ i lt. subst (λ (b : ℕ). b < n) (block_at-later (seen run) (all_seen runs) i) (below (run.count + i) (omega (arith, lt)))))
   where
     last_below : run.block + run.count ≤ n
     last_below =

@@ -1,5 +1,26 @@
 -- What is kept in memory of a live file is the disk's; and the bytes that are read of it.
-use Rattle.std.specs.Prelude.{◌≡◌, ℕ, ◌+◌, ◌-◌, ◌*◌, ◌/◌, ◌%◌, ◌<◌, ◌≤◌, ◌&&◌, nat_le, nat_lt, if◌then◌else◌, List, length, slice_index, Option, Some, None, IfSome}
+use Rattle.std.specs.Prelude.{
+  ◌≡◌,
+  ℕ,
+  ◌+◌,
+  ◌-◌,
+  ◌*◌,
+  ◌/◌,
+  ◌%◌,
+  ◌<◌,
+  ◌≤◌,
+  ◌&&◌,
+  nat_le,
+  nat_lt,
+  if◌then◌else◌,
+  List,
+  length,
+  slice_index,
+  Option,
+  Some,
+  None,
+  IfSome,
+}
 use Rattle.std.specs.Option.{option_map}
 use Rattle.std.specs.Ordering.{nat_cmp}
 use Rattle.std.specs.FinMap.{FinMap, get}
@@ -32,18 +53,22 @@ abbrev pub block_byte : List ℕ → ℕ → Option Mapping → ℕ
 block_byte image k None = 0
 block_byte image k (Some m) = page_byte image m.block k
 
--- byte j of a file of this size whose places are mapped so: 0 from the size on, and where nothing is mapped
+-- byte j of a file of this size whose places are mapped so: 0 from the size on, and where nothing
+-- is mapped
 unfoldable pub file_byte : List ℕ → FinMap nat_cmp Mapping → ℕ → ℕ → ℕ
-file_byte image map size j = if nat_lt j size then block_byte image (j % 4096) (get map (j / 4096)) else 0
+file_byte image map size j = if nat_lt j size then block_byte image (j % 4096) (get map (j / 4096))
+    else 0
 
 -- these are the bytes of a place of the file
-pub record IsPlaceOf (image : List ℕ) (map : FinMap nat_cmp Mapping) (size place : ℕ) (bytes : List ℕ) : Type 0 where
+pub record IsPlaceOf (image : List ℕ) (map : FinMap nat_cmp Mapping) (size place : ℕ)
+    (bytes : List ℕ) : Type 0 where
   pub whole : length bytes ≡ 4096
   pub each : (k : ℕ) → k < 4096 → slice_index bytes k ≡ file_byte image map size (4096 * place + k)
 
 -- byte j of a file of these bytes, once a text is put in from byte `at` on
 abbrev pub merged_byte : List ℕ → ℕ → List ℕ → ℕ → ℕ
-merged_byte old at text j = if nat_le at j && nat_lt j (at + length text) then slice_index text (j - at) else slice_index old j
+merged_byte old at text j = if nat_le at j && nat_lt j (at + length text) then slice_index text
+    (j - at) else slice_index old j
 
 -- byte j of a file of these bytes of which those below `size` are kept
 abbrev pub kept_byte : ℕ → List ℕ → ℕ → ℕ

@@ -9,7 +9,8 @@ use Rattle.file_index.specs.declared.page_map.Mapping.{Mapping}
 use Rattle.file_content.specs.Pages.{IsInPages, AreFilled}
 
 -- the first n of these pages are filled
-pub record FillsTo (g : Geometry) (who : ℕ) (map : FinMap nat_cmp Mapping) (size first at : ℕ) (text pages : List ℕ) (n : ℕ) (s t : State) : Type 0 where
+pub record FillsTo (g : Geometry) (who : ℕ) (map : FinMap nat_cmp Mapping) (size first at : ℕ)
+    (text pages : List ℕ) (n : ℕ) (s t : State) : Type 0 where
   pub pages_are : AreFilled g who map size first at text pages n s t
   pub only : StoresOnly (IsInPages pages) s t
   pub keeps : KeepsFlushed Anyone (IsInPages pages) s t

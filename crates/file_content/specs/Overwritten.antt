@@ -21,7 +21,10 @@ pub record GivesBlock (mapping : Option Mapping) (old new : FreePages) : Type 0 
   pub pages : new.pages ≡ old.pages
   pub free : (page : ℕ) → Contains new.free page ↔ (Contains old.free page ⊎ IsBlockOf mapping page)
 
--- the pages of the n places from `first` on, as far as these are mapped, became free, and nothing else changed
-pub record GivesBlocks (map : FinMap nat_cmp Mapping) (first n : ℕ) (old new : FreePages) : Type 0 where
-  pub pages : new.pages ≡ old.pages
-  pub free : (page : ℕ) → Contains new.free page ↔ (Contains old.free page ⊎ IsBlockAmong map first n page)
+-- the pages of the n places from `first` on, as far as these are mapped, became free, and nothing
+-- else changed
+pub record GivesBlocks (map : FinMap nat_cmp Mapping) (first n : ℕ) (old new : FreePages) : Type 0
+  where
+    pub pages : new.pages ≡ old.pages
+    pub free : (page : ℕ) → Contains new.free page ↔ (Contains old.free page ⊎ IsBlockAmong map first
+        n page)

@@ -58,7 +58,8 @@ pub fn fill_place<D: Pm>(
     requires place { place < 4096 }
     requires block { block < g.now.pages }
     requires room { FILL_UNITS ≤ (D.state device.old).spare }
-    ensures filled { FillsPlace g.now who map.now.map size place at text.now block (D.state device.old) (D.state device.new) }
+    ensures filled { FillsPlace g.now who map.now.map size place at text.now block
+        (D.state device.old) (D.state device.new) }
     ensures only { StoresOnly (IsInPage block) (D.state device.old) (D.state device.new) }
     ensures keeps { KeepsFlushed Anyone (IsInPage block) (D.state device.old) (D.state device.new) }
     ensures flushes { FlushesAll who (D.state device.old) (D.state device.new) }
@@ -92,10 +93,13 @@ pub fn fill_places<D: Pm>(
     requires blocks { All (λ block. block < g.now.pages) blocks.now }
     requires apart { AreApart blocks.now }
     requires room { FILL_UNITS * length blocks.now ≤ (D.state device.old).spare }
-    ensures filled { AreFilled g.now who map.now.map size first at text.now blocks.now (length blocks.now) (D.state device.old) (D.state device.new) }
+    ensures filled { AreFilled g.now who map.now.map size first at text.now blocks.now
+        (length blocks.now) (D.state device.old) (D.state device.new) }
     ensures only { StoresOnly (IsInPages blocks.now) (D.state device.old) (D.state device.new) }
-    ensures keeps { KeepsFlushed Anyone (IsInPages blocks.now) (D.state device.old) (D.state device.new) }
-    ensures spare { (D.state device.old).spare ≤ (D.state device.new).spare + FILL_UNITS * length blocks.now }
+    ensures keeps { KeepsFlushed Anyone (IsInPages blocks.now) (D.state device.old)
+        (D.state device.new) }
+    ensures spare { (D.state device.old).spare ≤ (D.state device.new).spare + FILL_UNITS * length
+        blocks.now }
     ensures faults { (D.state device.old).faults ≤ (D.state device.new).faults }
 {
     for (i, block) in blocks.iter().enumerate() {

@@ -62,7 +62,9 @@ pub fn read_place<D: Pm>(
     requires blocks { AreBlocksIn g.now map.now.map }
     requires whole { length into.old ≡ 4096 }
     ensures read { IsPlaceOf (D.state device.now).now map.now.map size place into.new }
-    ensures page { (d : Disk) (ino : ℕ) → IsFileOf d ino size map.now.map → IsValid d → d.geometry ≡ g.now → Stands (DiskSays d) (D.state device.now) → into.new ≡ file_page (bytes d ino) place }
+    ensures page { (d : Disk) (ino : ℕ) → IsFileOf d ino size map.now.map → IsValid d
+        → d.geometry ≡ g.now → Stands (DiskSays d) (D.state device.now)
+        → into.new ≡ file_page (bytes d ino) place }
 {
     let mapping = map.get(place);
     let inside = bytes_inside(size, place);

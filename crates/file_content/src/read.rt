@@ -32,7 +32,8 @@ fn push_part<D: Pm>(
     requires device { length (D.state device.now).now ≡ 512 * g.now.pages }
     requires blocks { AreBlocksIn g.now map.now.map }
     requires some { from < end }
-    ensures part { IfOk result (λ next. AppendsBytes (D.state device.now).now map.now.map size from next found.old.items found.new.items) }
+    ensures part { IfOk result (λ next. AppendsBytes (D.state device.now).now map.now.map size from
+        next found.old.items found.new.items) }
     ensures rises { IfOk result (λ next. from < next) }
     ensures within { IfOk result (λ next. next ≤ end) }
 {
@@ -58,7 +59,8 @@ fn read_range<D: Pm>(
     requires device { length (D.state device.now).now ≡ 512 * g.now.pages }
     requires blocks { AreBlocksIn g.now map.now.map }
     requires rises { start ≤ end }
-    ensures { IfOk result (λ found. AppendsBytes (D.state device.now).now map.now.map size start end [] found.items) }
+    ensures { IfOk result (λ found. AppendsBytes (D.state device.now).now map.now.map size start end
+        [] found.items) }
 {
     let mut found = Vec::with_capacity(alloc, (end - start) as usize)?;
     let mut from = start;
@@ -86,7 +88,9 @@ pub fn read_bytes<D: Pm>(
     requires device { length (D.state device.now).now ≡ 512 * g.now.pages }
     requires blocks { AreBlocksIn g.now map.now.map }
     requires few { count ≤ MOST_BYTES }
-    ensures { IfOk result (λ found. (d : Disk) (ino : ℕ) → IsFileOf d ino size map.now.map → IsValid d → d.geometry ≡ g.now → Stands (DiskSays d) (D.state device.now) → found.items ≡ take count (drop at (bytes d ino))) }
+    ensures { IfOk result (λ found. (d : Disk) (ino : ℕ) → IsFileOf d ino size map.now.map
+        → IsValid d → d.geometry ≡ g.now → Stands (DiskSays d) (D.state device.now)
+        → found.items ≡ take count (drop at (bytes d ino))) }
 {
     let start = at.min(size);
     let end = start + count.min(size - start);

@@ -42,7 +42,8 @@ fn slot_of_pages(pages: &[u64], k: u64) -> u64
 pub fn slot_after(tail: u64, fresh: &[u64], j: u64) -> u64
     requires tail { tail < 4194304 }
     requires fresh { All (λ page. page < 65536) fresh.now }
-    ensures { (g : Geometry) (old : Log) → IsPaged g old → tail ≡ tail_at old.pages (count old) → result ≡ slot_name (old.pages ++ fresh.now) (count old + j) }
+    ensures { (g : Geometry) (old : Log) → IsPaged g old → tail ≡ tail_at old.pages (count old)
+        → result ≡ slot_name (old.pages ++ fresh.now) (count old + j) }
 {
     let left = slots_left(tail);
     if j < left {
@@ -78,7 +79,11 @@ pub fn map_runs(map: &mut PageMap, runs: &[Run], tail: u64, fresh: &[u64])
     requires blocks { All (λ run. run.block + run.count ≤ 65536) runs.now }
     requires tail { tail < 4194304 }
     requires fresh { All (λ page. page < 65536) fresh.now }
-    ensures file { (d : Disk) (ino old_size size first : ℕ) (word : ℕ → ℕ → ℕ) → IsFileOf d ino old_size map.old.map → MayWrite d ino fresh.now first size (all_seen runs.now) word → tail ≡ tail_at (d.inode ino).log.pages (count (d.inode ino).log) → old_size ≤ size → IsFileOf (written_disk d ino fresh.now size (all_seen runs.now) word) ino size map.new.map }
+    ensures file { (d : Disk) (ino old_size size first : ℕ) (word : ℕ → ℕ → ℕ)
+        → IsFileOf d ino old_size map.old.map → MayWrite d ino fresh.now first size
+        (all_seen runs.now) word → tail ≡ tail_at (d.inode ino).log.pages (count (d.inode ino).log)
+        → old_size ≤ size → IsFileOf (written_disk d ino fresh.now size (all_seen runs.now) word)
+        ino size map.new.map }
     ensures room { map.old.room ≤ map.new.room + places_in (all_seen runs.now) }
 {
     for (j, run) in runs.iter().enumerate() {
@@ -101,9 +106,13 @@ fn give_back_block(free: &mut FreeSet, mapping: Option<Mapping>)
 /// of these places leaves, by the map as it was before. The places are mapped to different pages, none of which is free.
 pub fn give_back_overwritten(free: &mut FreeSet, map: &PageMap, first: u64, places: u64)
     requires in_file { first + places ≤ 4096 }
-    requires below { (i : ℕ) → i < places → IfSome (get map.now.map (first + i)) (λ m. m.block < free.old.pages) }
-    requires taken { (i : ℕ) → i < places → IfSome (get map.now.map (first + i)) (λ m. ¬ Contains free.old.free m.block) }
-    requires apart { (i j page : ℕ) → i < places → j < places → IsBlockOf (get map.now.map (first + i)) page → IsBlockOf (get map.now.map (first + j)) page → i ≡ j }
+    requires below { (i : ℕ) → i < places → IfSome (get map.now.map (first + i))
+        (λ m. m.block < free.old.pages) }
+    requires taken { (i : ℕ) → i < places → IfSome (get map.now.map (first + i))
+        (λ m. ¬ Contains free.old.free m.block) }
+    requires apart { (i j page : ℕ) → i < places → j < places
+        → IsBlockOf (get map.now.map (first + i)) page → IsBlockOf (get map.now.map (first + j))
+        page → i ≡ j }
     ensures { GivesBlocks map.now.map first places free.old free.new }
 {
     for i in 0..places {

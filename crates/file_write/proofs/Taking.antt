@@ -1,5 +1,32 @@
 -- Pages are taken from a set of free pages, and given back.
-use Rattle.std.proofs.Common.{◌≡◌, ◌≢◌, ◌⊎◌, inl, inr, ⊎_elim, ℕ, ◌+◌, ◌-◌, ◌<◌, ◌≤◌, Bool, true, false, List, [], ◌∷◌, ◌++◌, length, refl, sym, ◌∙◌, ap, subst, arith, length-append}
+use Rattle.std.proofs.Common.{
+  ◌≡◌,
+  ◌≢◌,
+  ◌⊎◌,
+  inl,
+  inr,
+  ⊎_elim,
+  ℕ,
+  ◌+◌,
+  ◌-◌,
+  ◌<◌,
+  ◌≤◌,
+  Bool,
+  true,
+  false,
+  List,
+  [],
+  ◌∷◌,
+  ◌++◌,
+  length,
+  refl,
+  sym,
+  ◌∙◌,
+  ap,
+  subst,
+  arith,
+  length-append,
+}
 use Rattle.std.specs.Prelude.{Contains, slice_index, slice_get, nat_lt, if◌then◌else◌, Some, None}
 use Rattle.std.specs.List.Sorted.{IsStrictlyIncreasing}
 use Rattle.std.proofs.lemmas.Bool.{cases_eq, cases_lt}
@@ -40,21 +67,24 @@ module _ (xs ys : List ℕ) (rising : IsStrictlyIncreasing (xs ++ ys)) where
   left i lt = get_or_append_left xs ys 0 i lt
 
   right : (j : ℕ) → slice_index (xs ++ ys) (length xs + j) ≡ slice_index ys j
-  right j = get_or-append_right xs ys (length xs) (length xs + j) 0 refl (omega arith) ∙ ap (slice_index ys) (let z : length xs + j - length xs ≡ j = omega arith in z)
+  right j = get_or-append_right xs ys (length xs) (length xs + j) 0 refl (omega arith) ∙ ap (slice_index ys)
+      (let z : length xs + j - length xs ≡ j = omega arith in z)
 
   pub left-apart : (i j : ℕ) → i < length xs → j < length xs → slice_index xs i ≡ slice_index xs j → i ≡ j
   left-apart i j il jl e = rising-apart (xs ++ ys) rising i j (omega (arith, il, long)) (omega (arith, jl, long)) (left i il ∙ e ∙ sym (left j jl))
 
   pub right-apart : (i j : ℕ) → i < length ys → j < length ys → slice_index ys i ≡ slice_index ys j → i ≡ j
   right-apart i j il jl e =
-      let same = rising-apart (xs ++ ys) rising (length xs + i) (length xs + j) (omega (arith, il, long)) (omega (arith, jl, long)) (right i ∙ e ∙ sym (right j)) in
+      let same = rising-apart (xs ++ ys) rising (length xs + i) (length xs + j) (omega (arith, il, long)) (omega (arith, jl, long))
+      (right i ∙ e ∙ sym (right j)) in
       omega (arith, same)
 
   pub parts-apart : (p : ℕ) → Contains xs p → Contains ys p → ⊥
   parts-apart p a b =
       let i = member xs p a in
       let j = member ys p b in
-      let same = rising-apart (xs ++ ys) rising i.0 (length xs + j.0) (omega (arith, i.1, long)) (omega (arith, j.1, long)) (left i.0 i.1 ∙ i.2 ∙ sym (right j.0 ∙ j.2)) in
+      let same = rising-apart (xs ++ ys) rising i.0 (length xs + j.0) (omega (arith, i.1, long)) (omega (arith, j.1, long))
+      (left i.0 i.1 ∙ i.2 ∙ sym (right j.0 ∙ j.2)) in
       omega (arith, same, i.1)
 
 -- parts of a rising list
@@ -65,7 +95,8 @@ rising-behind (x ∷ xs) ys rising = rising-behind xs ys (IsStrictlyIncreasing-t
 pub rising-before : (xs ys : List ℕ) → IsStrictlyIncreasing (xs ++ ys) → IsStrictlyIncreasing xs
 rising-before [] ys rising = λ i lt. absurd (omega (arith, lt))
 rising-before (x ∷ xs) ys rising =
-    IsStrictlyIncreasing-cons x xs (λ y there. below_rest x (xs ++ ys) y rising (Contains-append_left xs ys y there)) (rising-before xs ys (IsStrictlyIncreasing-tail x (xs ++ ys) rising))
+    IsStrictlyIncreasing-cons x xs (λ y there. below_rest x (xs ++ ys) y rising (Contains-append_left xs ys y there))
+    (rising-before xs ys (IsStrictlyIncreasing-tail x (xs ++ ys) rising))
 
 -- Pages were taken: fresh ones of a log, a spare one, and those of the bytes.
 module _ (old new : FreePages) (fresh spare blocks : List ℕ) (in_order : IsInOrder old) (takes : TakesFirst old new (fresh ++ spare ++ blocks)) where
@@ -112,7 +143,8 @@ module _ (old new : FreePages) (fresh spare blocks : List ℕ) (in_order : IsInO
   two enough = (
     slice_index new.free 0,
     slice_index new.free 1,
-    (λ e. let same = rising-apart new.free (rising-behind taken new.free all_rising) 0 1 (omega (arith, enough)) (omega (arith, enough)) e in omega (arith, same)),
+    (λ e. let same = rising-apart new.free (rising-behind taken new.free all_rising) 0 1 (omega (arith, enough)) (omega (arith, enough)) e in
+        omega (arith, same)),
     Contains-get_or new.free 0 0 (omega (arith, enough)),
     Contains-get_or new.free 1 0 (omega (arith, enough)),
   )
@@ -121,8 +153,14 @@ module _ (old new : FreePages) (fresh spare blocks : List ℕ) (in_order : IsInO
   takes-for_write enough = record {
     same = takes.same;
     rest = λ p. (
-      (λ there. (left-free p there, (λ c. taken-left p (fresh-in p c) there), (λ c. taken-left p (spare-in p c) there), (λ c. taken-left p (blocks-in p c) there))),
-      (λ kept. ⊎_elim (λ (was : Contains taken p). absurd (out p kept.1 kept.2 kept.3 was)) (λ (n : Contains new.free p). n) (taken-or_left p kept.0)),
+      (λ there. (
+        left-free p there,
+        (λ c. taken-left p (fresh-in p c) there),
+        (λ c. taken-left p (spare-in p c) there),
+        (λ c. taken-left p (blocks-in p c) there),
+      )),
+      (λ kept. ⊎_elim (λ (was : Contains taken p). absurd (out p kept.1 kept.2 kept.3 was)) (λ (n : Contains new.free p). n)
+          (taken-or_left p kept.0)),
     );
     fresh_free = λ p c. taken-free p (fresh-in p c);
     spare_free = λ p c. taken-free p (spare-in p c);
@@ -142,7 +180,8 @@ module _ (old new : FreePages) (fresh spare blocks : List ℕ) (in_order : IsInO
 pub took-none : (set : FreePages) → TakesFirst set set []
 took-none set = record { same = refl; split = refl }
 
-pub took-one : (old mid new : FreePages) (pages : List ℕ) (page : ℕ) → TakesFirst old mid pages → Takes page mid new → TakesFirst old new (pages ++ page ∷ [])
+pub took-one : (old mid new : FreePages) (pages : List ℕ) (page : ℕ) → TakesFirst old mid pages → Takes page mid new
+    → TakesFirst old new (pages ++ page ∷ [])
 took-one old mid new pages page so_far takes = record {
   same = takes.pages ∙ so_far.same;
   split = so_far.split ∙ ap (λ xs. pages ++ xs) takes.rest ∙ sym (append_assoc pages (page ∷ []) new.free);
@@ -160,7 +199,8 @@ with_page-least page (q ∷ qs) rising =
     ap (λ (b : Bool). if b then page ∷ (q ∷ qs) else (q ∷ with_page page qs)) less
 
 -- the last of the pages that were taken is put back
-module _ (set now : FreePages) (left rest : List ℕ) (page : ℕ) (in_order : IsInOrder set) (takes : TakesFirst set now left) (is : left ≡ rest ++ page ∷ []) where
+module _ (set now : FreePages) (left rest : List ℕ) (page : ℕ) (in_order : IsInOrder set) (takes : TakesFirst set now left)
+    (is : left ≡ rest ++ page ∷ []) where
   split : set.free ≡ rest ++ (page ∷ now.free)
   split = takes.split ∙ ap (λ xs. xs ++ now.free) is ∙ append_assoc rest (page ∷ []) now.free
 
@@ -169,7 +209,8 @@ module _ (set now : FreePages) (left rest : List ℕ) (page : ℕ) (in_order : I
 
   pub last-below : page < now.pages
   last-below = subst (λ (n : ℕ). page < n) (sym takes.same)
-      (All-contains (λ (p : ℕ). p < set.pages) set.free page in_order.below (subst (λ xs. Contains xs page) (sym split) (Contains-append_right rest (page ∷ now.free) page (Contains-here page now.free))))
+      (All-contains (λ (p : ℕ). p < set.pages) set.free page in_order.below
+      (subst (λ xs. Contains xs page) (sym split) (Contains-append_right rest (page ∷ now.free) page (Contains-here page now.free))))
 
   pub last-taken : Contains now.free page → ⊥
   last-taken there = let lt = below_rest page now.free page last_rising there in omega (arith, lt)
@@ -185,15 +226,18 @@ pub untaken-all : (set now : FreePages) (left : List ℕ) → TakesFirst set now
 untaken-all set now left takes none = (λ i. record { pages = takes.same i; free = sym (takes.split ∙ ap (λ xs. xs ++ now.free) none) i })
 
 -- a page that is given back, where it was the only one of these
-pub returned-spare : (old new : FreePages) (spare : List ℕ) (page : ℕ) → length spare ≤ 1 → slice_get spare 0 ≡ Some page → GivesBack page old new → ReturnsSpare old new spare
+pub returned-spare : (old new : FreePages) (spare : List ℕ) (page : ℕ) → length spare ≤ 1 → slice_get spare 0 ≡ Some page → GivesBack page old new
+    → ReturnsSpare old new spare
 returned-spare old new [] page few is gives = absurd (cc)
 returned-spare old new (x ∷ y ∷ more) page few is gives = absurd (omega (arith, few))
 returned-spare old new (x ∷ []) page few is gives = record {
   same = gives.pages;
   free = λ p. (
-    (λ there. ⊎_elim (λ (e : p ≡ page). inr (subst (Contains (x ∷ [])) (same ∙ sym e) (Contains-here x []))) (λ (ne : p ≢ page). inl ((gives.others p ne).0 there)) (cases_eq p page)),
+    (λ there. ⊎_elim (λ (e : p ≡ page). inr (subst (Contains (x ∷ [])) (same ∙ sym e) (Contains-here x [])))
+        (λ (ne : p ≢ page). inl ((gives.others p ne).0 there)) (cases_eq p page)),
     (λ either. ⊎_elim
-        (λ (was : Contains old.free p). ⊎_elim (λ (e : p ≡ page). subst (Contains new.free) (sym e) gives.there) (λ (ne : p ≢ page). (gives.others p ne).1 was) (cases_eq p page))
+        (λ (was : Contains old.free p). ⊎_elim (λ (e : p ≡ page). subst (Contains new.free) (sym e) gives.there)
+        (λ (ne : p ≢ page). (gives.others p ne).1 was) (cases_eq p page))
         (λ (f : Contains (x ∷ []) p). subst (Contains new.free) (sym same ∙ only_one x p f) gives.there)
         either),
   );
@@ -203,7 +247,11 @@ returned-spare old new (x ∷ []) page few is gives = record {
     same = cc
 
 pub returned-none : (set : FreePages) (spare : List ℕ) → slice_get spare 0 ≡ None → ReturnsSpare set set spare
-returned-none set [] is = record { same = refl; free = λ p. ((λ there. inl there), (λ either. ⊎_elim (λ (was : Contains set.free p). was) (λ (c : Contains [] p). absurd (none_in p c)) either)) }
+returned-none set [] is = record {
+  same = refl;
+  free = λ p.
+      ((λ there. inl there), (λ either. ⊎_elim (λ (was : Contains set.free p). was) (λ (c : Contains [] p). absurd (none_in p c)) either));
+}
 returned-none set (x ∷ xs) is = absurd (cc)
 
 pub first-in : (xs : List ℕ) (x : ℕ) → slice_get xs 0 ≡ Some x → Contains xs x

@@ -113,7 +113,8 @@ pub fn plan_write(
     requires fits { at + count ≤ 16777216 }
     requires small { size ≤ 16777216 }
     requires in_order { IsInOrder free.old }
-    requires enough { touched at count + (if nat_lt room (touched at count) then 1 else 0) ≤ length free.old.free }
+    requires enough { touched at count + (if nat_lt room (touched at count) then 1 else 0) ≤ length
+        free.old.free }
     ensures plan { IfOk result (IsPlan size at count room free.old free.new) }
     ensures no_memory { IsErr result → free.new ≡ free.old }
 {

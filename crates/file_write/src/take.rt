@@ -15,7 +15,8 @@ const PAGE_SLOTS: u64 = 63;
 
 /// How many slots are left in the page of a log's tail; none where the tail is 0.
 pub fn room_of(tail: u64) -> u64
-    ensures room { (g : Geometry) (log : Log) → IsPaged g log → tail ≡ tail_at log.pages (count log) → result ≡ room log }
+    ensures room { (g : Geometry) (log : Log) → IsPaged g log → tail ≡ tail_at log.pages (count log)
+        → result ≡ room log }
     ensures few { result ≤ 63 }
 {
     if tail == 0 {
@@ -62,7 +63,8 @@ pub fn take_pages(alloc: Global, free: &mut FreeSet, count: u64) -> Result<Vec<u
 /// Puts pages back that were just taken, so that all is as it was.
 pub fn untake_pages(free: &mut FreeSet, pages: Vec<u64>)
     requires { (set : FreePages) × IsInOrder set × TakesFirst set free.old pages.items }
-    ensures { (set : FreePages) → IsInOrder set → TakesFirst set free.old pages.items → free.new ≡ set }
+    ensures { (set : FreePages) → IsInOrder set → TakesFirst set free.old pages.items
+        → free.new ≡ set }
 {
     let mut left = pages;
     'pages: while let Some(page) = left.pop() {

@@ -25,7 +25,8 @@ pub record IsFreeTo (in_logs mapped : List ℕ) (first pages end : ℕ) (set : F
   pub from : (q : ℕ) → q < end → IsSpare in_logs mapped first q → Contains set.free q
 
 module _ (in_logs mapped : List ℕ) (first pages : ℕ) where
-  pub free_begins : (end : ℕ) → end ≡ first → (set : FreePages) → set ≡ record { pages = pages; free = [] } → IsInOrder set → IsFreeTo in_logs mapped first pages end set
+  pub free_begins : (end : ℕ) → end ≡ first → (set : FreePages) → set ≡ record { pages = pages; free = [] } → IsInOrder set
+      → IsFreeTo in_logs mapped first pages end set
   free_begins end is set none order = record {
     pages_are = ap (λ (s : FreePages). s.pages) none;
     in_order = order;
@@ -37,7 +38,8 @@ module _ (in_logs mapped : List ℕ) (first pages : ℕ) where
     pub not_there : Contains old.free end → ⊥
     not_there has = omega (arith, (so.to end has).0)
 
-    module _ (test : Bool) (is : IsTrue test ↔ ((slice_index in_logs end ≡ 0) × (slice_index mapped end ≡ 0))) (given : IsTrue test → GivesBack end old new) (kept : IsFalse test → new ≡ old) (order : IsInOrder new) where
+    module _ (test : Bool) (is : IsTrue test ↔ ((slice_index in_logs end ≡ 0) × (slice_index mapped end ≡ 0))) (given : IsTrue test
+        → GivesBack end old new) (kept : IsFalse test → new ≡ old) (order : IsInOrder new) where
       with_it : IsTrue test → IsFreeTo in_logs mapped first pages (end + 1) new
       with_it t =
           let gives = given t in
@@ -67,12 +69,14 @@ module _ (in_logs mapped : List ℕ) (first pages : ℕ) where
       }
 
   -- by the test
-  pub free_more : (end : ℕ) → first ≤ end → (old new : FreePages) → IsFreeTo in_logs mapped first pages end old → (test : Bool) → (IsTrue test ↔ ((slice_index in_logs end ≡ 0) × (slice_index mapped end ≡ 0)))
+  pub free_more : (end : ℕ) → first ≤ end → (old new : FreePages) → IsFreeTo in_logs mapped first pages end old → (test : Bool)
+      → (IsTrue test ↔ ((slice_index in_logs end ≡ 0) × (slice_index mapped end ≡ 0)))
       → (IsTrue test → GivesBack end old new) → (IsFalse test → new ≡ old) → IsInOrder new → IsFreeTo in_logs mapped first pages (end + 1) new
   free_more end low old new so true is given kept order = with_it end low old new so true is given kept order refl
   free_more end low old new so false is given kept order = without_it end low old new so false is given kept order (λ t. cc) (kept refl)
 
-pub free_ends : (g : Geometry) (in_logs mapped : List ℕ) (end : ℕ) (set : FreePages) → IsFreeTo in_logs mapped (first_data g) g.pages end set → end ≡ g.pages
+pub free_ends : (g : Geometry) (in_logs mapped : List ℕ) (end : ℕ) (set : FreePages) → IsFreeTo in_logs mapped (first_data g) g.pages end set
+    → end ≡ g.pages
     → (d : Disk) → d.geometry ≡ g → IsCounted d in_logs mapped → AreFreePages d set
 free_ends g in_logs mapped end set so all d same counted = record {
   pages = so.pages_are ∙ pages_same;

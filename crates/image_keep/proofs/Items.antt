@@ -21,7 +21,16 @@ record IsBy (ps : List Placed) (idx : ℕ) (m : Mapping) : Type 0 where
   bit_is : m.bit ≡ idx - first
 
 later : (p : Placed) (ps : List Placed) (idx : ℕ) (m : Mapping) → IsBy ps idx m → IsBy (p ∷ ps) idx m
-later p ps idx m is = record { first = is.first; count = is.count; block = is.block; size = is.size; listed = (suc is.listed.0, omega (arith, is.listed.1), is.listed.2); low = is.low; high = is.high; bit_is = is.bit_is }
+later p ps idx m is = record {
+  first = is.first;
+  count = is.count;
+  block = is.block;
+  size = is.size;
+  listed = (suc is.listed.0, omega (arith, is.listed.1), is.listed.2);
+  low = is.low;
+  high = is.high;
+  bit_is = is.bit_is;
+}
 
 cut_keeps : (b : Bool) (m : Option Mapping) (x : Mapping) → (if b then m else None) ≡ Some x → m ≡ Some x
 cut_keeps true m x e = e
@@ -34,7 +43,8 @@ module _ (idx first n block size mask slot : ℕ) (flag : Flag) (ps : List Place
   abbrev item : Placed
   item = record { slot = slot; item = Write first n block size flag mask }
 
-  by_range : (b : Bool) → (nat_le first idx && nat_lt idx (first + n)) ≡ b → (if b then Some here else m) ≡ Some x → IsBy (item ∷ ps) idx x ⊎ (m ≡ Some x)
+  by_range : (b : Bool) → (nat_le first idx && nat_lt idx (first + n)) ≡ b → (if b then Some here else m) ≡ Some x
+      → IsBy (item ∷ ps) idx x ⊎ (m ≡ Some x)
   by_range true t e =
       let same : here ≡ x = cc in
       inl (record {
@@ -53,7 +63,8 @@ module _ (idx first n block size mask slot : ℕ) (flag : Flag) (ps : List Place
   set_or_kept e = by_range (nat_le first idx && nat_lt idx (first + n)) refl (cut_keeps (nat_lt idx (pages_of size)) _ x e)
 
 -- a mapped place was mapped by an item, or before them all
-by_items : (idx : ℕ) (pages : List ℕ) (k : ℕ) (m : Option Mapping) (items : List LogItem) (x : Mapping) → mapped_after idx m (placed_from pages k items) ≡ Some x → IsBy (placed_from pages k items) idx x ⊎ (m ≡ Some x)
+by_items : (idx : ℕ) (pages : List ℕ) (k : ℕ) (m : Option Mapping) (items : List LogItem) (x : Mapping)
+    → mapped_after idx m (placed_from pages k items) ≡ Some x → IsBy (placed_from pages k items) idx x ⊎ (m ≡ Some x)
 by_items idx pages k m [] x e = inr e
 by_items idx pages k m (Write first n block size flag mask ∷ items) x e =
     let rest : List Placed = placed_from pages (k + length (spelling (Write first n block size flag mask))) items in
@@ -77,5 +88,14 @@ by_items idx pages k m (Forget name ∷ items) x e =
 pub mapped_by_item : (log : Log) (idx : ℕ) (m : Mapping) → mapping log idx ≡ Some m → IsMappedBy log idx m
 unfolding mapping
 mapped_by_item log idx m e = ⊎_elim
-    (λ (is : IsBy (placed log) idx m). record { first = is.first; count = is.count; block = is.block; size = is.size; listed = is.listed; low = is.low; high = is.high; bit_is = is.bit_is })
+    (λ (is : IsBy (placed log) idx m). record {
+      first = is.first;
+      count = is.count;
+      block = is.block;
+      size = is.size;
+      listed = is.listed;
+      low = is.low;
+      high = is.high;
+      bit_is = is.bit_is;
+    })
     (λ (none : None ≡ Some m). cc) (by_items idx log.pages 0 None log.items m e)

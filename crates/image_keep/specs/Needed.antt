@@ -29,7 +29,8 @@ pub record IsMappedBy (log : Log) (idx : ℕ) (m : DiskMapping) : Type 0 where
   pub count : ℕ
   pub block : ℕ
   pub size : ℕ
-  pub listed : Contains (placed log) (record { slot = m.slot; item = Write first count block size m.flag m.mask })
+  pub listed : Contains (placed log)
+      (record { slot = m.slot; item = Write first count block size m.flag m.mask })
   pub low : first ≤ idx
   pub high : idx < first + count
   pub bit_is : m.bit ≡ idx - first
@@ -38,4 +39,5 @@ pub record IsMappedBy (log : Log) (idx : ℕ) (m : DiskMapping) : Type 0 where
 abbrev pub KeepsPlaces : InodeUse → FinMap nat_cmp Mapping → FinMap nat_cmp Mapping → Type 0
 KeepsPlaces used.Free old new = new ≡ old
 KeepsPlaces used.Live old new = new ≡ old
-KeepsPlaces (used.Dying cut) old new = ((k : ℕ) → cut ≤ k → get new k ≡ None) × ((k : ℕ) → k < cut → get new k ≡ get old k)
+KeepsPlaces (used.Dying cut) old new = ((k : ℕ) → cut ≤ k → get new k ≡ None) × ((k : ℕ) → k < cut
+    → get new k ≡ get old k)

@@ -42,7 +42,8 @@ pub fn free_pages(
     requires accepted { IsAccepted g.now }
     requires logs { length in_logs.now ≡ g.now.pages }
     requires mapped { length mapped.now ≡ g.now.pages }
-    ensures { IfOk result (λ set. (d : Disk) → d.geometry ≡ g.now → IsCounted d in_logs.now mapped.now → AreFreePages d set) }
+    ensures { IfOk result (λ set. (d : Disk) → d.geometry ≡ g.now
+        → IsCounted d in_logs.now mapped.now → AreFreePages d set) }
 {
     let mut set = FreeSet::none(alloc, g.pages)?;
     for page in g.first_data()..g.pages {

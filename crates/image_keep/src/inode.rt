@@ -27,7 +27,8 @@ fn kept_places(used: InodeUse, map: PageMap) -> PageMap
 /// What is kept of a used inode, of the places of its log: those below the cut, if it is dying.
 pub fn used_inode(used: InodeUse, index: FileIndex) -> InodeState
     requires small { index.size ≤ 16777216 }
-    ensures inode { (d : Disk) (ino : ℕ) → (d.inode ino).use_of ≡ as_use used → IsUsed (as_use used) → IsIndexOf (d.inode ino).log index → IsInodeOf d ino result }
+    ensures inode { (d : Disk) (ino : ℕ) → (d.inode ino).use_of ≡ as_use used → IsUsed (as_use used)
+        → IsIndexOf (d.inode ino).log index → IsInodeOf d ino result }
     ensures unheld { result.holder ≡ None }
     ensures round { result.round ≡ 0 }
 {
@@ -43,7 +44,8 @@ pub fn used_inode(used: InodeUse, index: FileIndex) -> InodeState
 
 /// What is kept of an inode that isn't used.
 pub fn unused_inode(alloc: Global) -> InodeState
-    ensures inode { (d : Disk) (ino : ℕ) → (d.inode ino).use_of ≡ as_use result.used → IsInodeOf d ino result }
+    ensures inode { (d : Disk) (ino : ℕ) → (d.inode ino).use_of ≡ as_use result.used
+        → IsInodeOf d ino result }
     ensures unheld { result.holder ≡ None }
     ensures round { result.round ≡ 0 }
 {

@@ -7,13 +7,11 @@ ghost use Rattle.dn_model.specs.Faults.{IsLeast};
 ghost use Rattle.image_uses.specs.Links.{name_hit, ino_at, AreLinks, IsLinkedBy, IsNamed};
 
 use file_index::NameMap;
-use inode_table::{STATE, read_field};
+use inode_table::read_field;
 use log_entry::Name;
 use pm_device::Pm;
-use pm_layout::Geometry;
+use pm_layout::{Geometry, LIVE, STATE};
 use std::alloc::{AllocError, Global};
-
-const LIVE: u64 = 1;
 
 // Counts one more name of an inode, if there is such an inode.
 fn count_name(links: &mut [u64], ino: u64)

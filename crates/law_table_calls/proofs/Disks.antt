@@ -15,7 +15,18 @@ use Rattle.fact_table.specs.Table.{Table, IsTable}
 use Rattle.fact_calls.specs.declared.call.TableCall.{TableCall}
 use Rattle.fact_calls.specs.Follows.{MayMake, Follows, After, Allows}
 use Rattle.law_table.specs.Words.{IsTableWord}
-use Rattle.fact_calls.specs.Made.{IsSameBut, MayCall, HasCalled, HoldsRows, LeavesCall, MakesCall, MayCallAll, HasCalledSome, HasRowsAfter, LeavesAfter}
+use Rattle.fact_calls.specs.Made.{
+  IsSameBut,
+  MayCall,
+  HasCalled,
+  HoldsRows,
+  LeavesCall,
+  MakesCall,
+  MayCallAll,
+  HasCalledSome,
+  HasRowsAfter,
+  LeavesAfter,
+}
 use Rattle.fact_calls.specs.Made.{LeavesAll, LeavesEach, MakesAll}
 use Rattle.fact_calls.proofs.Moments.{moments_weaken}
 use Rattle.law_table_calls.specs.Calls.{MayMakeOn, AllowsOn, HasRows, IsOnDisk, HasDiskAfter, LeavesDisksAfter, LeavesDisksSome}

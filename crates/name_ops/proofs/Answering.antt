@@ -37,8 +37,19 @@ module _ (print : Print) (d : Disk) (change : DiskChange) (may : MayChange d cha
 
   pub accounts : AccountsFor print d e
   accounts = record {
-    alone = λ ino idx m place alone. inl (record { mapping = m; place = live_was d change may ino idx m place; alone = alone; page_is = refl; bytes_are = same_bytes m.block });
-    row_pages = λ row has. inl (record { was = row; there = subst (λ (rs : List Row). Contains rs row) (same_rows d change) has; page_is = refl; bytes_are = same_bytes row.page });
+    alone = λ ino idx m place alone. inl (record {
+      mapping = m;
+      place = live_was d change may ino idx m place;
+      alone = alone;
+      page_is = refl;
+      bytes_are = same_bytes m.block;
+    });
+    row_pages = λ row has. inl (record {
+      was = row;
+      there = subst (λ (rs : List Row). Contains rs row) (same_rows d change) has;
+      page_is = refl;
+      bytes_are = same_bytes row.page;
+    });
   }
 
   pub traces : (b b' : Parts) → b'.trace ≡ b.trace → Traces d e b b'
@@ -60,7 +71,8 @@ creations_answer state print v v' d who f name c volume agree to commit lands ad
       moves = record {
         volume = landed d v.parts v'.parts (state v.device) (state v'.device) who f name c volume agree to commit lands;
         images = old_or_new print d (names_changed d change) (state v.device) (state v'.device) (own_kept d change can print)
-            (all_or_none_images d (names_changed d change) (name_changes d change) (names_all_or_none d change can) who (state v.device) (state v'.device) agree volume.fast.long volume.fast.stands
+            (all_or_none_images d (names_changed d change) (name_changes d change) (names_all_or_none d change can) who (state v.device)
+            (state v'.device) agree volume.fast.long volume.fast.stands
             (names_suffice d change can who (state v.device) set) commit.images);
         own = own_kept d change can print;
         accounts = λ own. accounts print d change can;

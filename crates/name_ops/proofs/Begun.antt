@@ -1,5 +1,39 @@
 -- A creation that begins: the volume in memory agrees with the same disk.
-use Rattle.std.proofs.Common.{◌≡◌, ◌≢◌, ◌⊎◌, inl, inr, ⊎_elim, ℕ, zero, suc, ◌+◌, ◌-◌, ◌*◌, ◌<◌, ◌≤◌, Bool, true, false, List, [], ◌∷◌, ◌++◌, length, take, refl, sym, ◌∙◌, ap, subst, arith, Option, Some, None, length-append}
+use Rattle.std.proofs.Common.{
+  ◌≡◌,
+  ◌≢◌,
+  ◌⊎◌,
+  inl,
+  inr,
+  ⊎_elim,
+  ℕ,
+  zero,
+  suc,
+  ◌+◌,
+  ◌-◌,
+  ◌*◌,
+  ◌<◌,
+  ◌≤◌,
+  Bool,
+  true,
+  false,
+  List,
+  [],
+  ◌∷◌,
+  ◌++◌,
+  length,
+  take,
+  refl,
+  sym,
+  ◌∙◌,
+  ap,
+  subst,
+  arith,
+  Option,
+  Some,
+  None,
+  length-append,
+}
 use Rattle.std.specs.Prelude.{◌/◌, Contains, All, get_or, slice_get, slice_index, if◌then◌else◌, nat_lt, vec_len, vec_capacity}
 use Rattle.std.specs.FinMap.{get}
 use Rattle.std.specs.VecDeque.{deque_len, deque_capacity}
@@ -52,10 +86,13 @@ use Rattle.name_ops.proofs.Landed.{contains_or_not}
 use Rattle.name_ops.specs.Beginning.{CanCreate, IsPlanned, TakesHold, Begins, CreationsBegin}
 
 -- a log with k slots more, on one page more where its last hasn't the room
-grown_fits : (pages n k fresh : ℕ) → 1 ≤ k → k ≤ 63 → pages ≡ (n + 62) / 63 → fresh ≡ (if nat_lt (63 * pages - n) k then 1 else 0) → pages + fresh ≡ (n + k + 62) / 63
+grown_fits : (pages n k fresh : ℕ) → 1 ≤ k → k ≤ 63 → pages ≡ (n + 62) / 63 → fresh ≡ (if nat_lt (63 * pages - n) k then 1 else 0)
+    → pages + fresh ≡ (n + k + 62) / 63
 grown_fits pages n k fresh some few fits needs = ⊎_elim
-    (λ (lt : 63 * pages - n < k). let one : fresh ≡ 1 = needs ∙ cond-true (nat_lt (63 * pages - n) k) 1 0 (lt-ltb (63 * pages - n) k lt) in omega (arith, some, few, fits, lt, one))
-    (λ (le : k ≤ 63 * pages - n). let none : fresh ≡ 0 = needs ∙ cond-false (nat_lt (63 * pages - n) k) 1 0 (le-ltb (63 * pages - n) k le) in omega (arith, some, few, fits, le, none))
+    (λ (lt : 63 * pages - n < k). let one : fresh ≡ 1 = needs ∙ cond-true (nat_lt (63 * pages - n) k) 1 0 (lt-ltb (63 * pages - n) k lt) in
+    omega (arith, some, few, fits, lt, one))
+    (λ (le : k ≤ 63 * pages - n). let none : fresh ≡ 0 = needs ∙ cond-false (nat_lt (63 * pages - n) k) 1 0 (le-ltb (63 * pages - n) k le) in
+    omega (arith, some, few, fits, le, none))
     (cases_lt (63 * pages - n) k)
 
 -- the slots of a name's addition
@@ -67,7 +104,8 @@ length-add : (ino : ℕ) (name : List ℕ) → length (spelled (Add ino name ∷
 unfolding spelling
 length-add ino name = length-spelled-cons (Add ino name) [] ∙ (let more = length-more name 5 (more_count name) in omega (arith, more))
 
-module _ (d : Disk) (b b' : Parts) (s t : State) (who : ℕ) (f : Flight) (name : List ℕ) (c : NameChange) (volume : IsVolume d b s) (agree : Agree s.now s.past) (device : IsSame s t)
+module _ (d : Disk) (b b' : Parts) (s t : State) (who : ℕ) (f : Flight) (name : List ℕ) (c : NameChange) (volume : IsVolume d b s)
+    (agree : Agree s.now s.past) (device : IsSame s t)
     (can : CanCreate d name c.node) (planned : IsPlanned d f name c) (begins : Begins who f b b' t) where
   place_other : (q : ℕ) → 1 ≤ q → q ≢ who → q - 1 ≢ who - 1
   place_other q some other same = other (let one = begins.client in omega (arith, some, one, same))
@@ -102,7 +140,8 @@ module _ (d : Disk) (b b' : Parts) (s t : State) (who : ℕ) (f : Flight) (name 
   ]
     where
       nothing : length b'.flights.items ≤ who - 1 → ⊥
-      nothing past = ⊎_elim (λ found. let lt = found.1 in omega (arith, lt, past)) (λ none. gone (slice_get b'.flights.items (who - 1)) none.1 begins.flies.is) (slice_get_cases b'.flights.items (who - 1)).1
+      nothing past = ⊎_elim (λ found. let lt = found.1 in omega (arith, lt, past)) (λ none. gone (slice_get b'.flights.items (who - 1)) none.1
+          begins.flies.is) (slice_get_cases b'.flights.items (who - 1)).1
         where
           gone : (r : Option (Option Flight)) → r ≡ None → opened r ≡ Some f → ⊥
           gone None none some = cc some
@@ -110,7 +149,8 @@ module _ (d : Disk) (b b' : Parts) (s t : State) (who : ℕ) (f : Flight) (name 
 
   taken_is : taken_by f ≡ f.fresh.items
   taken_is =
-      ap (λ (xs : List ℕ). (f.fresh.items ++ xs) ++ blocks_of f.change) planned.no_spare ∙ ap (λ (x : Change). (f.fresh.items ++ []) ++ blocks_of x) planned.change_is
+      ap (λ (xs : List ℕ). (f.fresh.items ++ xs) ++ blocks_of f.change) planned.no_spare ∙ ap (λ (x : Change). (f.fresh.items ++ []) ++ blocks_of x)
+      planned.change_is
       ∙ append-nil (f.fresh.items ++ []) ∙ append-nil f.fresh.items
 
   -- Space.
@@ -164,10 +204,13 @@ module _ (d : Disk) (b b' : Parts) (s t : State) (who : ℕ) (f : Flight) (name 
     left = begins.left;
   }
     where
-      free_now : (page : ℕ) → IsUnused d page → taker' page ≡ 0 → Contains f.fresh.items page ⊎ (Contains f.fresh.items page → ⊥) → Contains b'.free.free page
-      free_now page unused none (inl has) = let client = begins.client in let mine = taker_fresh page has in absurd (omega (arith, client, mine, none))
+      free_now : (page : ℕ) → IsUnused d page → taker' page ≡ 0 → Contains f.fresh.items page ⊎ (Contains f.fresh.items page → ⊥)
+          → Contains b'.free.free page
+      free_now page unused none (inl has) = let client = begins.client in let mine = taker_fresh page has in
+          absurd (omega (arith, client, mine, none))
       free_now page unused none (inr out) =
-          ⊎_elim (λ has. has) (λ fresh. absurd (out fresh)) ((begins.free page).0 ((volume.space.free page).1 (unused, sym (taker_other page out) ∙ none)))
+          ⊎_elim (λ has. has) (λ fresh. absurd (out fresh))
+          ((begins.free page).0 ((volume.space.free page).1 (unused, sym (taker_other page out) ∙ none)))
 
       takes' : (q page : ℕ) → Takes b' q page → taker' page ≡ q
       takes' q page (for_client g flies has) = by (whose q g flies)
@@ -181,7 +224,8 @@ module _ (d : Disk) (b b' : Parts) (s t : State) (who : ℕ) (f : Flight) (name 
 
       taken' : (page : ℕ) → taker' page ≢ 0 → Contains f.fresh.items page ⊎ (Contains f.fresh.items page → ⊥) → Takes b' (taker' page) page
       taken' page some (inl has) = subst (λ (q : ℕ). Takes b' q page) (sym (taker_fresh page has)) (takes_fresh page has)
-      taken' page some (inr out) = subst (λ (q : ℕ). Takes b' q page) (sym (taker_other page out)) (on (taker page) (volume.space.taken page (λ none. some (taker_other page out ∙ none))))
+      taken' page some (inr out) = subst (λ (q : ℕ). Takes b' q page) (sym (taker_other page out))
+          (on (taker page) (volume.space.taken page (λ none. some (taker_other page out ∙ none))))
         where
           on : (q : ℕ) → Takes b q page → Takes b' q page
           on q (for_client g flies has) = for_client g (flies_on q g flies) has
@@ -193,7 +237,10 @@ module _ (d : Disk) (b b' : Parts) (s t : State) (who : ℕ) (f : Flight) (name 
   -- Holders.
   holders : AreHolders d b'
   holders = record {
-    told = λ ino q n' at. let was = begins.each ino n' at in ((λ held. told_holds ino q n' was.0 was.1 was.2 held (contains_or_not ino f.held.items)), (λ holds. holds_told ino q n' was.0 was.1 was.2 holds));
+    told = λ ino q n' at. let was = begins.each ino n' at in (
+      (λ held. told_holds ino q n' was.0 was.1 was.2 held (contains_or_not ino f.held.items)),
+      (λ holds. holds_told ino q n' was.0 was.1 was.2 holds),
+    );
     in_table = λ ino q holds. in_table' ino q holds;
   }
     where
@@ -207,17 +254,22 @@ module _ (d : Disk) (b b' : Parts) (s t : State) (who : ℕ) (f : Flight) (name 
       none_some : (x : Option ℕ) (q : ℕ) → x ≡ None → x ≡ Some q → ⊥
       none_some x q none some = cc
 
-      told_holds : (ino q : ℕ) (n' n : InodeState) → slice_get b.inodes.items ino ≡ Some n → TakesHold who f ino n n' → n'.holder ≡ Some q → Contains f.held.items ino ⊎ (Contains f.held.items ino → ⊥) → Holds b' q ino
-      told_holds ino q n' n at takes held (inl has) = subst (λ (p : ℕ). Holds b' p ino) (one_some n'.holder who q (takes.held has) held) (by_client f begins.flies has)
+      told_holds : (ino q : ℕ) (n' n : InodeState) → slice_get b.inodes.items ino ≡ Some n → TakesHold who f ino n n' → n'.holder ≡ Some q
+          → Contains f.held.items ino ⊎ (Contains f.held.items ino → ⊥) → Holds b' q ino
+      told_holds ino q n' n at takes held (inl has) = subst (λ (p : ℕ). Holds b' p ino) (one_some n'.holder who q (takes.held has) held)
+          (by_client f begins.flies has)
       told_holds ino q n' n at takes held (inr out) = on q ino ((volume.holders.told ino q n at).0 (sym (takes.kept out) ∙ held))
 
       -- what another holds was held, and isn't one of these
-      kept_by : (ino q : ℕ) (n' n : InodeState) → slice_get b.inodes.items ino ≡ Some n → TakesHold who f ino n n' → Holds b q ino → n'.holder ≡ Some q
+      kept_by : (ino q : ℕ) (n' n : InodeState) → slice_get b.inodes.items ino ≡ Some n → TakesHold who f ino n n' → Holds b q ino
+          → n'.holder ≡ Some q
       kept_by ino q n' n at takes holds =
           let told = (volume.holders.told ino q n at).1 holds in takes.kept (λ has. none_some n.holder q (takes.loose has) told) ∙ told
 
-      holds_told : (ino q : ℕ) (n' n : InodeState) → slice_get b.inodes.items ino ≡ Some n → TakesHold who f ino n n' → Holds b' q ino → n'.holder ≡ Some q
-      holds_told ino q n' n at takes (by_daemon sharing is shares same) = kept_by ino q n' n at takes (by_daemon sharing is (sym begins.sharing ∙ shares) same)
+      holds_told : (ino q : ℕ) (n' n : InodeState) → slice_get b.inodes.items ino ≡ Some n → TakesHold who f ino n n' → Holds b' q ino
+          → n'.holder ≡ Some q
+      holds_told ino q n' n at takes (by_daemon sharing is shares same) = kept_by ino q n' n at takes
+          (by_daemon sharing is (sym begins.sharing ∙ shares) same)
       holds_told ino q n' n at takes (by_client g flies has) = by (whose q g flies)
         where
           by : Whose q g → n'.holder ≡ Some q
@@ -253,12 +305,16 @@ module _ (d : Disk) (b b' : Parts) (s t : State) (who : ℕ) (f : Flight) (name 
   raised_same slot =
       let client = begins.client in
       let few = who_few in
-      let moved = total-change (λ k. times slot (raised_by (flight_at b.flights.items k))) (λ k. times slot (raised_by (flight_at b'.flights.items k))) 14 (who - 1) (omega (arith, client, few))
+      let moved = total-change (λ k. times slot (raised_by (flight_at b.flights.items k)))
+      (λ k. times slot (raised_by (flight_at b'.flights.items k))) 14 (who - 1) (omega (arith, client, few))
       (λ k other. ap (λ r. times slot (raised_by r)) (begins.others k other)) in
       let before : times slot (raised_by (flight_at b.flights.items (who - 1))) ≡ 0 = ap (λ r. times slot (raised_by r)) begins.idle in
-      let after : times slot (raised_by (flight_at b'.flights.items (who - 1))) ≡ 0 = ap (λ r. times slot (raised_by r)) begins.flies.is ∙ none_raised slot in
-      let shared : times slot (raised_to_share b'.sharing) ≡ times slot (raised_to_share b.sharing) = ap (λ r. times slot (raised_to_share r)) begins.sharing in
-      let died : times slot (raised_to_die b'.reclaiming.raised) ≡ times slot (raised_to_die b.reclaiming.raised) = ap (λ r. times slot (raised_to_die r.raised)) begins.reclaiming in
+      let after : times slot (raised_by (flight_at b'.flights.items (who - 1))) ≡ 0 = ap (λ r. times slot (raised_by r)) begins.flies.is ∙ none_raised
+      slot in
+      let shared : times slot (raised_to_share b'.sharing) ≡ times slot (raised_to_share b.sharing) = ap (λ r. times slot (raised_to_share r))
+      begins.sharing in
+      let died : times slot (raised_to_die b'.reclaiming.raised) ≡ times slot (raised_to_die b.reclaiming.raised) = ap
+      (λ r. times slot (raised_to_die r.raised)) begins.reclaiming in
       omega (arith, moved, before, after, shared, died)
 
   -- it is owed what it needs
@@ -266,7 +322,8 @@ module _ (d : Disk) (b b' : Parts) (s t : State) (who : ℕ) (f : Flight) (name 
   owed_more kind none =
       let client = begins.client in
       let few = who_few in
-      let moved = total-change (λ k. kind (owed_to (flight_at b.flights.items k))) (λ k. kind (owed_to (flight_at b'.flights.items k))) 14 (who - 1) (omega (arith, client, few))
+      let moved = total-change (λ k. kind (owed_to (flight_at b.flights.items k))) (λ k. kind (owed_to (flight_at b'.flights.items k))) 14 (who - 1)
+      (omega (arith, client, few))
       (λ k other. ap (λ r. kind (owed_to r)) (begins.others k other)) in
       let before : kind (owed_to (flight_at b.flights.items (who - 1))) ≡ 0 = ap (λ r. kind (owed_to r)) begins.idle ∙ none in
       let after : kind (owed_to (flight_at b'.flights.items (who - 1))) ≡ kind (owed_to (Some f)) = ap (λ r. kind (owed_to r)) begins.flies.is in
@@ -281,7 +338,9 @@ module _ (d : Disk) (b b' : Parts) (s t : State) (who : ℕ) (f : Flight) (name 
         };
     there = λ slot some. volume.counts.there slot (omega (arith, some, raised_same slot, added_same slot, dropped_same slot));
     zero_checked = λ row has rfc uc. ap (λ r. r.zero_check) begins.reclaiming ∙ volume.counts.zero_checked row has rfc uc;
-    few = let was = volume.counts.few in let same = ap (λ r. length r.releases.items) begins.reclaiming in let more = owed_more (λ r. r.releases) refl in let none : length f.rows.items ≡ 0 = ap length planned.no_rows in let up : one_if b'.reclaiming.raised ≡ one_if b.reclaiming.raised = ap (λ r. one_if r.raised) begins.reclaiming in omega (arith, was, same, more, none, up);
+    few = let was = volume.counts.few in let same = ap (λ r. length r.releases.items) begins.reclaiming in let more = owed_more (λ r. r.releases)
+        refl in let none : length f.rows.items ≡ 0 = ap length planned.no_rows in let up : one_if b'.reclaiming.raised ≡ one_if b.reclaiming.raised =
+        ap (λ r. one_if r.raised) begins.reclaiming in omega (arith, was, same, more, none, up);
   }
     where
       added_same : (slot : ℕ) → added b' slot ≡ added b slot
@@ -320,17 +379,21 @@ module _ (d : Disk) (b b' : Parts) (s t : State) (who : ℕ) (f : Flight) (name 
 
   stay : ((q : ℕ) (g : Flight) → q ≢ who → Flies b' q g → IsFlight d q g t) × StayInHand who d b'
   stay = others_stay who [] [] d d b b' s t volume (subst (λ (g : Geometry). StandsFast d g t) begins.geometry fast)
-      (record { inode = λ i has. absurd (none_listed i has); page = λ page has. absurd (none_listed page has) }) leaves same_others (λ other. ap (λ r. r.raised) begins.reclaiming)
+      (record { inode = λ i has. absurd (none_listed i has); page = λ page has. absurd (none_listed page has) }) leaves same_others
+      (λ other. ap (λ r. r.raised) begins.reclaiming)
 
   enough_room : length ((d.inode 0).log.pages ++ f.fresh.items) ≡ (count (d.inode 0).log + length f.slots.items + 62) / 63
   enough_room =
-      let fits = (volume.fast.valid.logs 0 (let few = can.in_table in omega (arith, few)) (subst IsUsed (sym volume.fast.valid.root) tt)).paged.fits in
+      let fits = (volume.fast.valid.logs 0 (let few = can.in_table in omega (arith, few)) (subst IsUsed (sym volume.fast.valid.root) tt)).paged.fits
+      in
       let long = length-append (d.inode 0).log.pages f.fresh.items in
       let slots_long : length f.slots.items ≡ name_slots name = sym (ap length planned.slots_are) ∙ length-add c.node name in
       let few = can.legal.few in
-      let needs : length f.fresh.items ≡ (if nat_lt (63 * length (d.inode 0).log.pages - count (d.inode 0).log) (name_slots name) then 1 else 0) = planned.enough in
+      let needs : length f.fresh.items ≡ (if nat_lt (63 * length (d.inode 0).log.pages - count (d.inode 0).log) (name_slots name) then 1 else 0) =
+      planned.enough in
       long
-      ∙ grown_fits (length (d.inode 0).log.pages) (count (d.inode 0).log) (name_slots name) (length f.fresh.items) (omega arith) (omega (arith, few)) fits needs
+      ∙ grown_fits (length (d.inode 0).log.pages) (count (d.inode 0).log) (name_slots name) (length f.fresh.items) (omega arith) (omega (arith, few))
+      fits needs
       ∙ ap (λ (n : ℕ). (count (d.inode 0).log + n + 62) / 63) (sym slots_long)
 
   own_flight : IsFlight d who f t
@@ -340,13 +403,15 @@ module _ (d : Disk) (b b' : Parts) (s t : State) (who : ℕ) (f : Flight) (name 
       in_table = let few = can.in_table in let root = planned.ino_is in omega (arith, few, root);
       live = ap (λ (i : ℕ). (d.inode i).use_of) planned.ino_is ∙ volume.fast.valid.root;
       holds = subst (λ (xs : List ℕ). Contains xs f.ino) (sym planned.held_is) (0, omega arith, sym planned.ino_is);
-      room = subst (λ (i : ℕ). length ((d.inode i).log.pages ++ f.fresh.items) ≡ (count (d.inode i).log + length f.slots.items + 62) / 63) (sym planned.ino_is) enough_room;
+      room = subst (λ (i : ℕ). length ((d.inode i).log.pages ++ f.fresh.items) ≡ (count (d.inode i).log + length f.slots.items + 62) / 63)
+          (sym planned.ino_is) enough_room;
       apart = subst AreApart (sym taken_is) planned.apart;
       takes = ap length taken_is ∙ planned.enough ∙ ap (needed d) (sym planned.op_is);
       undying = λ i cut has dies. no_dying i cut (subst (λ (xs : List ℕ). Contains xs i) planned.held_is has) dies;
     };
     change = creation name c.node f.fresh.items;
-    plans = subst (PlansNames d f (creation name c.node f.fresh.items)) (sym planned.op_is) (record { legal = can.legal; unnamed = can.unnamed; free = can.free; held = planned.held_is; is = refl });
+    plans = subst (PlansNames d f (creation name c.node f.fresh.items)) (sym planned.op_is)
+        (record { legal = can.legal; unnamed = can.unnamed; free = can.free; held = planned.held_is; is = refl });
     node_is = refl;
     turn_is = sym (ap as_turn planned.turn_is);
     file = can.file;
@@ -366,7 +431,8 @@ module _ (d : Disk) (b b' : Parts) (s t : State) (who : ℕ) (f : Flight) (name 
       use_clash u cut dies (inr free) = cc
 
       no_dying : (i cut : ℕ) → Contains (0 ∷ c.node ∷ []) i → (d.inode i).use_of ≡ Dying cut → ⊥
-      no_dying i cut (zero, lt, is) dies = use_clash (d.inode i).use_of cut dies (inl (ap (λ (j : ℕ). (d.inode j).use_of) (sym is) ∙ volume.fast.valid.root))
+      no_dying i cut (zero, lt, is) dies = use_clash (d.inode i).use_of cut dies
+          (inl (ap (λ (j : ℕ). (d.inode j).use_of) (sym is) ∙ volume.fast.valid.root))
       no_dying i cut (suc zero, lt, is) dies = use_clash (d.inode i).use_of cut dies (inr (ap (λ (j : ℕ). (d.inode j).use_of) (sym is) ∙ can.free))
       no_dying i cut (suc (suc k), lt, is) dies = absurd (omega (arith, lt))
 
@@ -400,18 +466,23 @@ module _ (d : Disk) (b b' : Parts) (s t : State) (who : ℕ) (f : Flight) (name 
       let runs' : (owed_to (Some f)).queue ≡ 0 = ap runs_by planned.change_is in
       record {
         owes = record {
-          units = subst (λ x. owed_sum b' (λ r. r.units) + units_to_share x + (FALL_UNITS * one_if b'.reclaiming.raised + ZERO_CHECK_UNITS * one_if b'.reclaiming.zero_check) ≤ b'.owed.units) (sym begins.sharing)
-              (subst (λ x. owed_sum b' (λ r. r.units) + units_to_share b.sharing + (FALL_UNITS * one_if x.raised + ZERO_CHECK_UNITS * one_if x.zero_check) ≤ b'.owed.units) (sym begins.reclaiming) (omega (arith, m_units, o_units, w_units)));
-          trace = subst (λ x. owed_sum b' (λ r. r.trace) + changes_to_share x ≤ b'.owed.trace) (sym begins.sharing) (omega (arith, m_trace, o_trace, w_trace, rows'));
+          units = subst (λ x. owed_sum b' (λ r. r.units) + units_to_share x + (FALL_UNITS * one_if b'.reclaiming.raised + ZERO_CHECK_UNITS * one_if
+              b'.reclaiming.zero_check) ≤ b'.owed.units) (sym begins.sharing)
+              (subst (λ x. owed_sum b' (λ r. r.units) + units_to_share b.sharing + (FALL_UNITS * one_if x.raised + ZERO_CHECK_UNITS * one_if
+              x.zero_check) ≤ b'.owed.units) (sym begins.reclaiming) (omega (arith, m_units, o_units, w_units)));
+          trace = subst (λ x. owed_sum b' (λ r. r.trace) + changes_to_share x ≤ b'.owed.trace) (sym begins.sharing)
+              (omega (arith, m_trace, o_trace, w_trace, rows'));
           history = omega (arith, m_history, o_history, w_history);
           queue = omega (arith, m_queue, o_queue, w_queue, runs');
-          releases = subst (λ x. owed_sum b' (λ r. r.releases) + one_if x.raised ≤ b'.owed.releases) (sym begins.reclaiming) (omega (arith, m_releases, o_releases, w_releases, rows'));
+          releases = subst (λ x. owed_sum b' (λ r. r.releases) + one_if x.raised ≤ b'.owed.releases) (sym begins.reclaiming)
+              (omega (arith, m_releases, o_releases, w_releases, rows'));
         };
         units = begins.units;
         trace = subst (λ x. vec_len x + b'.owed.trace ≤ vec_capacity x) (sym begins.trace) (let there = was.trace in omega (arith, there, o_trace));
         history = begins.history_room;
         queue = subst (λ x. b'.owed.queue ≤ x.room) (sym begins.queue) (let there = was.queue in omega (arith, there, o_queue));
-        releases = subst (λ x. deque_len x.releases + b'.owed.releases ≤ deque_capacity x.releases) (sym begins.reclaiming) (let there = was.releases in omega (arith, there, o_releases));
+        releases = subst (λ x. deque_len x.releases + b'.owed.releases ≤ deque_capacity x.releases) (sym begins.reclaiming)
+            (let there = was.releases in omega (arith, there, o_releases));
         names = begins.names_room;
         places = λ q g x n' flies is at. places_on q g x n' (whose q g flies) is at;
       }
@@ -419,7 +490,8 @@ module _ (d : Disk) (b b' : Parts) (s t : State) (who : ℕ) (f : Flight) (name 
       no_data : (x : DataChange) → Names c ≡ Data x → ⊥
       no_data x is = cc is
 
-      places_on : (q : ℕ) (g : Flight) (x : DataChange) (n' : InodeState) → Whose q g → g.change ≡ Data x → slice_get b'.inodes.items g.ino ≡ Some n' → length x.blocks.items ≤ n'.map.room
+      places_on : (q : ℕ) (g : Flight) (x : DataChange) (n' : InodeState) → Whose q g → g.change ≡ Data x → slice_get b'.inodes.items g.ino ≡ Some n'
+          → length x.blocks.items ≤ n'.map.room
       places_on q g x n' (its_own same is) data_is at = absurd (no_data x (sym planned.change_is ∙ sym (ap (λ (h : Flight). h.change) is) ∙ data_is))
       places_on q g x n' (another other was) data_is at =
           let had = begins.each g.ino n' at in
@@ -430,7 +502,8 @@ module _ (d : Disk) (b b' : Parts) (s t : State) (who : ℕ) (f : Flight) (name 
   inode_there ino n is = ⊎_elim (λ found. (found.0, found.2)) (λ past. absurd (gone past.0)) (slice_get_cases b'.inodes.items ino).1
     where
       gone : length b'.inodes.items ≤ ino → ⊥
-      gone past = ⊎_elim (λ found. let lt = found.1 in let same = begins.inodes in omega (arith, lt, same, past)) (λ none. clash (slice_get b.inodes.items ino) none.1 is) (slice_get_cases b.inodes.items ino).1
+      gone past = ⊎_elim (λ found. let lt = found.1 in let same = begins.inodes in omega (arith, lt, same, past))
+          (λ none. clash (slice_get b.inodes.items ino) none.1 is) (slice_get_cases b.inodes.items ino).1
         where
           clash : (r : Option InodeState) → r ≡ None → r ≡ Some n → ⊥
           clash r none some = cc
@@ -474,7 +547,8 @@ module _ (d : Disk) (b b' : Parts) (s t : State) (who : ℕ) (f : Flight) (name 
     queue = queue;
     sharing = stay.1.sharing (λ same. let few = who_few in omega (arith, few, same));
     reclaiming = record {
-      waiting = subst (λ r. r.waiting + one_if r.raised ≡ one_if r.zero_check + 2 * length r.releases.items + total d.geometry.inodes (dying_units d)) (sym begins.reclaiming) volume.reclaiming.waiting;
+      waiting = subst (λ r. r.waiting + one_if r.raised ≡ one_if r.zero_check + 2 * length r.releases.items + total d.geometry.inodes (dying_units d))
+          (sym begins.reclaiming) volume.reclaiming.waiting;
       zero_check = λ slot is. volume.reclaiming.zero_check slot (ap (λ r. r.zero_check) (sym begins.reclaiming) ∙ is);
       raised = stay.1.raised (λ same. let few = who_few in omega (arith, few, same));
     };

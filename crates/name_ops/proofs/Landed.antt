@@ -1,5 +1,36 @@
 -- What a commit of an operation on names leaves, group by group.
-use Rattle.std.proofs.Common.{◌≡◌, ◌≢◌, ◌⊎◌, inl, inr, ⊎_elim, ℕ, zero, suc, ◌+◌, ◌-◌, ◌*◌, ◌<◌, ◌≤◌, List, [], ◌∷◌, ◌++◌, length, take, refl, sym, ◌∙◌, ap, subst, arith, Option, Some, None, length-append}
+use Rattle.std.proofs.Common.{
+  ◌≡◌,
+  ◌≢◌,
+  ◌⊎◌,
+  inl,
+  inr,
+  ⊎_elim,
+  ℕ,
+  zero,
+  suc,
+  ◌+◌,
+  ◌-◌,
+  ◌*◌,
+  ◌<◌,
+  ◌≤◌,
+  List,
+  [],
+  ◌∷◌,
+  ◌++◌,
+  length,
+  take,
+  refl,
+  sym,
+  ◌∙◌,
+  ap,
+  subst,
+  arith,
+  Option,
+  Some,
+  None,
+  length-append,
+}
 use Rattle.std.specs.Prelude.{◌↔◌, Contains, All, IsNone, slice_get, get_or, if◌then◌else◌, ◌==◌, vec_len, vec_capacity}
 use Rattle.std.proofs.lemmas.Bool.{cases_eq, cases_lt}
 use Rattle.std.proofs.lemmas.Bool.Decides.{nat_tests}
@@ -50,12 +81,14 @@ no_both xs ys page apart (i, il, is) (j, jl, js) =
     let at_j : get_or (xs ++ ys) (length xs + j) 0 ≡ get_or ys j 0 = behind xs ys j in
     let page_i : get_or xs i 0 ≡ page = with_zero xs i page il is in
     let page_j : get_or ys j 0 ≡ page = with_zero ys j page jl js in
-    let same = apart i (length xs + j) (omega (arith, il, length-append xs ys)) (omega (arith, jl, length-append xs ys)) (at_i ∙ page_i ∙ sym page_j ∙ sym at_j) in
+    let same = apart i (length xs + j) (omega (arith, il, length-append xs ys)) (omega (arith, jl, length-append xs ys))
+    (at_i ∙ page_i ∙ sym page_j ∙ sym at_j) in
     omega (arith, same, il)
   where
     behind : (xs ys : List ℕ) (j : ℕ) → get_or (xs ++ ys) (length xs + j) 0 ≡ get_or ys j 0
     behind [] ys j = ap (λ (n : ℕ). get_or ys n 0) (omega arith)
-    behind (x ∷ xs) ys j = let e : length (x ∷ xs) + j ≡ suc (length xs + j) = omega arith in ap (λ (n : ℕ). get_or (x ∷ (xs ++ ys)) n 0) e ∙ behind xs ys j
+    behind (x ∷ xs) ys j = let e : length (x ∷ xs) + j ≡ suc (length xs + j) = omega arith in ap (λ (n : ℕ). get_or (x ∷ (xs ++ ys)) n 0) e ∙ behind
+        xs ys j
 
     with_zero : (xs : List ℕ) (i page : ℕ) → i < length xs → get_or xs i page ≡ page → get_or xs i 0 ≡ page
     with_zero [] i page lt is = omega (arith, lt)
@@ -71,7 +104,8 @@ contains_or_not x (y ∷ xs) = by (cases_eq y x) (contains_or_not x xs)
     by (inr other) (inl has) = inl (later y x xs has)
     by (inr other) (inr none) = inr (λ has. ⊎_elim other none (cons_cases y x xs has))
 
-module _ (d : Disk) (b b' : Parts) (s t : State) (who : ℕ) (f : Flight) (c : NameChange) (change : DiskChange) (volume : IsVolume d b s) (may : MayChange d change)
+module _ (d : Disk) (b b' : Parts) (s t : State) (who : ℕ) (f : Flight) (c : NameChange) (change : DiskChange) (volume : IsVolume d b s)
+    (may : MayChange d change)
     (flies : Flies b who f) (is_names : f.change ≡ Names c) (fresh_is : change.fresh ≡ f.fresh.items) (ln : LandsNames who f b b') where
   abbrev e : Disk
   e = names_changed d change
@@ -105,7 +139,8 @@ module _ (d : Disk) (b b' : Parts) (s t : State) (who : ℕ) (f : Flight) (c : N
   ]
     where
       nothing : length b.flights.items ≤ who - 1 → ⊥
-      nothing past = ⊎_elim (λ found. let lt = found.1 in omega (arith, lt, past)) (λ none. gone (slice_get b.flights.items (who - 1)) none.1 flies.is) (slice_get_cases b.flights.items (who - 1)).1
+      nothing past = ⊎_elim (λ found. let lt = found.1 in omega (arith, lt, past)) (λ none. gone (slice_get b.flights.items (who - 1)) none.1
+          flies.is) (slice_get_cases b.flights.items (who - 1)).1
         where
           gone : (r : Option (Option Flight)) → r ≡ None → opened r ≡ Some f → ⊥
           gone None none some = cc some
@@ -128,10 +163,12 @@ module _ (d : Disk) (b b' : Parts) (s t : State) (who : ℕ) (f : Flight) (c : N
   not_fresh page unused has = fresh_taken d change may page (subst (λ (xs : List ℕ). Contains xs page) (sym fresh_is) has) unused.free
 
   takes_fresh : (page : ℕ) → Contains f.fresh.items page → Takes b who page
-  takes_fresh page has = for_client f flies (Contains-append_left (f.fresh.items ++ f.spare.items) (blocks_of f.change) page (Contains-append_left f.fresh.items f.spare.items page has))
+  takes_fresh page has = for_client f flies (Contains-append_left (f.fresh.items ++ f.spare.items) (blocks_of f.change) page
+      (Contains-append_left f.fresh.items f.spare.items page has))
 
   takes_spare : (page : ℕ) → Contains f.spare.items page → Takes b who page
-  takes_spare page has = for_client f flies (Contains-append_left (f.fresh.items ++ f.spare.items) (blocks_of f.change) page (Contains-append_right f.fresh.items f.spare.items page has))
+  takes_spare page has = for_client f flies (Contains-append_left (f.fresh.items ++ f.spare.items) (blocks_of f.change) page
+      (Contains-append_right f.fresh.items f.spare.items page has))
 
   no_blocks : (page : ℕ) (x : Change) → x ≡ Names c → Contains (blocks_of x) page → ⊥
   no_blocks page (Data y) is has = cc is
@@ -141,11 +178,13 @@ module _ (d : Disk) (b b' : Parts) (s t : State) (who : ℕ) (f : Flight) (c : N
   fresh_or_spare : (page : ℕ) → Takes b who page → Contains f.fresh.items page ⊎ Contains f.spare.items page
   fresh_or_spare page (for_client g other has) =
       ⊎_elim (λ logs. Contains-append_cases f.fresh.items f.spare.items page logs) (λ data_page. absurd (no_blocks page f.change is_names data_page))
-      (Contains-append_cases (f.fresh.items ++ f.spare.items) (blocks_of f.change) page (subst (λ (h : Flight). Contains (taken_by h) page) (sym (one_flight b who f g flies other)) has))
+      (Contains-append_cases (f.fresh.items ++ f.spare.items) (blocks_of f.change) page (subst (λ (h : Flight). Contains (taken_by h) page)
+      (sym (one_flight b who f g flies other)) has))
 
   spare_not_fresh : (page : ℕ) → Contains f.spare.items page → Contains f.fresh.items page → ⊥
   spare_not_fresh page spare fresh =
-      no_both f.fresh.items (f.spare.items ++ blocks_of f.change) page (subst AreApart (assoc f.fresh.items f.spare.items (blocks_of f.change)) flight.grows.apart) fresh
+      no_both f.fresh.items (f.spare.items ++ blocks_of f.change) page (subst AreApart (assoc f.fresh.items f.spare.items (blocks_of f.change))
+      flight.grows.apart) fresh
       (Contains-append_left f.spare.items (blocks_of f.change) page spare)
     where
       assoc : (xs ys zs : List ℕ) → (xs ++ ys) ++ zs ≡ xs ++ (ys ++ zs)
@@ -165,7 +204,9 @@ module _ (d : Disk) (b b' : Parts) (s t : State) (who : ℕ) (f : Flight) (c : N
   free_page : (page : ℕ) → (Contains b'.free.free page) ↔ (IsUnused e page × (taker' page ≡ 0))
   free_page page = (
     λ has. ⊎_elim of_free of_spare ((l.free page).0 has),
-    λ is. (l.free page).1 (⊎_elim (λ his. spare_of is.0 his) (λ other. inl ((volume.space.free page).1 (unused_was page is.0, sym (taker_stays page other) ∙ is.1))) (cases_eq (volume.space.taker page) who)),
+    λ is. (l.free page).1 (⊎_elim (λ his. spare_of is.0 his)
+        (λ other. inl ((volume.space.free page).1 (unused_was page is.0, sym (taker_stays page other) ∙ is.1)))
+        (cases_eq (volume.space.taker page) who)),
   )
     where
       of_free : Contains b.free.free page → IsUnused e page × (taker' page ≡ 0)
@@ -204,7 +245,8 @@ module _ (d : Disk) (b b' : Parts) (s t : State) (who : ℕ) (f : Flight) (c : N
         subst (λ (q : ℕ). Takes b' q page) (sym stays) (on_taken page other (volume.space.taken page (λ none. some (stays ∙ none))));
     unused = λ page some.
         let other = other_taker page some in
-        unused_kept page (λ fresh. other (volume.space.takes who page (takes_fresh page fresh))) (volume.space.unused page (λ none. some (taker_stays page other ∙ none)));
+        unused_kept page (λ fresh. other (volume.space.takes who page (takes_fresh page fresh)))
+        (volume.space.unused page (λ none. some (taker_stays page other ∙ none)));
     left = let was = volume.space.left in let more = l.free_more in omega (arith, was, more);
   }
     where
@@ -218,7 +260,14 @@ module _ (d : Disk) (b b' : Parts) (s t : State) (who : ℕ) (f : Flight) (c : N
 
   -- The table and its counts.
   pub has_row : (slot : ℕ) → HasRow d slot → HasRow e slot
-  has_row slot has = record { row = has.row; is = record { there = subst (λ (rs : List Row). Contains rs has.row) (sym (same_rows d change)) has.is.there; slot_is = has.is.slot_is } }
+  has_row slot has = record {
+    row = has.row;
+    is = record {
+      there = subst (λ (rs : List Row). Contains rs has.row) (sym (same_rows d change))
+          has.is.there;
+      slot_is = has.is.slot_is;
+    };
+  }
 
   pub table : AreSlotsOf e b'.fact
   table = subst (AreSlotsOf e) (sym ln.fact) (record {
@@ -242,7 +291,8 @@ module _ (d : Disk) (b b' : Parts) (s t : State) (who : ℕ) (f : Flight) (c : N
   owed_same kind none =
       let client = flies.client in
       let few = who_few in
-      let moved = total-change (λ k. kind (owed_to (flight_at b.flights.items k))) (λ k. kind (owed_to (flight_at b'.flights.items k))) 14 (who - 1) (omega (arith, client, few))
+      let moved = total-change (λ k. kind (owed_to (flight_at b.flights.items k))) (λ k. kind (owed_to (flight_at b'.flights.items k))) 14 (who - 1)
+      (omega (arith, client, few))
       (λ k other. ap (λ r. kind (owed_to r)) (l.flights k other)) in
       let before : kind (owed_to (flight_at b.flights.items (who - 1))) ≡ kind (owed_to (Some f)) = ap (λ r. kind (owed_to r)) flies.is in
       let after : kind (owed_to (flight_at b'.flights.items (who - 1))) ≡ 0 = ap (λ r. kind (owed_to r)) l.landed ∙ none in
@@ -253,22 +303,28 @@ module _ (d : Disk) (b b' : Parts) (s t : State) (who : ℕ) (f : Flight) (c : N
     raised_same slot =
         let client = flies.client in
         let few = who_few in
-        let moved = total-change (λ k. times slot (raised_by (flight_at b.flights.items k))) (λ k. times slot (raised_by (flight_at b'.flights.items k))) 14 (who - 1) (omega (arith, client, few))
+        let moved = total-change (λ k. times slot (raised_by (flight_at b.flights.items k)))
+        (λ k. times slot (raised_by (flight_at b'.flights.items k))) 14 (who - 1) (omega (arith, client, few))
         (λ k other. ap (λ r. times slot (raised_by r)) (l.flights k other)) in
-        let before : times slot (raised_by (flight_at b.flights.items (who - 1))) ≡ 0 = ap (λ r. times slot (raised_by r)) flies.is ∙ none_raised slot in
+        let before : times slot (raised_by (flight_at b.flights.items (who - 1))) ≡ 0 = ap (λ r. times slot (raised_by r)) flies.is ∙ none_raised slot
+        in
         let after : times slot (raised_by (flight_at b'.flights.items (who - 1))) ≡ 0 = ap (λ r. times slot (raised_by r)) l.landed in
-        let shared : times slot (raised_to_share b'.sharing) ≡ times slot (raised_to_share b.sharing) = ap (λ r. times slot (raised_to_share r)) ln.sharing in
-        let died : times slot (raised_to_die b'.reclaiming.raised) ≡ times slot (raised_to_die b.reclaiming.raised) = ap (λ r. times slot (raised_to_die r)) dying_same in
+        let shared : times slot (raised_to_share b'.sharing) ≡ times slot (raised_to_share b.sharing) = ap (λ r. times slot (raised_to_share r))
+        ln.sharing in
+        let died : times slot (raised_to_die b'.reclaiming.raised) ≡ times slot (raised_to_die b.reclaiming.raised) = ap
+        (λ r. times slot (raised_to_die r)) dying_same in
         omega (arith, moved, before, after, shared, died)
 
     added_same : (slot : ℕ) → added b' slot ≡ added b slot
     added_same slot = ap (λ (x : Option Sharing). times slot (added_to_share x)) ln.sharing
 
-    module _ (zero_same : b'.reclaiming.zero_check ≡ b.reclaiming.zero_check) (releases_same : b'.reclaiming.releases.items ≡ b.reclaiming.releases.items) where
+    module _ (zero_same : b'.reclaiming.zero_check ≡ b.reclaiming.zero_check)
+        (releases_same : b'.reclaiming.releases.items ≡ b.reclaiming.releases.items) where
       dropped_same : (slot : ℕ) → dropped b' slot ≡ dropped b slot
       dropped_same slot = ap (times slot) releases_same
 
-      balanced_on : (row : Row) → IsBalanced d row (raised b row.slot) (added b row.slot) (dropped b row.slot) → IsBalanced e row (raised b' row.slot) (added b' row.slot) (dropped b' row.slot)
+      balanced_on : (row : Row) → IsBalanced d row (raised b row.slot) (added b row.slot) (dropped b row.slot) → IsBalanced e row (raised b' row.slot)
+          (added b' row.slot) (dropped b' row.slot)
       balanced_on row is = record {
         updates = omega (arith, is.updates, raised_same row.slot, added_same row.slot, dropped_same row.slot);
         references = omega (arith, is.references, mappings_same d change may row.page, added_same row.slot, dropped_same row.slot);
@@ -276,18 +332,22 @@ module _ (d : Disk) (b b' : Parts) (s t : State) (who : ℕ) (f : Flight) (c : N
 
       pub counts : AreCounted e b'
       counts = record {
-        balanced = subst (All (λ (row : Row). IsBalanced e row (raised b' row.slot) (added b' row.slot) (dropped b' row.slot))) (sym (same_rows d change))
+        balanced = subst (All (λ (row : Row). IsBalanced e row (raised b' row.slot) (added b' row.slot) (dropped b' row.slot)))
+            (sym (same_rows d change))
             (λ k x lt. balanced_on (get_or (rows d) k x) (volume.counts.balanced k x lt));
         there = λ slot some. has_row slot (volume.counts.there slot (omega (arith, some, raised_same slot, added_same slot, dropped_same slot)));
-        zero_checked = λ row has rfc uc. zero_same ∙ volume.counts.zero_checked row (subst (λ (rs : List Row). Contains rs row) (same_rows d change) has) rfc uc;
-        few = let was = volume.counts.few in let less = owed_same (λ r. r.releases) refl in let same = ap length releases_same in let up : one_if b'.reclaiming.raised ≡ one_if b.reclaiming.raised = ap (λ r. one_if r) dying_same in omega (arith, was, less, same, up);
+        zero_checked = λ row has rfc uc. zero_same ∙ volume.counts.zero_checked row (subst (λ (rs : List Row). Contains rs row) (same_rows d change)
+            has) rfc uc;
+        few = let was = volume.counts.few in let less = owed_same (λ r. r.releases) refl in let same = ap length releases_same in
+            let up : one_if b'.reclaiming.raised ≡ one_if b.reclaiming.raised = ap (λ r. one_if r) dying_same in omega (arith, was, less, same, up);
       }
 
   -- Room.
   enough_units : 25 ≤ (owed_to (Some f)).units
   enough_units = let is : units_by f f.change ≡ units_by f (Names c) = ap (units_by f) is_names in omega (arith, is)
 
-  module _ (units : s.spare ≤ t.spare + 25) (dying_same : b'.reclaiming ≡ b.reclaiming) (inodes : (ino : ℕ) (n' : InodeState) → slice_get b'.inodes.items ino ≡ Some n' → (n : InodeState) × (slice_get b.inodes.items ino ≡ Some n) × (n'.map ≡ n.map)) where
+  module _ (units : s.spare ≤ t.spare + 25) (dying_same : b'.reclaiming ≡ b.reclaiming) (inodes : (ino : ℕ) (n' : InodeState)
+      → slice_get b'.inodes.items ino ≡ Some n' → (n : InodeState) × (slice_get b.inodes.items ino ≡ Some n) × (n'.map ≡ n.map)) where
     pub room : HasRoom b' t
     room =
         let was = volume.room in
@@ -308,23 +368,30 @@ module _ (d : Disk) (b b' : Parts) (s t : State) (who : ℕ) (f : Flight) (c : N
         let w_releases = was.owes.releases in
         record {
           owes = record {
-            units = subst (λ x. owed_sum b' (λ r. r.units) + units_to_share x + (FALL_UNITS * one_if b'.reclaiming.raised + ZERO_CHECK_UNITS * one_if b'.reclaiming.zero_check) ≤ b'.owed.units) (sym ln.sharing)
-                (subst (λ x. owed_sum b' (λ r. r.units) + units_to_share b.sharing + (FALL_UNITS * one_if x.raised + ZERO_CHECK_UNITS * one_if x.zero_check) ≤ b'.owed.units) (sym dying_same) (omega (arith, s_units, o_units, w_units)));
-            trace = subst (λ x. owed_sum b' (λ r. r.trace) + changes_to_share x ≤ b'.owed.trace) (sym ln.sharing) (omega (arith, s_trace, o_trace, w_trace));
+            units = subst (λ x. owed_sum b' (λ r. r.units) + units_to_share x + (FALL_UNITS * one_if b'.reclaiming.raised + ZERO_CHECK_UNITS * one_if
+                b'.reclaiming.zero_check) ≤ b'.owed.units) (sym ln.sharing)
+                (subst (λ x. owed_sum b' (λ r. r.units) + units_to_share b.sharing + (FALL_UNITS * one_if x.raised + ZERO_CHECK_UNITS * one_if
+                x.zero_check) ≤ b'.owed.units) (sym dying_same) (omega (arith, s_units, o_units, w_units)));
+            trace = subst (λ x. owed_sum b' (λ r. r.trace) + changes_to_share x ≤ b'.owed.trace) (sym ln.sharing)
+                (omega (arith, s_trace, o_trace, w_trace));
             history = omega (arith, s_history, o_history, w_history);
             queue = omega (arith, s_queue, o_queue, w_queue);
-            releases = subst (λ x. owed_sum b' (λ r. r.releases) + one_if x.raised ≤ b'.owed.releases) (sym dying_same) (omega (arith, s_releases, o_releases, w_releases));
+            releases = subst (λ x. owed_sum b' (λ r. r.releases) + one_if x.raised ≤ b'.owed.releases) (sym dying_same)
+                (omega (arith, s_releases, o_releases, w_releases));
           };
           units = let enough = enough_units in let there = was.units in omega (arith, enough, there, o_units, units);
           trace = subst (λ x. vec_len x + b'.owed.trace ≤ vec_capacity x) (sym ln.trace) (let there = was.trace in omega (arith, there, o_trace));
-          history = let there = was.history in let longer = l.history_len in let same = l.history_room in omega (arith, there, o_history, longer, same);
+          history = let there = was.history in let longer = l.history_len in let same = l.history_room in
+              omega (arith, there, o_history, longer, same);
           queue = subst (λ x. b'.owed.queue ≤ x.room) (sym ln.queue) (let there = was.queue in omega (arith, there, o_queue));
-          releases = subst (λ x. deque_len x.releases + b'.owed.releases ≤ deque_capacity x.releases) (sym dying_same) (let there = was.releases in omega (arith, there, o_releases));
+          releases = subst (λ x. deque_len x.releases + b'.owed.releases ≤ deque_capacity x.releases) (sym dying_same) (let there = was.releases in
+              omega (arith, there, o_releases));
           names = let there = was.names in let one = ln.names_room in omega (arith, there, o_history, one);
           places = λ q g x n' other is at. places_on q g x n' other is at;
         }
       where
-        places_on : (q : ℕ) (g : Flight) (x : DataChange) (n' : InodeState) → Flies b' q g → g.change ≡ Data x → slice_get b'.inodes.items g.ino ≡ Some n' → length x.blocks.items ≤ n'.map.room
+        places_on : (q : ℕ) (g : Flight) (x : DataChange) (n' : InodeState) → Flies b' q g → g.change ≡ Data x
+            → slice_get b'.inodes.items g.ino ≡ Some n' → length x.blocks.items ≤ n'.map.room
         places_on q g x n' other is at =
             let had = inodes g.ino n' at in
             let there = volume.room.places q g x had.0 (flew q g other) is had.1 in
@@ -335,7 +402,8 @@ module _ (d : Disk) (b b' : Parts) (s t : State) (who : ℕ) (f : Flight) (c : N
   inode_there ino n is = ⊎_elim (λ found. (found.0, found.2)) (λ past. absurd (gone past.0)) (slice_get_cases b'.inodes.items ino).1
     where
       gone : length b'.inodes.items ≤ ino → ⊥
-      gone past = ⊎_elim (λ found. let lt = found.1 in let same = ln.inodes in omega (arith, lt, same, past)) (λ none. clash (slice_get b.inodes.items ino) none.1 is) (slice_get_cases b.inodes.items ino).1
+      gone past = ⊎_elim (λ found. let lt = found.1 in let same = ln.inodes in omega (arith, lt, same, past))
+          (λ none. clash (slice_get b.inodes.items ino) none.1 is) (slice_get_cases b.inodes.items ino).1
         where
           clash : (r : Option InodeState) → r ≡ None → r ≡ Some n → ⊥
           clash r none some = cc
@@ -343,9 +411,13 @@ module _ (d : Disk) (b b' : Parts) (s t : State) (who : ℕ) (f : Flight) (c : N
   some_same : (r : Option InodeState) (n m : InodeState) → r ≡ Some n → r ≡ Some m → n ≡ m
   some_same r n m one other = cc
 
-  module _ (rounds : (ino : ℕ) (n' : InodeState) → slice_get b'.inodes.items ino ≡ Some n' → (n : InodeState) × (slice_get b.inodes.items ino ≡ Some n) × (n'.round ≡ n.round)) where
+  module _ (rounds : (ino : ℕ) (n' : InodeState) → slice_get b'.inodes.items ino ≡ Some n'
+      → (n : InodeState) × (slice_get b.inodes.items ino ≡ Some n) × (n'.round ≡ n.round)) where
     pub queue : IsQueued e b'
-    queue = record { waits = λ ino idx m place unfinished. waits_on ino m.slot (volume.queue.waits ino idx m (live_was d change may ino idx m place) unfinished) }
+    queue = record {
+      waits = λ ino idx m place unfinished. waits_on ino m.slot (volume.queue.waits ino idx m (live_was d change may ino idx m place)
+          unfinished);
+    }
       where
         waits_on : (ino slot : ℕ) → IsWaiting b ino slot → IsWaiting b' ino slot
         waits_on ino slot (in_queue work n has at_ino at_slot at round) =
@@ -356,14 +428,19 @@ module _ (d : Disk) (b b' : Parts) (s t : State) (who : ℕ) (f : Flight) (c : N
         waits_on ino slot (is_begun sharing is at_ino at_slot) = is_begun sharing (ln.sharing ∙ is) at_ino at_slot
 
   -- Holders.
-  module _ (lets : (ino : ℕ) (n' : InodeState) → slice_get b'.inodes.items ino ≡ Some n' → (n : InodeState) × (slice_get b.inodes.items ino ≡ Some n) × LetsGo f ino n n') where
+  module _ (lets : (ino : ℕ) (n' : InodeState) → slice_get b'.inodes.items ino ≡ Some n' → (n : InodeState) × (slice_get b.inodes.items ino ≡ Some n)
+      × LetsGo f ino n n') where
     held_by : (ino : ℕ) → Contains f.held.items ino → Holds b who ino
     held_by ino has = by_client f flies has
 
     pub holders : AreHolders e b'
     holders = record {
-      told = λ ino q n' is. let was = lets ino n' is in ((λ holder. told_holds ino q n' was.0 was.1 was.2 holder), (λ holds. holds_told ino q n' was.0 was.1 was.2 holds));
-      in_table = λ ino q holds. subst (λ (g : Geometry). ino < g.inodes) (sym (same_geometry d change)) (volume.holders.in_table ino q (held_was q ino holds).0);
+      told = λ ino q n' is. let was = lets ino n' is in (
+        (λ holder. told_holds ino q n' was.0 was.1 was.2 holder),
+        (λ holds. holds_told ino q n' was.0 was.1 was.2 holds),
+      );
+      in_table = λ ino q holds. subst (λ (g : Geometry). ino < g.inodes) (sym (same_geometry d change))
+          (volume.holders.in_table ino q (held_was q ino holds).0);
     }
       where
         -- what another holds it held, and it isn't this actor
@@ -392,7 +469,9 @@ module _ (d : Disk) (b b' : Parts) (s t : State) (who : ℕ) (f : Flight) (c : N
 
             on : (Contains f.held.items ino → ⊥) → Holds b q ino → Holds b' q ino
             on out (by_client g other has) =
-                by_client g (flies_on q g (λ same. out (subst (λ (h : Flight). Contains h.held.items ino) (sym (one_flight b who f g flies (subst (λ (p : ℕ). Flies b p g) same other))) has)) other) has
+                by_client g (flies_on q g
+                (λ same. out (subst (λ (h : Flight). Contains h.held.items ino)
+                (sym (one_flight b who f g flies (subst (λ (p : ℕ). Flies b p g) same other))) has)) other) has
             on out (by_daemon sharing is shares same) = by_daemon sharing is (ln.sharing ∙ shares) same
 
             still : Contains f.held.items ino ⊎ (Contains f.held.items ino → ⊥) → Holds b' q ino

@@ -27,16 +27,23 @@ use Rattle.dn_volume.specs.Agrees.{IsVolume}
 
 apart_left : (xs ys : List ℕ) → AreApart (xs ++ ys) → AreApart xs
 apart_left xs ys apart i j il jl same =
-    apart i j (omega (arith, il, length-append xs ys)) (omega (arith, jl, length-append xs ys)) (get_or_append_left xs ys 0 i il ∙ same ∙ sym (get_or_append_left xs ys 0 j jl))
+    apart i j (omega (arith, il, length-append xs ys)) (omega (arith, jl, length-append xs ys)) (get_or_append_left xs ys 0 i il ∙ same ∙ sym
+    (get_or_append_left xs ys 0 j jl))
 
 -- the first two of a rising list
 two_of : (xs : List ℕ) → 2 ≤ length xs → IsStrictlyIncreasing xs → (p : ℕ) × (q : ℕ) × (p ≢ q) × Contains xs p × Contains xs q
 two_of [] long rising = absurd (omega (arith, long))
 two_of (x ∷ []) long rising = absurd (omega (arith, long))
-two_of (x ∷ y ∷ xs) long rising =
-    (x, y, (λ same. let lt = below_rest x (y ∷ xs) y rising (0, omega arith, refl) in omega (arith, lt, same)), (0, omega arith, refl), (1, omega arith, refl))
+two_of (x ∷ y ∷ xs) long rising = (
+  x,
+  y,
+  (λ same. let lt = below_rest x (y ∷ xs) y rising (0, omega arith, refl) in omega (arith, lt, same)),
+  (0, omega arith, refl),
+  (1, omega arith, refl),
+)
 
-module _ (d : Disk) (b : Parts) (s : State) (who : ℕ) (f : Flight) (name : List ℕ) (c : NameChange) (volume : IsVolume d b s) (flies : Flies b who f) (op_is : f.op ≡ Create name) (change_is : f.change ≡ Names c) where
+module _ (d : Disk) (b : Parts) (s : State) (who : ℕ) (f : Flight) (name : List ℕ) (c : NameChange) (volume : IsVolume d b s) (flies : Flies b who f)
+    (op_is : f.op ≡ Create name) (change_is : f.change ≡ Names c) where
   pub flight : IsNameFlight d who f c s
   flight = subst (IsFlightOf d who f s) change_is (volume.flights.each who f flies)
 
@@ -50,15 +57,18 @@ module _ (d : Disk) (b : Parts) (s : State) (who : ℕ) (f : Flight) (name : Lis
   same_change = plan.is ∙ ap (λ (i : ℕ). creation name i f.fresh.items) flight.node_is
 
   pub fresh_taken_by : (page : ℕ) → Contains f.fresh.items page → Takes b who page
-  fresh_taken_by page has = for_client f flies (Contains-append_left (f.fresh.items ++ f.spare.items) (blocks_of f.change) page (Contains-append_left f.fresh.items f.spare.items page has))
+  fresh_taken_by page has = for_client f flies (Contains-append_left (f.fresh.items ++ f.spare.items) (blocks_of f.change) page
+      (Contains-append_left f.fresh.items f.spare.items page has))
 
   unused_fresh : (page : ℕ) → Contains f.fresh.items page → IsUnused d page
-  unused_fresh page has = let client = flies.client in volume.space.unused page (λ none. let his = volume.space.takes who page (fresh_taken_by page has) in omega (arith, client, his, none))
+  unused_fresh page has = let client = flies.client in volume.space.unused page (λ none. let his = volume.space.takes who page
+      (fresh_taken_by page has) in omega (arith, client, his, none))
 
   spared : (page : ℕ) → Contains b.free.free page → IsSpared d f.fresh.items page
   spared page has = record {
     free = ((volume.space.free page).0 has).0.free;
-    not_fresh = λ fresh. let none = ((volume.space.free page).0 has).1 in let client = flies.client in let his = volume.space.takes who page (fresh_taken_by page fresh) in omega (arith, none, client, his);
+    not_fresh = λ fresh. let none = ((volume.space.free page).0 has).1 in let client = flies.client in let his = volume.space.takes who page
+        (fresh_taken_by page fresh) in omega (arith, none, client, his);
   }
 
   pub may : MayCreate d name c.node f.fresh.items
@@ -67,10 +77,13 @@ module _ (d : Disk) (b : Parts) (s : State) (who : ℕ) (f : Flight) (name : Lis
       valid = volume.fast.valid;
       fresh_unused = unused_fresh;
       fresh_apart = apart_left f.fresh.items f.spare.items (apart_left (f.fresh.items ++ f.spare.items) (blocks_of f.change) flight.grows.apart);
-      room = subst (λ (i : ℕ). length ((d.inode i).log.pages ++ f.fresh.items) ≡ (count (d.inode i).log + length (spelled (Add c.node name ∷ [])) + 62) / 63) flight.root
-          (subst (λ (x : DiskChange). length ((d.inode f.ino).log.pages ++ f.fresh.items) ≡ (count (d.inode f.ino).log + length (spelled x.more) + 62) / 63) same_change
+      room = subst (λ (i : ℕ). length ((d.inode i).log.pages ++ f.fresh.items) ≡ (count (d.inode i).log + length (spelled (Add c.node name ∷ [])) +
+          62) / 63) flight.root
+          (subst (λ (x : DiskChange). length ((d.inode f.ino).log.pages ++ f.fresh.items) ≡ (count (d.inode f.ino).log + length (spelled x.more) + 62)
+          / 63) same_change
           (flight.grows.room ∙ ap (λ (xs : List (List ℕ)). (count (d.inode f.ino).log + length xs + 62) / 63) (sym flight.slots)));
-      left = let two = two_of b.free.free volume.space.left volume.space.in_order.rising in (two.0, two.1, two.2, spared two.0 two.3, spared two.1 two.4);
+      left = let two = two_of b.free.free volume.space.left volume.space.in_order.rising in
+          (two.0, two.1, two.2, spared two.0 two.3, spared two.1 two.4);
     };
     legal = plan.legal;
     unnamed = plan.unnamed;

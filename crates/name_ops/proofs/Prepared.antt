@@ -1,5 +1,30 @@
 -- The first advance of a creation stores and flushes what has to stand before its commit, and goes on.
-use Rattle.std.proofs.Common.{◌≡◌, ◌≢◌, ◌⊎◌, inl, ⊎_elim, ℕ, ◌+◌, ◌-◌, ◌*◌, ◌<◌, ◌≤◌, Bool, List, [], ◌∷◌, ◌++◌, length, refl, sym, ◌∙◌, ap, subst, arith, Some}
+use Rattle.std.proofs.Common.{
+  ◌≡◌,
+  ◌≢◌,
+  ◌⊎◌,
+  inl,
+  ⊎_elim,
+  ℕ,
+  ◌+◌,
+  ◌-◌,
+  ◌*◌,
+  ◌<◌,
+  ◌≤◌,
+  Bool,
+  List,
+  [],
+  ◌∷◌,
+  ◌++◌,
+  length,
+  refl,
+  sym,
+  ◌∙◌,
+  ap,
+  subst,
+  arith,
+  Some,
+}
 use Rattle.std.specs.Prelude.{◌/◌, Contains, All, slice_get, slice_index, vec_len, vec_capacity}
 use Rattle.std.specs.VecDeque.{deque_len, deque_capacity}
 use Rattle.std.proofs.lemmas.List.{append-nil}
@@ -58,7 +83,8 @@ use Rattle.dn_volume.proofs.Replaced.{few, flies_new, Whose, whose, its_own, ano
 use Rattle.name_ops.specs.Preparing.{StoresCreation, with_change, prepared_change, Prepares, IsToPrepareCreate, CreationsPrepare}
 use Rattle.name_ops.proofs.Planned.{flight, plan, same_change, fresh_taken_by, changes, held_is}
 
-module _ (d : Disk) (b b' : Parts) (s u t : State) (who : ℕ) (f : Flight) (name : List ℕ) (c : NameChange) (tail : ℕ) (volume : IsVolume d b s) (agree_u : Agree u.now u.past) (agree_t : Agree t.now t.past)
+module _ (d : Disk) (b b' : Parts) (s u t : State) (who : ℕ) (f : Flight) (name : List ℕ) (c : NameChange) (tail : ℕ) (volume : IsVolume d b s)
+    (agree_u : Agree u.now u.past) (agree_t : Agree t.now t.past)
     (to : IsToPrepareCreate b who f name c)
     (stores : StoresCreation d who (creation name c.node f.fresh.items) (SLOT_UNITS * slots_of f + TURN_UNITS) s u t)
     (tail_is : tail ≡ tail_at (root_after d (creation name c.node f.fresh.items)).pages (count (root_after d (creation name c.node f.fresh.items))))
@@ -115,7 +141,8 @@ module _ (d : Disk) (b b' : Parts) (s u t : State) (who : ℕ) (f : Flight) (nam
   not_turned : (a v : ℕ) → Prepared 0 (d.inode 0).log new a v → Turn' a → ⊥
   not_turned a v told here = ⊎_elim
       (λ head. let file = fl.file in omega (arith, head, file, here.0))
-      (λ high. high_not_inode d.geometry a c.node (a - inode_word c.node 0) high fl.node_in_table (omega (arith, here.0, here.1)) (omega (arith, here.0)))
+      (λ high. high_not_inode d.geometry a c.node (a - inode_word c.node 0) high fl.node_in_table (omega (arith, here.0, here.1))
+      (omega (arith, here.0)))
       (prepared_place d.geometry 0 (d.inode 0).log new a v (root_paged d change can) told)
 
   root_ready : IsReady who (Prepared 0 (d.inode 0).log new) t
@@ -149,7 +176,13 @@ module _ (d : Disk) (b b' : Parts) (s u t : State) (who : ℕ) (f : Flight) (nam
     root = fl.root;
     grows = grows;
     change = fl.change;
-    plans = subst (PlansNames d f' fl.change) (sym to.op_is) (record { legal = pl.legal; unnamed = pl.unnamed; free = pl.free; held = pl.held; is = pl.is });
+    plans = subst (PlansNames d f' fl.change) (sym to.op_is) (record {
+      legal = pl.legal;
+      unnamed = pl.unnamed;
+      free = pl.free;
+      held = pl.held;
+      is = pl.is;
+    });
     node_is = fl.node_is;
     turn_is = fl.turn_is;
     file = fl.file;
@@ -165,19 +198,23 @@ module _ (d : Disk) (b b' : Parts) (s u t : State) (who : ℕ) (f : Flight) (nam
   abbrev inodes : List ℕ
   inodes = 0 ∷ c.node ∷ []
 
-  in_pages : (k : ℕ) → k < length new.pages → Contains ((d.inode 0).log.pages) (slice_index new.pages k) ⊎ Contains f.fresh.items (slice_index new.pages k)
-  in_pages k lt = Contains-append_cases (d.inode 0).log.pages f.fresh.items (slice_index new.pages k) (k, lt, get_or_default_zero new.pages k (slice_index new.pages k) lt)
+  in_pages : (k : ℕ) → k < length new.pages → Contains ((d.inode 0).log.pages) (slice_index new.pages k) ⊎ Contains f.fresh.items
+      (slice_index new.pages k)
+  in_pages k lt = Contains-append_cases (d.inode 0).log.pages f.fresh.items (slice_index new.pages k)
+      (k, lt, get_or_default_zero new.pages k (slice_index new.pages k) lt)
 
   of_new_page : (k a : ℕ) → k < length new.pages → IsInPage (slice_index new.pages k) a → IsWordOf inodes f.fresh.items d a
   of_new_page k a lt here = ⊎_elim
-      (λ old. of_log 0 (slice_index new.pages k) (0, omega arith, refl) (let few = fl.node_in_table in omega (arith, few)) (subst IsUsed (sym volume.fast.valid.root) tt) old here)
+      (λ old. of_log 0 (slice_index new.pages k) (0, omega arith, refl) (let few = fl.node_in_table in omega (arith, few))
+      (subst IsUsed (sym volume.fast.valid.root) tt) old here)
       (λ fresh. of_page (slice_index new.pages k) fresh here) (in_pages k lt)
 
   of_root : (a : ℕ) → Root a → IsWordOf inodes f.fresh.items d a
   of_root a said = by_case said.value said.told
     where
       by_case : (v : ℕ) → Prepared 0 (d.inode 0).log new a v → IsWordOf inodes f.fresh.items d a
-      by_case v (new_head none some place value) = of_inode 0 (0, omega arith, refl) (let few = fl.node_in_table in omega (arith, few)) (omega (arith, place), omega (arith, place))
+      by_case v (new_head none some place value) = of_inode 0 (0, omega arith, refl) (let few = fl.node_in_table in omega (arith, few))
+          (omega (arith, place), omega (arith, place))
       by_case v (new_footer k late lt place value) = of_new_page k a (omega (arith, lt)) (omega (arith, place), omega (arith, place))
       by_case v (new_slot k j late lt word place value) =
           let fits = (root_paged d change can).fits in
@@ -200,7 +237,8 @@ module _ (d : Disk) (b b' : Parts) (s u t : State) (who : ℕ) (f : Flight) (nam
   leaves : LeavesRest who inodes f.fresh.items d d s t
   leaves = record {
     rest = rest;
-    only = stores_only-then (IsWordOf inodes f.fresh.items d) s u t (stores_only-weaken Root (IsWordOf inodes f.fresh.items d) s u of_root stores.prepared.only)
+    only = stores_only-then (IsWordOf inodes f.fresh.items d) s u t (stores_only-weaken Root (IsWordOf inodes f.fresh.items d) s u of_root
+        stores.prepared.only)
         (stores_only-weaken Turn' (IsWordOf inodes f.fresh.items d) u t of_turn stores.cleared.only);
     others = λ q a other out lt flushed.
         stores.cleared.keeps.flushed q a tt (λ here. out (of_turn a here)) (let same = stores.prepared.only.words in omega (arith, lt, same))
@@ -213,7 +251,8 @@ module _ (d : Disk) (b b' : Parts) (s u t : State) (who : ℕ) (f : Flight) (nam
   stay : ((q : ℕ) (g : Flight) → q ≢ who → Flies b' q g → IsFlight d q g t) × StayInHand who d b'
   stay = others_stay who inodes f.fresh.items d d b b' s t volume (subst (λ (g : Geometry). StandsFast d g t) st.geometry fast)
       (record {
-        inode = λ i has. inl (by_client f to.flies (subst (λ (xs : List ℕ). Contains xs i) (sym (held_is d b s who f name c volume to.flies to.op_is to.change_is)) has));
+        inode = λ i has. inl (by_client f to.flies
+            (subst (λ (xs : List ℕ). Contains xs i) (sym (held_is d b s who f name c volume to.flies to.op_is to.change_is)) has));
         page = λ page has. inl (fresh_taken_by d b s who f name c volume to.flies to.op_is to.change_is page has);
       })
       leaves same (λ other. ap (λ r. r.raised) st.reclaiming)
@@ -258,26 +297,34 @@ module _ (d : Disk) (b b' : Parts) (s u t : State) (who : ℕ) (f : Flight) (nam
       let spare = stores.spare in
       record {
         owes = record {
-          units = subst (λ x. owed_sum b' (λ r. r.units) + units_to_share x + (FALL_UNITS * one_if b'.reclaiming.raised + ZERO_CHECK_UNITS * one_if b'.reclaiming.zero_check) ≤ b'.owed.units) (sym st.replaces.sharing)
-              (subst (λ x. owed_sum b' (λ r. r.units) + units_to_share b.sharing + (FALL_UNITS * one_if x.raised + ZERO_CHECK_UNITS * one_if x.zero_check) ≤ b'.owed.units) (sym st.reclaiming) (omega (arith, m_units, o_units, w_units, units_was)));
-          trace = subst (λ x. owed_sum b' (λ r. r.trace) + changes_to_share x ≤ b'.owed.trace) (sym st.replaces.sharing) (omega (arith, m_trace, o_trace, w_trace));
+          units = subst (λ x. owed_sum b' (λ r. r.units) + units_to_share x + (FALL_UNITS * one_if b'.reclaiming.raised + ZERO_CHECK_UNITS * one_if
+              b'.reclaiming.zero_check) ≤ b'.owed.units) (sym st.replaces.sharing)
+              (subst (λ x. owed_sum b' (λ r. r.units) + units_to_share b.sharing + (FALL_UNITS * one_if x.raised + ZERO_CHECK_UNITS * one_if
+              x.zero_check) ≤ b'.owed.units) (sym st.reclaiming) (omega (arith, m_units, o_units, w_units, units_was)));
+          trace = subst (λ x. owed_sum b' (λ r. r.trace) + changes_to_share x ≤ b'.owed.trace) (sym st.replaces.sharing)
+              (omega (arith, m_trace, o_trace, w_trace));
           history = omega (arith, m_history, o_history, w_history);
           queue = omega (arith, m_queue, o_queue, w_queue, queue_was);
-          releases = subst (λ x. owed_sum b' (λ r. r.releases) + one_if x.raised ≤ b'.owed.releases) (sym st.reclaiming) (omega (arith, m_releases, o_releases, w_releases));
+          releases = subst (λ x. owed_sum b' (λ r. r.releases) + one_if x.raised ≤ b'.owed.releases) (sym st.reclaiming)
+              (omega (arith, m_releases, o_releases, w_releases));
         };
         units = let there = was.units in omega (arith, there, o_units, spare);
         trace = subst (λ x. vec_len x + b'.owed.trace ≤ vec_capacity x) (sym prepares.trace) (let there = was.trace in omega (arith, there, o_trace));
-        history = subst (λ x. vec_len x + b'.owed.history ≤ vec_capacity x) (sym prepares.history) (let there = was.history in omega (arith, there, o_history));
+        history = subst (λ x. vec_len x + b'.owed.history ≤ vec_capacity x) (sym prepares.history) (let there = was.history in
+            omega (arith, there, o_history));
         queue = subst (λ x. b'.owed.queue ≤ x.room) (sym st.queue) (let there = was.queue in omega (arith, there, o_queue));
-        releases = subst (λ x. deque_len x.releases + b'.owed.releases ≤ deque_capacity x.releases) (sym st.reclaiming) (let there = was.releases in omega (arith, there, o_releases));
+        releases = subst (λ x. deque_len x.releases + b'.owed.releases ≤ deque_capacity x.releases) (sym st.reclaiming) (let there = was.releases in
+            omega (arith, there, o_releases));
         names = subst (λ x. b'.owed.history ≤ x.room) (sym st.names) (let there = was.names in omega (arith, there, o_history));
-        places = λ q g x n flies is at. places_on q g x n (whose who st.client (Some f) (Some f') b b' st.replaces q g flies) is (subst (λ xs. slice_get xs.items g.ino ≡ Some n) st.inodes at);
+        places = λ q g x n flies is at. places_on q g x n (whose who st.client (Some f) (Some f') b b' st.replaces q g flies) is
+            (subst (λ xs. slice_get xs.items g.ino ≡ Some n) st.inodes at);
       }
     where
       no_data : (x : DataChange) → Names (prepared_change c tail) ≡ Data x → ⊥
       no_data x is = cc is
 
-      places_on : (q : ℕ) (g : Flight) (x : DataChange) (n : InodeState) → Whose who st.client (Some f) (Some f') b b' st.replaces q g → g.change ≡ Data x → slice_get b.inodes.items g.ino ≡ Some n → length x.blocks.items ≤ n.map.room
+      places_on : (q : ℕ) (g : Flight) (x : DataChange) (n : InodeState) → Whose who st.client (Some f) (Some f') b b' st.replaces q g
+          → g.change ≡ Data x → slice_get b.inodes.items g.ino ≡ Some n → length x.blocks.items ≤ n.map.room
       places_on q g x n (its_own same' is) data_is at = (let one : f' ≡ g = cc is in absurd (no_data x (ap (λ (h : Flight). h.change) one ∙ data_is)))
       places_on q g x n (another other was) data_is at = volume.room.places q g x n was data_is at
 
@@ -290,12 +337,14 @@ module _ (d : Disk) (b b' : Parts) (s u t : State) (who : ℕ) (f : Flight) (nam
     holders = same_holders who f f' b b' st d volume.holders;
     space = same_space who f f' b b' st d volume.space;
     table = subst (AreSlotsOf d) (sym st.fact) volume.table;
-    counts = same_counts who f f' b b' st (record { raised = refl }) (let same' = owed_moved (λ r. r.releases) in omega (arith, same')) d volume.counts;
+    counts = same_counts who f f' b b' st (record { raised = refl }) (let same' = owed_moved (λ r. r.releases) in omega (arith, same')) d
+        volume.counts;
     flights = record { clients = st.replaces.clients ∙ volume.flights.clients; each = each };
     queue = same_queue who f f' b b' st d volume.queue;
     sharing = stay.1.sharing (λ same'. let small = few who st.client (Some f) (Some f') b b' st.replaces in omega (arith, small, same'));
     reclaiming = record {
-      waiting = subst (λ r. r.waiting + one_if r.raised ≡ one_if r.zero_check + 2 * length r.releases.items + total d.geometry.inodes (dying_units d)) (sym st.reclaiming) volume.reclaiming.waiting;
+      waiting = subst (λ r. r.waiting + one_if r.raised ≡ one_if r.zero_check + 2 * length r.releases.items + total d.geometry.inodes (dying_units d))
+          (sym st.reclaiming) volume.reclaiming.waiting;
       zero_check = λ slot is. volume.reclaiming.zero_check slot (ap (λ r. r.zero_check) (sym st.reclaiming) ∙ is);
       raised = stay.1.raised (λ same'. let small = few who st.client (Some f) (Some f') b b' st.replaces in omega (arith, small, same'));
     };
@@ -322,8 +371,10 @@ pub creations_prepare : {D F : Type 0} (state : D → State) → CreationsPrepar
 creations_prepare state print v v' u d who f name c tail volume agree_u agree_t to stores tail_is prepares counts = record {
   after = d;
   moves = record {
-    volume = (moved d v.parts v'.parts (state v.device) u (state v'.device) who f name c tail volume agree_u agree_t to stores tail_is prepares print).0;
-    images = (moved d v.parts v'.parts (state v.device) u (state v'.device) who f name c tail volume agree_u agree_t to stores tail_is prepares print).1;
+    volume = (moved d v.parts v'.parts (state v.device) u (state v'.device) who f name c tail volume agree_u agree_t to stores tail_is prepares
+        print).0;
+    images = (moved d v.parts v'.parts (state v.device) u (state v'.device) who f name c tail volume agree_u agree_t to stores tail_is prepares
+        print).1;
     own = λ own. own;
     accounts = λ own. quiet_accounts print d;
     traces = record { more = []; trace = ap (λ xs. xs.items) prepares.trace ∙ sym (append-nil v.parts.trace.items); words = λ slot. refl };

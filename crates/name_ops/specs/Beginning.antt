@@ -1,5 +1,26 @@
 -- What the begin of a creation does to what is kept in memory.
-use Rattle.std.specs.Prelude.{◌≡◌, ◌≢◌, ◌⊎◌, ◌↔◌, ℕ, ◌+◌, ◌-◌, ◌<◌, ◌≤◌, false, List, [], ◌∷◌, length, slice_get, Some, None, Contains, vec_len, vec_capacity}
+use Rattle.std.specs.Prelude.{
+  ◌≡◌,
+  ◌≢◌,
+  ◌⊎◌,
+  ◌↔◌,
+  ℕ,
+  ◌+◌,
+  ◌-◌,
+  ◌<◌,
+  ◌≤◌,
+  false,
+  List,
+  [],
+  ◌∷◌,
+  length,
+  slice_get,
+  Some,
+  None,
+  Contains,
+  vec_len,
+  vec_capacity,
+}
 use Rattle.std.specs.FinMap.{get}
 use Rattle.pm_device.specs.State.{State, IsSame, Agree}
 use Rattle.page_alloc.specs.Free.{IsInOrder}
@@ -64,12 +85,14 @@ pub record Begins (who : ℕ) (f : Flight) (b b' : Parts) (t : State) : Type 0 w
   pub running : b'.stopped ≡ false
   pub pages : b'.free.pages ≡ b.free.pages
   pub in_order : IsInOrder b'.free
-  pub free : (page : ℕ) → Contains b.free.free page ↔ (Contains b'.free.free page ⊎ Contains f.fresh.items page)
+  pub free : (page : ℕ) → Contains b.free.free page ↔
+      (Contains b'.free.free page ⊎ Contains f.fresh.items page)
   pub gone : (page : ℕ) → Contains b'.free.free page → Contains f.fresh.items page → ⊥
   pub left : 2 ≤ length b'.free.free
   pub names : (name : List ℕ) → get b'.names.map name ≡ get b.names.map name
   pub inodes : length b'.inodes.items ≡ length b.inodes.items
-  pub each : (ino : ℕ) (n' : InodeState) → slice_get b'.inodes.items ino ≡ Some n' → (n : InodeState) × (slice_get b.inodes.items ino ≡ Some n) × TakesHold who f ino n n'
+  pub each : (ino : ℕ) (n' : InodeState) → slice_get b'.inodes.items ino ≡ Some n'
+      → (n : InodeState) × (slice_get b.inodes.items ino ≡ Some n) × TakesHold who f ino n n'
   pub fact : b'.fact ≡ b.fact
   pub queue : b'.queue ≡ b.queue
   pub sharing : b'.sharing ≡ b.sharing
@@ -85,5 +108,6 @@ pub record Begins (who : ℕ) (f : Flight) (b b' : Parts) (t : State) : Type 0 w
   pub names_room : b'.owed.history ≤ b'.names.room
 
 abbrev pub CreationsBegin : Type 0
-CreationsBegin = (d : Disk) (b b' : Parts) (s t : State) (who : ℕ) (f : Flight) (name : List ℕ) (c : NameChange) → IsVolume d b s → Agree s.now s.past → IsSame s t
+CreationsBegin = (d : Disk) (b b' : Parts) (s t : State) (who : ℕ) (f : Flight) (name : List ℕ)
+    (c : NameChange) → IsVolume d b s → Agree s.now s.past → IsSame s t
     → CanCreate d name c.node → IsPlanned d f name c → Begins who f b b' t → IsVolume d b' t

@@ -1,5 +1,27 @@
 -- What a commit of an operation on names does to what is kept in memory.
-use Rattle.std.specs.Prelude.{◌≡◌, ◌≢◌, ◌⊎◌, ◌↔◌, ℕ, ◌+◌, ◌-◌, ◌≤◌, true, false, List, [], ◌∷◌, ◌++◌, length, slice_get, Some, None, Contains, vec_len, vec_capacity}
+use Rattle.std.specs.Prelude.{
+  ◌≡◌,
+  ◌≢◌,
+  ◌⊎◌,
+  ◌↔◌,
+  ℕ,
+  ◌+◌,
+  ◌-◌,
+  ◌≤◌,
+  true,
+  false,
+  List,
+  [],
+  ◌∷◌,
+  ◌++◌,
+  length,
+  slice_get,
+  Some,
+  None,
+  Contains,
+  vec_len,
+  vec_capacity,
+}
 use Rattle.std.specs.FinMap.{get}
 use Rattle.pm_device.specs.State.{State, Agree}
 use Rattle.pm_device.specs.Settled.{LeavesOnly, StoresOnly, KeepsFlushed, Others, SettlesAll}
@@ -43,7 +65,8 @@ pub record LetsGo (f : Flight) (ino : ℕ) (n n' : InodeState) : Type 0 where
   pub freed : Contains f.held.items ino → n'.holder ≡ None
   pub kept : (Contains f.held.items ino → ⊥) → n'.holder ≡ n.holder
 
--- A client's operation is in flight no more. It holds nothing, is owed nothing, and the pages that it didn't use are free.
+-- A client's operation is in flight no more. It holds nothing, is owed nothing, and the pages that
+-- it didn't use are free.
 pub record Lands (who : ℕ) (f : Flight) (b b' : Parts) : Type 0 where
   pub geometry : b'.geometry ≡ b.geometry
   pub running : b'.stopped ≡ false
@@ -57,7 +80,8 @@ pub record Lands (who : ℕ) (f : Flight) (b b' : Parts) : Type 0 where
   pub owed_releases : b.owed.releases ≡ b'.owed.releases + (owed_to (Some f)).releases
   pub pages : b'.free.pages ≡ b.free.pages
   pub in_order : IsInOrder b'.free
-  pub free : (page : ℕ) → Contains b'.free.free page ↔ (Contains b.free.free page ⊎ Contains f.spare.items page)
+  pub free : (page : ℕ) → Contains b'.free.free page ↔
+      (Contains b.free.free page ⊎ Contains f.spare.items page)
   pub free_more : length b.free.free ≤ length b'.free.free
   pub history_len : vec_len b'.history ≡ vec_len b.history + 1
   pub history_room : vec_capacity b'.history ≡ vec_capacity b.history
@@ -80,25 +104,32 @@ pub record ComesToLife (node ino : ℕ) (n n' : InodeState) : Type 0 where
   pub elsewhere : ino ≢ node → (n'.used ≡ n.used) × (n'.size ≡ n.size)
 
 -- a file was created
-pub record LandsCreate (who : ℕ) (f : Flight) (name : List ℕ) (node : ℕ) (b b' : Parts) : Type 0 where
-  pub lands : LandsNames who f b b'
-  pub names : (other : List ℕ) → get b'.names.map other ≡ with_name (get b.names.map) name (Some node) other
-  pub reclaiming : b'.reclaiming ≡ b.reclaiming
-  pub each : (ino : ℕ) (n' : InodeState) → slice_get b'.inodes.items ino ≡ Some n' → (n : InodeState) × (slice_get b.inodes.items ino ≡ Some n) × ComesToLife node ino n n' × LetsGo f ino n n'
+pub record LandsCreate (who : ℕ) (f : Flight) (name : List ℕ) (node : ℕ) (b b' : Parts) : Type 0
+  where
+    pub lands : LandsNames who f b b'
+    pub names : (other : List ℕ) → get b'.names.map other ≡ with_name (get b.names.map) name
+        (Some node) other
+    pub reclaiming : b'.reclaiming ≡ b.reclaiming
+    pub each : (ino : ℕ) (n' : InodeState) → slice_get b'.inodes.items ino ≡ Some n'
+        → (n : InodeState) × (slice_get b.inodes.items ino ≡ Some n) × ComesToLife node ino n
+        n' × LetsGo f ino n n'
 
 -- a creation is in flight, and all that has to stand before its commit was stored
-pub record IsToCreate (b : Parts) (who : ℕ) (f : Flight) (name : List ℕ) (c : NameChange) : Type 0 where
-  pub flies : Flies b who f
-  pub op_is : f.op ≡ Create name
-  pub change_is : f.change ≡ Names c
-  pub prepared : c.prepared ≡ true
+pub record IsToCreate (b : Parts) (who : ℕ) (f : Flight) (name : List ℕ) (c : NameChange) : Type 0
+  where
+    pub flies : Flies b who f
+    pub op_is : f.op ≡ Create name
+    pub change_is : f.change ≡ Names c
+    pub prepared : c.prepared ≡ true
 
 abbrev pub after_create : Disk → List ℕ → Flight → NameChange → Disk
 after_create d name f c = names_changed d (creation name c.node f.fresh.items)
 
 abbrev pub CreationsLand : Type 0
-CreationsLand = (d : Disk) (b b' : Parts) (s t : State) (who : ℕ) (f : Flight) (name : List ℕ) (c : NameChange) → IsVolume d b s → Agree s.now s.past → IsToCreate b who f name c
-    → CommitsAll d.geometry.inodes who (name_changes d (creation name c.node f.fresh.items)) s t → LandsCreate who f name c.node b b' → IsVolume (after_create d name f c) b' t
+CreationsLand = (d : Disk) (b b' : Parts) (s t : State) (who : ℕ) (f : Flight) (name : List ℕ)
+    (c : NameChange) → IsVolume d b s → Agree s.now s.past → IsToCreate b who f name c
+    → CommitsAll d.geometry.inodes who (name_changes d (creation name c.node f.fresh.items)) s t
+    → LandsCreate who f name c.node b b' → IsVolume (after_create d name f c) b' t
 
 -- the entry that it adds to the history
 pub record AddsEntry (who : ℕ) (op : Op) (reply : Reply) (b b' : Parts) : Type 0 where
@@ -110,6 +141,10 @@ pub record AddsEntry (who : ℕ) (op : Op) (reply : Reply) (b b' : Parts) : Type
 
 -- so the last advance of a creation answers it
 abbrev pub CreationsAnswer : (D F : Type 0) → (D → State) → Type 0
-CreationsAnswer D F state = (print : Print) (v v' : Volume D F) (d : Disk) (who : ℕ) (f : Flight) (name : List ℕ) (c : NameChange) → IsVolume d v.parts (state v.device) → Agree (state v.device).now (state v.device).past
-    → IsToCreate v.parts who f name c → CommitsAll d.geometry.inodes who (name_changes d (creation name c.node f.fresh.items)) (state v.device) (state v'.device)
-    → LandsCreate who f name c.node v.parts v'.parts → AddsEntry who (Create name) Done v.parts v'.parts → Counts v.parts v'.parts → Answers state print who (Create name) Done v v' d
+CreationsAnswer D F state = (print : Print) (v v' : Volume D F) (d : Disk) (who : ℕ) (f : Flight)
+    (name : List ℕ) (c : NameChange) → IsVolume d v.parts (state v.device)
+    → Agree (state v.device).now (state v.device).past
+    → IsToCreate v.parts who f name c → CommitsAll d.geometry.inodes who
+    (name_changes d (creation name c.node f.fresh.items)) (state v.device) (state v'.device)
+    → LandsCreate who f name c.node v.parts v'.parts → AddsEntry who (Create name) Done v.parts
+    v'.parts → Counts v.parts v'.parts → Answers state print who (Create name) Done v v' d

@@ -1,4 +1,5 @@
--- What the first advance of an operation on names stores, and what it does to what is kept in memory.
+-- What the first advance of an operation on names stores, and what it does to what is kept in
+-- memory.
 use Rattle.std.specs.Prelude.{◌≡◌, ℕ, ◌+◌, ◌*◌, ◌≤◌, true, false, List, [], ◌∷◌, length}
 use Rattle.pm_device.specs.State.{State, Agree}
 use Rattle.pm_device.specs.Settled.{FlushesAll}
@@ -24,8 +25,10 @@ use Rattle.dn_volume.specs.Steps.{StepsOn}
 use Rattle.dn_volume.specs.Agrees.{IsVolume}
 use Rattle.dn_volume.specs.Events.{Counts, MovesOn}
 
--- the slots of the new name and their links were stored and flushed, and then the new inode was cleared
-pub record StoresCreation (d : Disk) (who : ℕ) (change : DiskChange) (units : ℕ) (s u t : State) : Type 0 where
+-- the slots of the new name and their links were stored and flushed, and then the new inode was
+-- cleared
+pub record StoresCreation (d : Disk) (who : ℕ) (change : DiskChange) (units : ℕ) (s u t : State) :
+    Type 0 where
   pub prepared : IsPreparedBy who 0 (d.inode 0).log (root_after d change) s u
   pub cleared : StoresRun who (inode_word change.ino 1) (0 ∷ 0 ∷ 0 ∷ []) u t
   pub flushes : FlushesAll who s t
@@ -33,7 +36,17 @@ pub record StoresCreation (d : Disk) (who : ℕ) (change : DiskChange) (units : 
   pub faults : s.faults ≤ t.faults
 
 abbrev pub with_change : Flight → Change → Flight
-with_change f change = record { op = f.op; held = f.held; ino = f.ino; slots = f.slots; fresh = f.fresh; spare = f.spare; rows = f.rows; raised = f.raised; change = change }
+with_change f change = record {
+  op = f.op;
+  held = f.held;
+  ino = f.ino;
+  slots = f.slots;
+  fresh = f.fresh;
+  spare = f.spare;
+  rows = f.rows;
+  raised = f.raised;
+  change = change;
+}
 
 abbrev pub prepared_change : NameChange → ℕ → NameChange
 prepared_change c tail = record { node = c.node; turn = c.turn; prepared = true; tail = tail }
@@ -49,7 +62,8 @@ pub record Prepares (who : ℕ) (f : Flight) (c : NameChange) (tail : ℕ) (b b'
   pub owed_queue : b'.owed.queue ≡ b.owed.queue
   pub owed_releases : b'.owed.releases ≡ b.owed.releases
 
-pub record IsToPrepareCreate (b : Parts) (who : ℕ) (f : Flight) (name : List ℕ) (c : NameChange) : Type 0 where
+pub record IsToPrepareCreate (b : Parts) (who : ℕ) (f : Flight) (name : List ℕ) (c : NameChange) :
+    Type 0 where
   pub flies : Flies b who f
   pub op_is : f.op ≡ Create name
   pub change_is : f.change ≡ Names c
@@ -57,8 +71,13 @@ pub record IsToPrepareCreate (b : Parts) (who : ℕ) (f : Flight) (name : List �
 
 -- so the first advance of a creation goes on
 abbrev pub CreationsPrepare : (D F : Type 0) → (D → State) → Type 0
-CreationsPrepare D F state = (print : Print) (v v' : Volume D F) (u : State) (d : Disk) (who : ℕ) (f : Flight) (name : List ℕ) (c : NameChange) (tail : ℕ)
-    → IsVolume d v.parts (state v.device) → Agree u.now u.past → Agree (state v'.device).now (state v'.device).past → IsToPrepareCreate v.parts who f name c
-    → StoresCreation d who (creation name c.node f.fresh.items) (SLOT_UNITS * slots_of f + TURN_UNITS) (state v.device) u (state v'.device)
-    → tail ≡ tail_at (root_after d (creation name c.node f.fresh.items)).pages (count (root_after d (creation name c.node f.fresh.items)))
-    → Prepares who f c tail v.parts v'.parts → Counts v.parts v'.parts → MovesOn state print who v v' d
+CreationsPrepare D F state = (print : Print) (v v' : Volume D F) (u : State) (d : Disk) (who : ℕ)
+    (f : Flight) (name : List ℕ) (c : NameChange) (tail : ℕ)
+    → IsVolume d v.parts (state v.device) → Agree u.now u.past → Agree (state v'.device).now
+    (state v'.device).past → IsToPrepareCreate v.parts who f name c
+    → StoresCreation d who (creation name c.node f.fresh.items)
+    (SLOT_UNITS * slots_of f + TURN_UNITS) (state v.device) u (state v'.device)
+    → tail ≡ tail_at (root_after d (creation name c.node f.fresh.items)).pages
+    (count (root_after d (creation name c.node f.fresh.items)))
+    → Prepares who f c tail v.parts v'.parts → Counts v.parts v'.parts
+    → MovesOn state print who v v' d

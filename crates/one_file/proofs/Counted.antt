@@ -8,7 +8,8 @@ use Rattle.dn_model.specs.Faults.{HasFree}
 use Rattle.one_file.specs.declared.file.OneFile.{OneFile}
 use Rattle.one_file.specs.Held.{IsDiskOf}
 
-pub free_counted : {D : Type 0} (state : D → State) (v : OneFile D) (d : Disk) → IsDiskOf state v d → IsInOrder v.free → (n : ℕ) → n ≡ length v.free.free → HasFree d n
+pub free_counted : {D : Type 0} (state : D → State) (v : OneFile D) (d : Disk) → IsDiskOf state v d → IsInOrder v.free → (n : ℕ)
+    → n ≡ length v.free.free → HasFree d n
 free_counted state v d is order n e = (
   v.free.free,
   (λ page. ((is.held.free page).0, (is.held.free page).1)),

@@ -24,7 +24,8 @@ module _ {D : Type 0} (state : D → State) (v : OneFile D) (d : Disk) (is : IsD
       by_test false = refl
 
   pub files_own : (name : List ℕ) → v.name ≡ name → files d name ≡ Some (bytes d 1)
-  files_own name e = files_of name ∙ ap (λ (b : Bool). if b then Some (bytes d 1) else None) (subst (λ (n : List ℕ). same_name v.name n ≡ true) e (same_name-same v.name))
+  files_own name e = files_of name ∙ ap (λ (b : Bool). if b then Some (bytes d 1) else None) (subst (λ (n : List ℕ). same_name v.name n ≡ true) e
+      (same_name-same v.name))
 
   pub files_other : (name : List ℕ) → v.name ≢ name → files d name ≡ None
   files_other name ne = files_of name ∙ by_test (same_name v.name name) (λ t. ne (same_name-true v.name name t))
@@ -34,4 +35,5 @@ module _ {D : Type 0} (state : D → State) (v : OneFile D) (d : Disk) (is : IsD
       by_test false never = refl
 
   pub named_own : (name : List ℕ) → v.name ≡ name → named d name ≡ Some 1
-  named_own name e = named_of name ∙ ap (λ (b : Bool). if b then Some 1 else None) (subst (λ (n : List ℕ). same_name v.name n ≡ true) e (same_name-same v.name))
+  named_own name e = named_of name ∙ ap (λ (b : Bool). if b then Some 1 else None) (subst (λ (n : List ℕ). same_name v.name n ≡ true) e
+      (same_name-same v.name))

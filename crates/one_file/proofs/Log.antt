@@ -13,7 +13,8 @@ use Rattle.dn_model.specs.Disk.{Disk, IsUsed, of_logs}
 use Rattle.dn_model.proofs.Regions.{inode_word_low}
 use Rattle.one_file.specs.Written.{IsHeld}
 
-module _ (g : Geometry) (ino size : ℕ) (index : FinMap nat_cmp Mapping) (set : FreePages) (d : Disk) (s : State) (held : IsHeld g ino size index set d s) where
+module _ (g : Geometry) (ino size : ℕ) (index : FinMap nat_cmp Mapping) (set : FreePages) (d : Disk) (s : State)
+    (held : IsHeld g ino size index set d s) where
   used : IsUsed (d.inode ino).use_of
   used = subst IsUsed (sym held.file.live) tt
 
@@ -21,7 +22,8 @@ module _ (g : Geometry) (ino size : ℕ) (index : FinMap nat_cmp Mapping) (set :
   log-paged = (held.valid.logs ino held.file.in_table used).paged
 
   pub tail-is : (tail : ℕ) → tail ≡ slice_index s.now (inode_word ino 2) → tail ≡ tail_at (d.inode ino).log.pages (count (d.inode ino).log)
-  tail-is tail read = read ∙ held.stands.reads (inode_word ino 2) (tail_at (d.inode ino).log.pages (count (d.inode ino).log)) (of_logs (record { ino = ino; in_table = held.file.in_table; used = used; says = at_tail refl refl }))
+  tail-is tail read = read ∙ held.stands.reads (inode_word ino 2) (tail_at (d.inode ino).log.pages (count (d.inode ino).log))
+      (of_logs (record { ino = ino; in_table = held.file.in_table; used = used; says = at_tail refl refl }))
 
   pub tail-inside : inode_word ino 2 < length s.now
   tail-inside =

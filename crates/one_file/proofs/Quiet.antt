@@ -46,7 +46,8 @@ leaves-from P s t u same leaves = record {
   each = λ m c late left. leaves.each m c (subst (λ (p : Option Past). moment p ≤ m) (sym same) late) left;
 }
 
-module _ {D : Type 0} (state : D → State) (v : OneFile D) (d : Disk) (is : IsDiskOf state v d) (agree : Agree (state v.device).now (state v.device).past) where
+module _ {D : Type 0} (state : D → State) (v : OneFile D) (d : Disk) (is : IsDiskOf state v d)
+    (agree : Agree (state v.device).now (state v.device).past) where
   -- each image that may be left now has the files of the disk
   pub image-now : (print : Print) → IsOwn print d → LeavesNow (state v.device) (IsImageOf print (files d))
   image-now print own c left = record {
@@ -60,11 +61,14 @@ module _ {D : Type 0} (state : D → State) (v : OneFile D) (d : Disk) (is : IsD
       long : 512 * v.geometry.pages ≡ 512 * d.geometry.pages
       long = ap (λ (g : Geometry). 512 * g.pages) (sym is.held.geometry)
 
-  pub images-from : (print : Print) → IsOwn print d → (t : State) → t.past ≡ (state v.device).past → LeavesOneOf print (files d) (files d) (state v.device) t
-  images-from print own t same = leaves-quiet (λ c. IsImageOf print (files d) c ⊎ IsImageOf print (files d) c) (state v.device) t same (λ c left. inl (image-now print own c left))
+  pub images-from : (print : Print) → IsOwn print d → (t : State) → t.past ≡ (state v.device).past → LeavesOneOf print (files d) (files d)
+      (state v.device) t
+  images-from print own t same = leaves-quiet (λ c. IsImageOf print (files d) c ⊎ IsImageOf print (files d) c) (state v.device) t same
+      (λ c left. inl (image-now print own c left))
 
   pub images-quiet : (print : Print) → IsOwn print d → LeavesOneOf print (files d) (files d) (state v.device) (state v.device)
-  images-quiet print own = leaves-quiet (λ c. IsImageOf print (files d) c ⊎ IsImageOf print (files d) c) (state v.device) (state v.device) refl (λ c left. inl (image-now print own c left))
+  images-quiet print own = leaves-quiet (λ c. IsImageOf print (files d) c ⊎ IsImageOf print (files d) c) (state v.device) (state v.device) refl
+      (λ c left. inl (image-now print own c left))
 
 pub stands-same : (says : ℕ → ℕ → Type 0) (s t : State) → t.now ≡ s.now → t.past ≡ s.past → Stands says s → Stands says t
 stands-same says s t now past stands = record {
@@ -75,8 +79,10 @@ stands-same says s t now past stands = record {
 }
 
 -- the image with another state of its device that reads and may be left as before, and with the same in memory
-module _ {D : Type 0} (state : D → State) (v v' : OneFile D) (now : (state v'.device).now ≡ (state v.device).now) (past : (state v'.device).past ≡ (state v.device).past)
-    (geometry : v'.geometry ≡ v.geometry) (name : v'.name ≡ v.name) (size : v'.size ≡ v.size) (map : v'.map ≡ v.map) (free : v'.free ≡ v.free) (d : Disk) (is : IsDiskOf state v d) where
+module _ {D : Type 0} (state : D → State) (v v' : OneFile D) (now : (state v'.device).now ≡ (state v.device).now)
+    (past : (state v'.device).past ≡ (state v.device).past)
+    (geometry : v'.geometry ≡ v.geometry) (name : v'.name ≡ v.name) (size : v'.size ≡ v.size) (map : v'.map ≡ v.map) (free : v'.free ≡ v.free)
+    (d : Disk) (is : IsDiskOf state v d) where
   pub held-same : IsDiskOf state v' d
   held-same = record {
     held = record {
@@ -84,7 +90,8 @@ module _ {D : Type 0} (state : D → State) (v v' : OneFile D) (now : (state v'.
       long = ap (λ (xs : List ℕ). length xs) now ∙ is.held.long ∙ ap (λ (h : Geometry). 512 * h.pages) (sym geometry);
       stands = stands-same (DiskSays d) (state v.device) (state v'.device) now past is.held.stands;
       valid = is.held.valid;
-      file = subst (λ (n : ℕ). IsFileOf d 1 n v'.map.map) (sym size) (subst (λ (m : Index nat_cmp Mapping). IsFileOf d 1 v.size m.map) (sym map) is.held.file);
+      file = subst (λ (n : ℕ). IsFileOf d 1 n v'.map.map) (sym size) (subst (λ (m : Index nat_cmp Mapping). IsFileOf d 1 v.size m.map) (sym map)
+          is.held.file);
       no_root = is.held.no_root;
       no_rows = is.held.no_rows;
       pages = ap (λ (f : FreePages). f.pages) free ∙ is.held.pages ∙ ap (λ (h : Geometry). h.pages) (sym geometry);
@@ -98,8 +105,17 @@ module _ {D : Type 0} (state : D → State) (v v' : OneFile D) (now : (state v'.
   answers-from w op reply answers = record {
     after = answers.after;
     held = answers.held;
-    answered = λ print own. let a = answers.answered print own in record { step = a.step; own = a.own; images = leaves-from _ (state v.device) (state v'.device) (state w.device) past a.images };
+    answered = λ print own. let a = answers.answered print own in record {
+      step = a.step;
+      own = a.own;
+      images = leaves-from _ (state v.device)
+          (state v'.device) (state w.device) past a.images;
+    };
   }
 
   pub stopped-from : (w : OneFile D) (op : Op) → IsStopped state v' w d op → IsStopped state v w d op
-  stopped-from w op stops = record { granted = stops.granted; images = λ print own. leaves-from _ (state v.device) (state v'.device) (state w.device) past (stops.images print own) }
+  stopped-from w op stops = record {
+    granted = stops.granted;
+    images = λ print own. leaves-from _ (state v.device) (state v'.device) (state w.device)
+        past (stops.images print own);
+  }

@@ -10,7 +10,8 @@ use Rattle.dn_model.specs.Runs.{IsStep}
 use Rattle.one_file.specs.Answer.{Answers}
 use Rattle.one_file.proofs.Quiet.{images-quiet}
 
-pub answers-same : {D : Type 0} (state : D → State) (v : OneFile D) (d : Disk) (op : Op) (reply : Reply) → Agree (state v.device).now (state v.device).past → IsDiskOf state v d → IsStep d op reply d → Answers state v v d op reply
+pub answers-same : {D : Type 0} (state : D → State) (v : OneFile D) (d : Disk) (op : Op) (reply : Reply)
+    → Agree (state v.device).now (state v.device).past → IsDiskOf state v d → IsStep d op reply d → Answers state v v d op reply
 answers-same state v d op reply agree is step = record {
   after = d;
   held = is;

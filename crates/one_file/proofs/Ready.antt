@@ -1,6 +1,54 @@
 -- A write that is planned may be stored, and finished.
-use Rattle.std.proofs.Common.{◌≡◌, ◌≢◌, ◌⊎◌, inl, inr, ⊎_elim, ℕ, zero, suc, ◌+◌, ◌-◌, ◌*◌, ◌/◌, ◌%◌, ◌<◌, ◌≤◌, Bool, true, false, List, [], ◌∷◌, ◌++◌, length, refl, sym, ◌∙◌, ap, subst, arith, length-append}
-use Rattle.std.specs.Prelude.{◌↔◌, slice_index, if◌then◌else◌, ◌==◌, nat_lt, max, Contains, IsNone, IsSome, IfSome, All, Option, Some, None, slice_index_or}
+use Rattle.std.proofs.Common.{
+  ◌≡◌,
+  ◌≢◌,
+  ◌⊎◌,
+  inl,
+  inr,
+  ⊎_elim,
+  ℕ,
+  zero,
+  suc,
+  ◌+◌,
+  ◌-◌,
+  ◌*◌,
+  ◌/◌,
+  ◌%◌,
+  ◌<◌,
+  ◌≤◌,
+  Bool,
+  true,
+  false,
+  List,
+  [],
+  ◌∷◌,
+  ◌++◌,
+  length,
+  refl,
+  sym,
+  ◌∙◌,
+  ap,
+  subst,
+  arith,
+  length-append,
+}
+use Rattle.std.specs.Prelude.{
+  ◌↔◌,
+  slice_index,
+  if◌then◌else◌,
+  ◌==◌,
+  nat_lt,
+  max,
+  Contains,
+  IsNone,
+  IsSome,
+  IfSome,
+  All,
+  Option,
+  Some,
+  None,
+  slice_index_or,
+}
 use Rattle.std.specs.Option.{option_map}
 use Rattle.std.specs.Ordering.{nat_cmp}
 use Rattle.std.specs.FinMap.{FinMap, get}
@@ -53,11 +101,13 @@ pub no_row_of : (d : Disk) → ((p : ℕ) → d.chain p ≡ []) → (page : ℕ)
 no_row_of d none page = subst (λ (rs : List Row). IsNone (row_of rs page)) (sym (no_rows-rows d none)) refl
 
 -- the pages that a log then has
-log-room : (g : Geometry) (log : Log) (fresh : List ℕ) (runs : ℕ) → IsPaged g log → 1 ≤ runs → runs ≤ 17 → length fresh ≡ (if nat_lt (room log) runs then 1 else 0)
+log-room : (g : Geometry) (log : Log) (fresh : List ℕ) (runs : ℕ) → IsPaged g log → 1 ≤ runs → runs ≤ 17
+    → length fresh ≡ (if nat_lt (room log) runs then 1 else 0)
     → length (log.pages ++ fresh) ≡ (count log + runs + 62) / 63
 log-room g log fresh runs paged some few is = by_test (nat_lt (room log) runs) refl is
   where
-    by_test : (b : Bool) → nat_lt (room log) runs ≡ b → length fresh ≡ (if b then 1 else 0) → length (log.pages ++ fresh) ≡ (count log + runs + 62) / 63
+    by_test : (b : Bool) → nat_lt (room log) runs ≡ b → length fresh ≡ (if b then 1 else 0) → length (log.pages ++ fresh) ≡ (count log + runs + 62) /
+        63
     by_test true more is =
         let lt : 63 * length log.pages - count log < runs = grind (arith, nat_tests) in
         omega (arith, length-append log.pages fresh, is, lt, paged.fits, few)
@@ -65,8 +115,10 @@ log-room g log fresh runs paged some few is = by_test (nat_lt (room log) runs) r
         let le : runs ≤ 63 * length log.pages - count log = grind (arith, nat_tests) in
         omega (arith, length-append log.pages fresh, is, le, paged.fits, some)
 
-module _ (g : Geometry) (ino size : ℕ) (index : FinMap nat_cmp Mapping) (set mid : FreePages) (at : ℕ) (text : List ℕ) (d : Disk) (s : State) (plan : WritePlan)
-    (held : IsHeld g ino size index set d s) (is : IsPlan size at (length text) (room (d.inode ino).log) set mid plan) (order : IsInOrder set) (enough : 2 ≤ length mid.free)
+module _ (g : Geometry) (ino size : ℕ) (index : FinMap nat_cmp Mapping) (set mid : FreePages) (at : ℕ) (text : List ℕ) (d : Disk) (s : State)
+    (plan : WritePlan)
+    (held : IsHeld g ino size index set d s) (is : IsPlan size at (length text) (room (d.inode ino).log) set mid plan) (order : IsInOrder set)
+    (enough : 2 ≤ length mid.free)
     (some : 1 ≤ length text) (few : length text ≤ 65536) (fits : at + length text ≤ 16777216) where
   pub takes : TakesForWrite set mid plan.fresh.items plan.spare.items plan.blocks.items
   takes = takes-for_write set mid plan.fresh.items plan.spare.items plan.blocks.items order is.takes enough
@@ -128,11 +180,13 @@ module _ (g : Geometry) (ino size : ℕ) (index : FinMap nat_cmp Mapping) (set m
     in_size = omega (arith, in-size, is.cut.places);
     small = new-size;
     blocks = λ i lt. unused-of (block_at (all_seen plan.runs.items) i) (takes.blocks_free (block_at (all_seen plan.runs.items) i) (block-in i lt));
-    blocks_apart = λ i j il jl e. takes.blocks_apart i j (at-block i il) (at-block j jl) (sym (is.cut.blocks i (at-block i il)) ∙ e ∙ is.cut.blocks j (at-block j jl));
+    blocks_apart = λ i j il jl e. takes.blocks_apart i j (at-block i il) (at-block j jl) (sym (is.cut.blocks i (at-block i il)) ∙ e ∙ is.cut.blocks j
+        (at-block j jl));
     fresh_unused = λ p c. unused-of p (takes.fresh_free p c);
     fresh_apart = takes.fresh_apart;
     apart = λ i lt c. takes.between (block_at (all_seen plan.runs.items) i) (block-in i lt) c;
-    room = subst (λ (n : ℕ). length ((d.inode ino).log.pages ++ plan.fresh.items) ≡ (count (d.inode ino).log + n + 62) / 63) (sym (length-map plan.runs.items seen))
+    room = subst (λ (n : ℕ). length ((d.inode ino).log.pages ++ plan.fresh.items) ≡ (count (d.inode ino).log + n + 62) / 63)
+        (sym (length-map plan.runs.items seen))
         (log-room d.geometry (d.inode ino).log plan.fresh.items (length plan.runs.items) paged some-runs few-runs is.log_page);
     words = keeps;
     left = let t = takes.left in (t.0, t.1, t.2, is-left t.0 t.3, is-left t.1 t.4);
@@ -159,10 +213,17 @@ module _ (g : Geometry) (ino size : ℕ) (index : FinMap nat_cmp Mapping) (set m
     covers = is.cut.places;
     blocks = is.cut.blocks;
     few_blocks = few-places;
-    few_slots = omega (arith, ap length is.spelled_by, length-spelled-runs plan.size (all_seen plan.runs.items), length-map plan.runs.items seen, few-runs);
+    few_slots = omega (
+      arith,
+      ap length is.spelled_by,
+      length-spelled-runs plan.size (all_seen plan.runs.items),
+      length-map plan.runs.items seen,
+      few-runs,
+    );
     few_fresh = few-fresh;
     slots = is.spelled_by;
   }
 
   pub tail-read : (tail : ℕ) → tail ≡ slice_index s.now (inode_word ino 2) → tail ≡ tail_at (d.inode ino).log.pages (count (d.inode ino).log)
-  tail-read tail read = read ∙ held.stands.reads (inode_word ino 2) (tail_at (d.inode ino).log.pages (count (d.inode ino).log)) (of_logs (record { ino = ino; in_table = held.file.in_table; used = used; says = at_tail refl refl }))
+  tail-read tail read = read ∙ held.stands.reads (inode_word ino 2) (tail_at (d.inode ino).log.pages (count (d.inode ino).log))
+      (of_logs (record { ino = ino; in_table = held.file.in_table; used = used; says = at_tail refl refl }))

@@ -32,17 +32,30 @@ module _ (d : Disk) (op : Op) where
   bad_step bad = record { step = refused (λ g. bad g.legal) (bad_name bad refl) (λ name. refl); short = λ need free e. cc; all_live = λ e. cc }
 
   pub missed_step : All IsLegal (names_of op) → (Finds (files d) op → ⊥) → miss op ≡ NotFound → IsStep d op (Refused NotFound) d
-  missed_step legal none is = record { step = refused (λ g. none g.finds) (missed legal none (ap Refused (sym is))) (λ name. refl); short = λ need free e. cc; all_live = λ e. cc }
+  missed_step legal none is = record {
+    step = refused (λ g. none g.finds) (missed legal none (ap Refused (sym is))) (λ name. refl);
+    short = λ need free e. cc;
+    all_live = λ e. cc;
+  }
 
   pub long_step : All IsLegal (names_of op) → Finds (files d) op → (IsShort op → ⊥) → IsStep d op (Refused TooLong) d
-  long_step legal finds long = record { step = refused (λ g. long g.short) (too_long legal finds long refl) (λ name. refl); short = λ need free e. cc; all_live = λ e. cc }
+  long_step legal finds long = record {
+    step = refused (λ g. long g.short) (too_long legal finds long refl) (λ name. refl);
+    short = λ need free e. cc;
+    all_live = λ e. cc;
+  }
 
   pub big_step : All IsLegal (names_of op) → Finds (files d) op → IsShort op → (Fits op → ⊥) → IsStep d op (Refused TooBig) d
-  big_step legal finds short big = record { step = refused (λ g. big g.fits) (too_big legal finds short big refl) (λ name. refl); short = λ need free e. cc; all_live = λ e. cc }
+  big_step legal finds short big = record {
+    step = refused (λ g. big g.fits) (too_big legal finds short big refl) (λ name. refl);
+    short = λ need free e. cc;
+    all_live = λ e. cc;
+  }
 
 module _ (d : Disk) (name text : List ℕ) where
   -- a read or a write of this name is refused so
-  pub read_refused : (at count : ℕ) (refusal : Refusal) → IsRefusalOf (files d) text name (Some refusal) → IsStep d (Read name at count) (Refused refusal) d
+  pub read_refused : (at count : ℕ) (refusal : Refusal) → IsRefusalOf (files d) text name (Some refusal) → IsStep d (Read name at count)
+      (Refused refusal) d
   read_refused at count BadName bad = bad_step d (Read name at count) (illegal_one name bad)
   read_refused at count NotFound is = missed_step d (Read name at count) (legal_one name is.0) (not_some (files d name) is.1) refl
   read_refused at count Exists never = absurd never
@@ -51,7 +64,8 @@ module _ (d : Disk) (name text : List ℕ) where
   read_refused at count NoInode never = absurd never
   read_refused at count (NoSpace needed free) never = absurd never
 
-  pub write_refused : (at : ℕ) (new : List ℕ) (refusal : Refusal) → IsRefusalOf (files d) text name (Some refusal) → IsStep d (Write name at new) (Refused refusal) d
+  pub write_refused : (at : ℕ) (new : List ℕ) (refusal : Refusal) → IsRefusalOf (files d) text name (Some refusal) → IsStep d (Write name at new)
+      (Refused refusal) d
   write_refused at new BadName bad = bad_step d (Write name at new) (illegal_one name bad)
   write_refused at new NotFound is = missed_step d (Write name at new) (legal_one name is.0) (not_some (files d name) is.1) refl
   write_refused at new Exists never = absurd never
@@ -71,7 +85,8 @@ module _ (d : Disk) (name text : List ℕ) where
     pub write_too_long : (at : ℕ) (new : List ℕ) → 65536 < length new → IsStep d (Write name at new) (Refused TooLong) d
     write_too_long at new long = long_step d (Write name at new) (legal_one name is.0) found_some (λ short. omega (arith, long, short))
 
-    pub read_step : (at count : ℕ) (found : List ℕ) → count ≤ 65536 → found ≡ take count (drop at text) → IsStep d (Read name at count) (Bytes found) d
+    pub read_step : (at count : ℕ) (found : List ℕ) → count ≤ 65536 → found ≡ take count (drop at text) → IsStep d (Read name at count) (Bytes found)
+        d
     read_step at count found few found_is = record {
       step = done (record { legal = legal_one name is.0; finds = found_some; short = few; fits = tt })
           (ap Bytes (found_is ∙ ap (λ (f : Option (List ℕ)). take count (drop at (bytes_or_none f))) (sym is.1))) (λ other. refl);
@@ -79,7 +94,8 @@ module _ (d : Disk) (name text : List ℕ) where
       all_live = λ e. cc;
     }
 
-    pub write_too_big : (at : ℕ) (new : List ℕ) → 1 ≤ length new → length new ≤ 65536 → 16777216 < at + length new → IsStep d (Write name at new) (Refused TooBig) d
+    pub write_too_big : (at : ℕ) (new : List ℕ) → 1 ≤ length new → length new ≤ 65536 → 16777216 < at + length new → IsStep d (Write name at new)
+        (Refused TooBig) d
     write_too_big at new some short big = big_step d (Write name at new) (legal_one name is.0) found_some short
         (λ fits. ⊎_elim (λ (none : new ≡ []). omega (arith, ap length none, some)) (λ (le : at + length new ≤ 16777216). omega (arith, le, big)) fits)
 
@@ -92,9 +108,11 @@ module _ (d : Disk) (name text : List ℕ) where
     })
 
     -- a write that its place doesn't allow
-    pub placed : (at : ℕ) (new : List ℕ) (refusal : Refusal) → 1 ≤ length new → (refusal ≡ TooLong → 65536 < length new) → (refusal ≡ TooBig → (length new ≤ 65536) × (16777216 < at + length new)) → (refusal ≡ TooLong) ⊎ (refusal ≡ TooBig)
+    pub placed : (at : ℕ) (new : List ℕ) (refusal : Refusal) → 1 ≤ length new → (refusal ≡ TooLong → 65536 < length new)
+        → (refusal ≡ TooBig → (length new ≤ 65536) × (16777216 < at + length new)) → (refusal ≡ TooLong) ⊎ (refusal ≡ TooBig)
         → IsStep d (Write name at new) (Refused refusal) d
     placed at new refusal some long big either = ⊎_elim
         (λ (e : refusal ≡ TooLong). subst (λ (r : Refusal). IsStep d (Write name at new) (Refused r) d) (sym e) (write_too_long at new (long e)))
-        (λ (e : refusal ≡ TooBig). let b = big e in subst (λ (r : Refusal). IsStep d (Write name at new) (Refused r) d) (sym e) (write_too_big at new some b.0 b.1))
+        (λ (e : refusal ≡ TooBig). let b = big e in subst (λ (r : Refusal). IsStep d (Write name at new) (Refused r) d) (sym e)
+        (write_too_big at new some b.0 b.1))
         either

@@ -20,7 +20,8 @@ use Rattle.one_file.specs.Session.{HasRun}
 use Rattle.one_file.specs.RunLoop.{RanTo, HasRunSome}
 use Rattle.one_file.proofs.Quiet.{image-now, leaves-quiet}
 
-runs-append : (d e f : Disk) (es : List Entry) (entry : Entry) → Runs d es e → entry.who ≡ 1 → IsStep e entry.op entry.reply f → Runs d (es ++ entry ∷ []) f
+runs-append : (d e f : Disk) (es : List Entry) (entry : Entry) → Runs d es e → entry.who ≡ 1 → IsStep e entry.op entry.reply f
+    → Runs d (es ++ entry ∷ []) f
 runs-append d e f es entry no_more who step = one_more who step no_more
 runs-append d e f es entry (one_more first is rest) who step = one_more first is (runs-append _ e f _ entry rest who step)
 
@@ -40,19 +41,29 @@ module _ {D : Type 0} (state : D → State) (v : OneFile D) (ops : List Op) wher
     split = refl;
     served = served;
     agrees = agrees;
-    ran = λ d print is own. record { after = d; runs = no_more; held = is; own = own; course = begins print (files d) (state v.device) (image-now state v d is agree print own) };
+    ran = λ d print is own. record {
+      after = d;
+      runs = no_more;
+      held = is;
+      own = own;
+      course = begins print (files d) (state v.device)
+          (image-now state v d is agree print own);
+    };
     later = omega arith;
   }
 
-  module _ (history : List Entry) (v' v'' : OneFile D) (xs rest : List Op) (op : Op) (so_far : HasRunSome state v ops history v' xs) (next : xs ≡ op ∷ rest) where
+  module _ (history : List Entry) (v' v'' : OneFile D) (xs rest : List Op) (op : Op) (so_far : HasRunSome state v ops history v' xs)
+      (next : xs ≡ op ∷ rest) where
     split_next : ops ≡ ops_of history ++ op ∷ rest
     split_next = so_far.split ∙ ap (λ (os : List Op). ops_of history ++ os) next
 
     -- the operation was answered
-    module _ (entry : Entry) (who : entry.who ≡ 1) (same : entry.op ≡ op) (answered : (d : Disk) → IsDiskOf state v' d → Answers state v' v'' d op entry.reply)
+    module _ (entry : Entry) (who : entry.who ≡ 1) (same : entry.op ≡ op) (answered : (d : Disk) → IsDiskOf state v' d
+        → Answers state v' v'' d op entry.reply)
         (agree : Agree (state v''.device).now (state v''.device).past) (later : (state v'.device).faults ≤ (state v''.device).faults) where
       split_more : ops ≡ ops_of (history ++ entry ∷ []) ++ rest
-      split_more = split_next ∙ ap (λ (o : Op). ops_of history ++ o ∷ rest) (sym same) ∙ sym (append_assoc (ops_of history) (entry.op ∷ []) rest) ∙ ap (λ (os : List Op). os ++ rest) (sym (ops_of-append history entry))
+      split_more = split_next ∙ ap (λ (o : Op). ops_of history ++ o ∷ rest) (sym same) ∙ sym (append_assoc (ops_of history) (entry.op ∷ []) rest) ∙ ap
+          (λ (os : List Op). os ++ rest) (sym (ops_of-append history entry))
 
       ran_more : (d : Disk) (print : Print) → IsDiskOf state v d → IsOwn print d → RanTo state print d (state v.device) (history ++ entry ∷ []) v''
       ran_more d print is own =
@@ -65,7 +76,8 @@ module _ {D : Type 0} (state : D → State) (v : OneFile D) (ops : List Op) wher
             runs = runs-append d before.after after.after history entry before.runs who step;
             held = after.held;
             own = a.own;
-            course = goes_on print (files d) (moment (state v.device).past) history (files before.after) (files after.after) entry (state v'.device) (state v''.device) before.course step.step a.images
+            course = goes_on print (files d) (moment (state v.device).past) history (files before.after) (files after.after) entry (state v'.device)
+                (state v''.device) before.course step.step a.images
                 (image-now state v'' after.after after.held agree print a.own);
           }
 
@@ -80,10 +92,18 @@ module _ {D : Type 0} (state : D → State) (v : OneFile D) (ops : List Op) wher
 
       -- but there was no memory for its entry
       pub lacks_entry : (d : Disk) (print : Print) → IsDiskOf state v d → IsOwn print d → LacksMemory print d (state v.device) ops (state v''.device)
-      lacks_entry d print is own = let ran = ran_more d print is own in record { history = history ++ entry ∷ []; rest = rest; split = split_more; after = ran.after; runs = ran.runs; course = ran.course }
+      lacks_entry d print is own = let ran = ran_more d print is own in record {
+        history = history ++ entry ∷ [];
+        rest = rest;
+        split = split_more;
+        after = ran.after;
+        runs = ran.runs;
+        course = ran.course;
+      }
 
     -- there was no memory for it
-    pub lacks_reply : IsSame (state v'.device) (state v''.device) → (d : Disk) (print : Print) → IsDiskOf state v d → IsOwn print d → LacksMemory print d (state v.device) ops (state v''.device)
+    pub lacks_reply : IsSame (state v'.device) (state v''.device) → (d : Disk) (print : Print) → IsDiskOf state v d → IsOwn print d
+        → LacksMemory print d (state v.device) ops (state v''.device)
     lacks_reply same d print is own =
         let before = so_far.ran d print is own in
         record {
@@ -92,12 +112,14 @@ module _ {D : Type 0} (state : D → State) (v : OneFile D) (ops : List Op) wher
           split = so_far.split;
           after = before.after;
           runs = before.runs;
-          course = stays print (files d) (moment (state v.device).past) history (files before.after) (state v'.device) (state v''.device) before.course
+          course = stays print (files d) (moment (state v.device).past) history (files before.after) (state v'.device) (state v''.device)
+              before.course
               (leaves-quiet (IsImageOf print (files before.after)) (state v'.device) (state v''.device) same.past before.course.now);
         }
 
     -- the device stopped in it
-    pub stopped_in : ((d : Disk) → IsDiskOf state v' d → IsStopped state v' v'' d op) → (d : Disk) (print : Print) → IsDiskOf state v d → IsOwn print d → HasStopped print d (state v.device) ops history (state v''.device)
+    pub stopped_in : ((d : Disk) → IsDiskOf state v' d → IsStopped state v' v'' d op) → (d : Disk) (print : Print) → IsDiskOf state v d
+        → IsOwn print d → HasStopped print d (state v.device) ops history (state v''.device)
     stopped_in stops_in d print is own =
         let before = so_far.ran d print is own in
         let stop = stops_in before.after before.held in
@@ -108,11 +130,20 @@ module _ {D : Type 0} (state : D → State) (v : OneFile D) (ops : List Op) wher
           after = before.after;
           runs = before.runs;
           granted = stop.granted;
-          course = stops print (files d) (moment (state v.device).past) history (files before.after) op (state v'.device) (state v''.device) before.course stop.granted (stop.images print before.own);
+          course = stops print (files d) (moment (state v.device).past) history (files before.after) op (state v'.device) (state v''.device)
+              before.course stop.granted (stop.images print before.own);
         }
 
   -- all are run
-  pub ran_all : (history : List Entry) (v' : OneFile D) → HasRunSome state v ops history v' [] → (d : Disk) (print : Print) → IsDiskOf state v d → IsOwn print d → HasRun state print d (state v.device) ops history v'
+  pub ran_all : (history : List Entry) (v' : OneFile D) → HasRunSome state v ops history v' [] → (d : Disk) (print : Print) → IsDiskOf state v d
+      → IsOwn print d → HasRun state print d (state v.device) ops history v'
   ran_all history v' so_far d print is own =
       let ran = so_far.ran d print is own in
-      record { all = sym (so_far.split ∙ append-nil (ops_of history)); after = ran.after; runs = ran.runs; held = ran.held; own = ran.own; course = ran.course }
+      record {
+        all = sym (so_far.split ∙ append-nil (ops_of history));
+        after = ran.after;
+        runs = ran.runs;
+        held = ran.held;
+        own = ran.own;
+        course = ran.course;
+      }

@@ -7,11 +7,28 @@ use Rattle.dn_model.specs.Files.{Files, files}
 use Rattle.dn_model.specs.Own.{Print, IsOwn}
 use Rattle.dn_model.specs.Apply.{IsGranted, after_op}
 use Rattle.dn_model.specs.declared.op.Op.{Op}
-use Rattle.dn_model.specs.declared.op.Op.TheVariants.{Create, Write, Read, Cut, Remove, Rename, Size, List as ListAll}
+use Rattle.dn_model.specs.declared.op.Op.TheVariants.{
+  Create,
+  Write,
+  Read,
+  Cut,
+  Remove,
+  Rename,
+  Size,
+  List as ListAll,
+}
 use Rattle.dn_model.specs.declared.op.Reply.{Reply}
 use Rattle.dn_model.specs.declared.op.Reply.TheVariants.{Refused}
 use Rattle.dn_model.specs.declared.op.Refusal.{Refusal}
-use Rattle.dn_model.specs.declared.op.Refusal.TheVariants.{BadName, NotFound, Exists, TooLong, TooBig, NoInode, NoSpace}
+use Rattle.dn_model.specs.declared.op.Refusal.TheVariants.{
+  BadName,
+  NotFound,
+  Exists,
+  TooLong,
+  TooBig,
+  NoInode,
+  NoSpace,
+}
 use Rattle.dn_model.specs.OnCourse.{LeavesOneOf}
 use Rattle.one_file.specs.declared.write.WriteFault.{WriteFault}
 use Rattle.one_file.specs.declared.write.WriteFault.TheVariants as short
@@ -43,23 +60,29 @@ IsRefusalOf f text name (Some TooBig) = ⊥
 IsRefusalOf f text name (Some NoInode) = ⊥
 IsRefusalOf f text name (Some (NoSpace needed free)) = ⊥
 
--- What an operation does where the disk of before is this program's: the reply and the files of after are those of the
+-- What an operation does where the disk of before is this program's: the reply and the files of
+-- after are those of the
 -- map, so is the disk, and on the way a stop leaves the files of before or of after.
-pub record IsAnswered (print : Print) (d : Disk) (op : Op) (reply : Reply) (after : Disk) (s t : State) : Type 0 where
+pub record IsAnswered (print : Print) (d : Disk) (op : Op) (reply : Reply) (after : Disk)
+    (s t : State) : Type 0 where
   pub step : IsStep d op reply after
   pub own : IsOwn print after
   pub images : LeavesOneOf print (files d) (files after) s t
 
 -- The image agrees with a disk of after.
-pub record Answers {D : Type 0} (state : D → State) (v v' : OneFile D) (d : Disk) (op : Op) (reply : Reply) : Type 0 where
+pub record Answers {D : Type 0} (state : D → State) (v v' : OneFile D) (d : Disk) (op : Op)
+    (reply : Reply) : Type 0 where
   pub after : Disk
   pub held : IsDiskOf state v' after
-  pub answered : (print : Print) → IsOwn print d → IsAnswered print d op reply after (state v.device) (state v'.device)
+  pub answered : (print : Print) → IsOwn print d → IsAnswered print d op reply after
+      (state v.device) (state v'.device)
 
 -- Nothing stood in the way of the operation, and a stop leaves the files of before or of after it.
-pub record IsStopped {D : Type 0} (state : D → State) (v v' : OneFile D) (d : Disk) (op : Op) : Type 0 where
+pub record IsStopped {D : Type 0} (state : D → State) (v v' : OneFile D) (d : Disk) (op : Op) : Type
+    0 where
   pub granted : IsGranted (files d) op
-  pub images : (print : Print) → IsOwn print d → LeavesOneOf print (files d) (after_op (files d) op) (state v.device) (state v'.device)
+  pub images : (print : Print) → IsOwn print d → LeavesOneOf print (files d) (after_op (files d) op)
+      (state v.device) (state v'.device)
 
 -- what is answered where a write didn't happen
 abbrev pub FaultTells : WriteFault → Result Reply RunFault → Type 0

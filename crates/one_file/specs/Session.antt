@@ -12,9 +12,12 @@ use Rattle.dn_model.specs.declared.op.Entry.{Entry}
 use Rattle.one_file.specs.declared.file.OneFile.{OneFile}
 use Rattle.one_file.specs.Held.{IsDiskOf}
 
--- From the disk of before all these operations were run, with these replies. At each moment since then a stop leaves the
--- files after the operations that were answered, or after one more; and now the image agrees with a disk of after.
-pub record HasRun {D : Type 0} (state : D → State) (print : Print) (d : Disk) (s : State) (ops : List Op) (history : List Entry) (v : OneFile D) : Type 0 where
+-- From the disk of before all these operations were run, with these replies. At each moment since
+-- then a stop leaves the
+-- files after the operations that were answered, or after one more; and now the image agrees with a
+-- disk of after.
+pub record HasRun {D : Type 0} (state : D → State) (print : Print) (d : Disk) (s : State)
+    (ops : List Op) (history : List Entry) (v : OneFile D) : Type 0 where
   pub all : ops_of history ≡ ops
   pub after : Disk
   pub runs : Runs d history after

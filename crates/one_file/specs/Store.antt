@@ -23,34 +23,40 @@ abbrev pub KeepsRead : Disk → (ℕ → ℕ → ℕ) → Type 0
 KeepsRead d word = (page k : ℕ) → IsReadPage d page → word page k ≡ d.word page k
 
 -- The device stands for this disk without rows, in which the file may be written by this plan.
-pub record IsReadyToStore (g : Geometry) (ino size : ℕ) (map : FinMap nat_cmp Mapping) (at : ℕ) (text : List ℕ) (plan : WritePlan) (d : Disk) (s : State) : Type 0 where
+pub record IsReadyToStore (g : Geometry) (ino size : ℕ) (map : FinMap nat_cmp Mapping) (at : ℕ)
+    (text : List ℕ) (plan : WritePlan) (d : Disk) (s : State) : Type 0 where
   pub geometry : d.geometry ≡ g
   pub stands : Stands (DiskSays d) s
   pub valid : IsValid d
   pub file : IsFileOf d ino size map
   pub no_rows : (p : ℕ) → d.chain p ≡ []
-  pub may : (word : ℕ → ℕ → ℕ) → KeepsRead d word → MayWrite d ino plan.fresh.items plan.first plan.size (all_seen plan.runs.items) word
+  pub may : (word : ℕ → ℕ → ℕ) → KeepsRead d word → MayWrite d ino plan.fresh.items plan.first
+      plan.size (all_seen plan.runs.items) word
   pub first : plan.first ≡ at / 4096
   pub size_is : plan.size ≡ max size (at + length text)
   pub places : length plan.blocks.items ≡ touched at (length text)
   pub covers : places_in (all_seen plan.runs.items) ≡ length plan.blocks.items
-  pub blocks : (i : ℕ) → i < length plan.blocks.items → block_at (all_seen plan.runs.items) i ≡ slice_index plan.blocks.items i
+  pub blocks : (i : ℕ) → i < length plan.blocks.items → block_at (all_seen plan.runs.items)
+      i ≡ slice_index plan.blocks.items i
   pub few_blocks : length plan.blocks.items ≤ 17
   pub few_slots : length plan.slots.items ≤ 17
   pub few_fresh : length plan.fresh.items ≤ 1
   pub slots : spelled (run_items (all_seen plan.runs.items) plan.size) ≡ plan.slots.items
 
-pub record CanStore (g : Geometry) (ino size : ℕ) (map : FinMap nat_cmp Mapping) (at : ℕ) (text : List ℕ) (plan : WritePlan) (s : State) : Type 0 where
+pub record CanStore (g : Geometry) (ino size : ℕ) (map : FinMap nat_cmp Mapping) (at : ℕ)
+    (text : List ℕ) (plan : WritePlan) (s : State) : Type 0 where
   pub disk : Disk
   pub is : IsReadyToStore g ino size map at text plan disk s
 
 -- the disk of after a plan, with these words
 abbrev pub planned_disk : Disk → ℕ → WritePlan → (ℕ → ℕ → ℕ) → Disk
-planned_disk d ino plan word = written_disk d ino plan.fresh.items plan.size (all_seen plan.runs.items) word
+planned_disk d ino plan word = written_disk d ino plan.fresh.items plan.size
+    (all_seen plan.runs.items) word
 
 -- in the end the device stands for the disk of after
-pub record HasStored (ino at : ℕ) (text : List ℕ) (plan : WritePlan) (d : Disk) (t : State) : Type 0 where
-  pub word : ℕ → ℕ → ℕ
-  pub keeps : KeepsRead d word
-  pub stands : Stands (DiskSays (planned_disk d ino plan word)) t
-  pub written : IsWritten d ino at text (planned_disk d ino plan word)
+pub record HasStored (ino at : ℕ) (text : List ℕ) (plan : WritePlan) (d : Disk) (t : State) : Type 0
+  where
+    pub word : ℕ → ℕ → ℕ
+    pub keeps : KeepsRead d word
+    pub stands : Stands (DiskSays (planned_disk d ino plan word)) t
+    pub written : IsWritten d ino at text (planned_disk d ino plan word)

@@ -36,11 +36,14 @@ fn reply_to<D: Pm>(alloc: Global, v: &mut OneFile<D>, op: &Op) -> Result<Reply, 
     requires agrees { Agrees D.state v.old }
     requires served { IsServed op.now }
     requires room { WRITE_UNITS ≤ (D.state v.old.device).spare }
-    ensures answered { IfOk result (λ reply. (d : Disk) → IsDiskOf D.state v.old d → Answers D.state v.old v.new d op.now reply) }
-    ensures stopped { result ≡ Err RunFault.Stopped → (d : Disk) → IsDiskOf D.state v.old d → IsStopped D.state v.old v.new d op.now }
+    ensures answered { IfOk result (λ reply. (d : Disk) → IsDiskOf D.state v.old d
+        → Answers D.state v.old v.new d op.now reply) }
+    ensures stopped { result ≡ Err RunFault.Stopped → (d : Disk) → IsDiskOf D.state v.old d
+        → IsStopped D.state v.old v.new d op.now }
     ensures no_memory { result ≡ Err RunFault.NoMemory → D.state v.new.device ≡ D.state v.old.device }
     ensures faults { (D.state v.old.device).faults ≤ (D.state v.new.device).faults }
-    ensures failed { result ≡ Err RunFault.Stopped → Rose (D.state v.old.device).faults (D.state v.new.device).faults }
+    ensures failed { result ≡ Err RunFault.Stopped → Rose (D.state v.old.device).faults
+        (D.state v.new.device).faults }
 {
     match op {
         Op::Write { name, at, bytes } => answer_write(alloc, v, name, *at, bytes),
@@ -59,11 +62,15 @@ pub(crate) fn answer<D: Pm>(alloc: Global, v: &mut OneFile<D>, op: Op) -> Result
     requires served { IsServed op }
     ensures who { IfOk result (λ entry. entry.who ≡ 1) }
     ensures op { IfOk result (λ entry. entry.op ≡ op) }
-    ensures answered { IfOk result (λ entry. (d : Disk) → IsDiskOf D.state v.old d → Answers D.state v.old v.new d op entry.reply) }
-    ensures stopped { result ≡ Err RunFault.Stopped → (d : Disk) → IsDiskOf D.state v.old d → IsStopped D.state v.old v.new d op }
-    ensures no_memory { result ≡ Err RunFault.NoMemory → IsSame (D.state v.old.device) (D.state v.new.device) }
+    ensures answered { IfOk result (λ entry. (d : Disk) → IsDiskOf D.state v.old d
+        → Answers D.state v.old v.new d op entry.reply) }
+    ensures stopped { result ≡ Err RunFault.Stopped → (d : Disk) → IsDiskOf D.state v.old d
+        → IsStopped D.state v.old v.new d op }
+    ensures no_memory { result ≡ Err RunFault.NoMemory → IsSame (D.state v.old.device)
+        (D.state v.new.device) }
     ensures faults { (D.state v.old.device).faults ≤ (D.state v.new.device).faults }
-    ensures failed { result ≡ Err RunFault.Stopped → Rose (D.state v.old.device).faults (D.state v.new.device).faults }
+    ensures failed { result ≡ Err RunFault.Stopped → Rose (D.state v.old.device).faults
+        (D.state v.new.device).faults }
 {
     let Ok(()) = v.device.ready(WRITE_UNITS) else {
         return Err(RunFault::NoMemory);

@@ -22,7 +22,8 @@ pub(crate) fn answer_read<D: Pm>(
     count: u64,
 ) -> Result<Reply, RunFault>
     requires agrees { Agrees D.state v.now }
-    ensures step { IfOk result (λ reply. (d : Disk) → IsDiskOf D.state v.now d → IsStep d (Op.Read name.now at count) reply d) }
+    ensures step { IfOk result (λ reply. (d : Disk) → IsDiskOf D.state v.now d
+        → IsStep d (Op.Read name.now at count) reply d) }
     ensures fault { IfErr result (λ fault. fault ≡ RunFault.NoMemory) }
 {
     if let Some(refusal) = refusal_of_name(v, name.bytes()) {

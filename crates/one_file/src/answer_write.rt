@@ -25,7 +25,8 @@ fn refusal_of_place(at: u64, count: u64) -> Option<Refusal>
     ensures too_long { (result ≡ Some Refusal.TooLong) ↔ (65536 < count) }
     ensures too_big { (result ≡ Some Refusal.TooBig) ↔ ((count ≤ 65536) × (16777216 < at + count)) }
     ensures none { IsNone result ↔ ((count ≤ 65536) × (at + count ≤ 16777216)) }
-    ensures kinds { IfSome result (λ refusal. (refusal ≡ Refusal.TooLong) ⊎ (refusal ≡ Refusal.TooBig)) }
+    ensures kinds { IfSome result
+        (λ refusal. (refusal ≡ Refusal.TooLong) ⊎ (refusal ≡ Refusal.TooBig)) }
 {
     if count > MOST_BYTES {
         Some(Refusal::TooLong)
@@ -62,11 +63,16 @@ fn write_bytes<D: Pm>(
     requires few { length text.now ≤ 65536 }
     requires fits { at + length text.now ≤ 16777216 }
     requires room { WRITE_UNITS ≤ (D.state v.old.device).spare }
-    ensures answered { IfOk result (λ reply. (d : Disk) (name : List ℕ) → IsDiskOf D.state v.old d → IsLegal name → v.old.name ≡ name → Answers D.state v.old v.new d (Op.Write name at text.now) reply) }
-    ensures stopped { result ≡ Err RunFault.Stopped → (d : Disk) (name : List ℕ) → IsDiskOf D.state v.old d → IsLegal name → v.old.name ≡ name → IsStopped D.state v.old v.new d (Op.Write name at text.now) }
+    ensures answered { IfOk result (λ reply. (d : Disk) (name : List ℕ) → IsDiskOf D.state v.old d
+        → IsLegal name → v.old.name ≡ name → Answers D.state v.old v.new d
+        (Op.Write name at text.now) reply) }
+    ensures stopped { result ≡ Err RunFault.Stopped → (d : Disk) (name : List ℕ)
+        → IsDiskOf D.state v.old d → IsLegal name → v.old.name ≡ name
+        → IsStopped D.state v.old v.new d (Op.Write name at text.now) }
     ensures no_memory { result ≡ Err RunFault.NoMemory → D.state v.new.device ≡ D.state v.old.device }
     ensures faults { (D.state v.old.device).faults ≤ (D.state v.new.device).faults }
-    ensures failed { result ≡ Err RunFault.Stopped → Rose (D.state v.old.device).faults (D.state v.new.device).faults }
+    ensures failed { result ≡ Err RunFault.Stopped → Rose (D.state v.old.device).faults
+        (D.state v.new.device).faults }
 {
     let written = write_file(
         alloc,
@@ -101,11 +107,14 @@ pub(crate) fn answer_write<D: Pm>(
 ) -> Result<Reply, RunFault>
     requires agrees { Agrees D.state v.old }
     requires room { WRITE_UNITS ≤ (D.state v.old.device).spare }
-    ensures answered { IfOk result (λ reply. (d : Disk) → IsDiskOf D.state v.old d → Answers D.state v.old v.new d (Op.Write name.now at text.now) reply) }
-    ensures stopped { result ≡ Err RunFault.Stopped → (d : Disk) → IsDiskOf D.state v.old d → IsStopped D.state v.old v.new d (Op.Write name.now at text.now) }
+    ensures answered { IfOk result (λ reply. (d : Disk) → IsDiskOf D.state v.old d
+        → Answers D.state v.old v.new d (Op.Write name.now at text.now) reply) }
+    ensures stopped { result ≡ Err RunFault.Stopped → (d : Disk) → IsDiskOf D.state v.old d
+        → IsStopped D.state v.old v.new d (Op.Write name.now at text.now) }
     ensures no_memory { result ≡ Err RunFault.NoMemory → D.state v.new.device ≡ D.state v.old.device }
     ensures faults { (D.state v.old.device).faults ≤ (D.state v.new.device).faults }
-    ensures failed { result ≡ Err RunFault.Stopped → Rose (D.state v.old.device).faults (D.state v.new.device).faults }
+    ensures failed { result ≡ Err RunFault.Stopped → Rose (D.state v.old.device).faults
+        (D.state v.new.device).faults }
 {
     if let Some(refusal) = refusal_of_name(v, name.bytes()) {
         return Ok(Reply::Refused(refusal));

@@ -15,8 +15,10 @@ use pm_device::Pm;
 pub(crate) fn refusal_of_name<D: Pm>(v: &OneFile<D>, name: &[u8]) -> Option<Refusal>
     ensures none { IsNone result ↔ (IsLegal name.now × (v.now.name ≡ name.now)) }
     ensures bad { (result ≡ Some Refusal.BadName) ↔ (IsLegal name.now → ⊥) }
-    ensures missing { (result ≡ Some Refusal.NotFound) ↔ (IsLegal name.now × (v.now.name ≢ name.now)) }
-    ensures files { (d : Disk) → IsDiskOf D.state v.now d → IsRefusalOf (files d) (bytes d 1) name.now result }
+    ensures missing { (result ≡ Some Refusal.NotFound) ↔
+        (IsLegal name.now × (v.now.name ≢ name.now)) }
+    ensures files { (d : Disk) → IsDiskOf D.state v.now d → IsRefusalOf (files d) (bytes d 1)
+        name.now result }
 {
     if !is_legal(name) {
         Some(Refusal::BadName)

@@ -30,11 +30,17 @@ pub fn run<D: Pm>(
     requires served { All IsServed ops.items }
     requires empty { history.old.items ≡ [] }
     ensures agrees { OnOk result (Agrees D.state v.new) }
-    ensures ran { OnOk result ((d : Disk) (print : Print) → IsDiskOf D.state v.old d → IsOwn print d → HasRun D.state print d (D.state v.old.device) ops.items history.new.items v.new) }
-    ensures stopped { result ≡ Err RunFault.Stopped → (d : Disk) (print : Print) → IsDiskOf D.state v.old d → IsOwn print d → HasStopped print d (D.state v.old.device) ops.items history.new.items (D.state v.new.device) }
-    ensures no_memory { result ≡ Err RunFault.NoMemory → (d : Disk) (print : Print) → IsDiskOf D.state v.old d → IsOwn print d → LacksMemory print d (D.state v.old.device) ops.items (D.state v.new.device) }
+    ensures ran { OnOk result ((d : Disk) (print : Print) → IsDiskOf D.state v.old d → IsOwn print d
+        → HasRun D.state print d (D.state v.old.device) ops.items history.new.items v.new) }
+    ensures stopped { result ≡ Err RunFault.Stopped → (d : Disk) (print : Print)
+        → IsDiskOf D.state v.old d → IsOwn print d → HasStopped print d (D.state v.old.device)
+        ops.items history.new.items (D.state v.new.device) }
+    ensures no_memory { result ≡ Err RunFault.NoMemory → (d : Disk) (print : Print)
+        → IsDiskOf D.state v.old d → IsOwn print d → LacksMemory print d (D.state v.old.device)
+        ops.items (D.state v.new.device) }
     ensures faults { (D.state v.old.device).faults ≤ (D.state v.new.device).faults }
-    ensures failed { result ≡ Err RunFault.Stopped → Rose (D.state v.old.device).faults (D.state v.new.device).faults }
+    ensures failed { result ≡ Err RunFault.Stopped → Rose (D.state v.old.device).faults
+        (D.state v.new.device).faults }
 {
     let mut rest = ops.into_iter();
     'operations: while let Some(op) = rest.next() {

@@ -40,8 +40,11 @@ pub(crate) fn store_write<D: Pm>(
     requires fits { at + length text.now ≤ 16777216 }
     requires can { CanStore g.now ino size map.now.map at text.now plan.now (D.state device.old) }
     requires room { WRITE_UNITS ≤ (D.state device.old).spare }
-    ensures images { (d : Disk) → IsReadyToStore g.now ino size map.now.map at text.now plan.now d (D.state device.old) → LeavesWrite d ino at text.now (D.state device.old) (D.state device.new) }
-    ensures stored { OnOk result ((d : Disk) → IsReadyToStore g.now ino size map.now.map at text.now plan.now d (D.state device.old) → HasStored ino at text.now plan.now d (D.state device.new)) }
+    ensures images { (d : Disk) → IsReadyToStore g.now ino size map.now.map at text.now plan.now d
+        (D.state device.old) → LeavesWrite d ino at text.now (D.state device.old)
+        (D.state device.new) }
+    ensures stored { OnOk result ((d : Disk) → IsReadyToStore g.now ino size map.now.map at text.now
+        plan.now d (D.state device.old) → HasStored ino at text.now plan.now d (D.state device.new)) }
     ensures size { length (D.state device.new).now ≡ length (D.state device.old).now }
     ensures faults { (D.state device.old).faults ≤ (D.state device.new).faults }
     ensures failed { IsErr result → Rose (D.state device.old).faults (D.state device.new).faults }

@@ -75,12 +75,21 @@ pub fn write_file<D: Pm>(
     requires few { length text.now ≤ 65536 }
     requires fits { at + length text.now ≤ 16777216 }
     requires room { WRITE_UNITS ≤ (D.state device.old).spare }
-    ensures written { IfOk result (λ grown. (d : Disk) → IsHeld g.now ino size map.old.map free.old d (D.state device.old) → HasWritten g.now ino grown map.new.map free.new at text.now d (D.state device.old) (D.state device.new)) }
-    ensures no_space { (needed count : ℕ) → result ≡ Err (WriteFault.NoSpace needed count) → (d : Disk) → IsHeld g.now ino size map.old.map free.old d (D.state device.old) → LacksPages d ino at (length text.now) needed count free.old }
-    ensures unchanged { (needed count : ℕ) → result ≡ Err (WriteFault.NoSpace needed count) → (D.state device.new ≡ D.state device.old) × (map.new ≡ map.old) × (free.new ≡ free.old) }
-    ensures no_memory { result ≡ Err WriteFault.NoMemory → (D.state device.new ≡ D.state device.old) × (map.new.map ≡ map.old.map) × (free.new ≡ free.old) }
-    ensures images { result ≡ Err WriteFault.Stopped → (d : Disk) → IsHeld g.now ino size map.old.map free.old d (D.state device.old) → LeavesWrite d ino at text.now (D.state device.old) (D.state device.new) }
-    ensures stopped { result ≡ Err WriteFault.Stopped → Rose (D.state device.old).faults (D.state device.new).faults }
+    ensures written { IfOk result (λ grown. (d : Disk) → IsHeld g.now ino size map.old.map free.old
+        d (D.state device.old) → HasWritten g.now ino grown map.new.map free.new at text.now d
+        (D.state device.old) (D.state device.new)) }
+    ensures no_space { (needed count : ℕ) → result ≡ Err (WriteFault.NoSpace needed count)
+        → (d : Disk) → IsHeld g.now ino size map.old.map free.old d (D.state device.old)
+        → LacksPages d ino at (length text.now) needed count free.old }
+    ensures unchanged { (needed count : ℕ) → result ≡ Err (WriteFault.NoSpace needed count)
+        → (D.state device.new ≡ D.state device.old) × (map.new ≡ map.old) × (free.new ≡ free.old) }
+    ensures no_memory { result ≡ Err WriteFault.NoMemory → (D.state device.new ≡ D.state device.old)
+        × (map.new.map ≡ map.old.map) × (free.new ≡ free.old) }
+    ensures images { result ≡ Err WriteFault.Stopped → (d : Disk)
+        → IsHeld g.now ino size map.old.map free.old d (D.state device.old)
+        → LeavesWrite d ino at text.now (D.state device.old) (D.state device.new) }
+    ensures stopped { result ≡ Err WriteFault.Stopped → Rose (D.state device.old).faults
+        (D.state device.new).faults }
     ensures faults { (D.state device.old).faults ≤ (D.state device.new).faults }
 {
     let tail = device.load(g.inode_word(ino, TAIL));

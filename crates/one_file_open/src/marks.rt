@@ -6,7 +6,9 @@ ghost use Rattle.one_file_open.specs.Marks.{page_of_slot, begun_by, mapped_by, M
 ghost use Rattle.one_file_open.specs.Used.{IsScanOf, IsScanned, IsUnshared, HasTwoLeft, IsFreeBy};
 
 use crate::NoMemory;
-use file_index::{MOST_PLACES, PageMap};
+use dn_model::FEWEST_FREE;
+use file_index::PageMap;
+use log_entry::FILE_PAGES;
 use log_walk::Placed;
 use page_alloc::FreeSet;
 use pm_layout::Geometry;
@@ -70,7 +72,7 @@ fn mark_places(marks: &mut FreeSet, map: &PageMap) -> bool
     ensures marked { IsTrue result → MarksTo (mapped_by map.now.map) 4096 marks.old marks.new }
     ensures twice { IsFalse result → IsMarkedTwice (mapped_by map.now.map) 4096 marks.old }
 {
-    for idx in 0..MOST_PLACES {
+    for idx in 0..FILE_PAGES {
         if !mark(marks, block_at(map, idx)) {
             return false;
         }
@@ -150,7 +152,7 @@ pub(crate) fn free_pages(
         return Ok(None);
     };
     let free = pages_left(alloc, g, &used)?;
-    if free.count() < 2 {
+    if free.count() < FEWEST_FREE {
         return Ok(None);
     }
     Ok(Some(free))

@@ -8,16 +8,13 @@ use crate::NoMemory;
 use crate::parts::{has_table, read_slot};
 use log_entry::{LogItem, Name, read_item};
 use pm_device::Pm;
-use pm_layout::{Geometry, PAGE_WORDS};
+use pm_layout::{
+    Geometry, INODES_WORD, MAGIC, MAGIC_WORD, PAGE_WORDS, PAGES_WORD, VERSION, VERSION_WORD,
+};
 use std::alloc::Global;
 
-// The first word of an image: in bytes `DENOVA01`.
-const MAGIC: u64 = 0x3130_4156_4F4E_4544;
-
-const VERSION: u64 = 1;
-
 // The inode of the file.
-const FILE: u64 = 1;
+pub(crate) const FILE: u64 = 1;
 
 /// What an image of one file holds but for the file's log.
 #[derive(Debug, Drop)]
@@ -58,10 +55,13 @@ fn read_geometry<D: Pm>(device: &D) -> Option<Geometry>
     ensures none { IfNone result ((g : Geometry) → HasGeometry (D.state device.now).now g → ⊥) }
 {
     let words = device.words();
-    if words < 4 || device.load(0) != MAGIC || device.load(1) != VERSION {
+    if words <= INODES_WORD
+        || device.load(MAGIC_WORD) != MAGIC
+        || device.load(VERSION_WORD) != VERSION
+    {
         return None;
     }
-    let Ok(geometry) = Geometry::of(device.load(2), device.load(3)) else {
+    let Ok(geometry) = Geometry::of(device.load(PAGES_WORD), device.load(INODES_WORD)) else {
         return None;
     };
     if words == PAGE_WORDS * geometry.pages {

@@ -4,22 +4,7 @@ ghost use Rattle.one_file_open.specs.Parts.{HasGeometry, IsGateClosed, HasFirstR
 ghost use Rattle.pm_layout.specs.Geometry.{directs};
 
 use pm_device::Pm;
-use pm_layout::{Geometry, PAGE_WORDS};
-
-// The state of an inode in use.
-const LIVE: u64 = 1;
-
-// Fields of an inode.
-const STATE: u64 = 0;
-
-const HEAD: u64 = 1;
-
-const TAIL: u64 = 2;
-
-// Fields of a slot of the table of fingerprints.
-const PAGE: u64 = 0;
-
-const NEXT: u64 = 5;
+use pm_layout::{FACT_NEXT, FACT_PAGE, FREE, GATE_WORD, Geometry, HEAD, LIVE, STATE, TAIL};
 
 /// Whether all but the name and the log of the file stands as in an image of one file of this geometry.
 pub(crate) fn has_table<D: Pm>(device: &D, geometry: &Geometry) -> bool
@@ -38,7 +23,7 @@ fn is_gate_closed<D: Pm>(device: &D) -> bool
     requires { 513 ≤ length (D.state device.now).now }
     ensures { IsTrue result ↔ IsGateClosed (D.state device.now).now }
 {
-    device.load(PAGE_WORDS) == 0
+    device.load(GATE_WORD) == 0
 }
 
 fn has_first_root<D: Pm>(device: &D, geometry: &Geometry) -> bool
@@ -63,7 +48,7 @@ fn has_free_inodes<D: Pm>(device: &D, geometry: &Geometry) -> bool
     ensures { IsTrue result ↔ HasFreeInodes (D.state device.now).now geometry.now }
 {
     for ino in 2..geometry.inodes {
-        if device.load(geometry.inode_word(ino, STATE)) != 0 {
+        if device.load(geometry.inode_word(ino, STATE)) != FREE {
             return false;
         }
     }
@@ -75,8 +60,8 @@ fn is_empty_slot<D: Pm>(device: &D, geometry: &Geometry, slot: u64) -> bool
     requires direct { slot < directs geometry.now }
     ensures { IsTrue result ↔ IsEmptySlot (D.state device.now).now geometry.now slot }
 {
-    device.load(geometry.slot_word(slot, PAGE)) == 0
-        && device.load(geometry.slot_word(slot, NEXT)) == 0
+    device.load(geometry.slot_word(slot, FACT_PAGE)) == 0
+        && device.load(geometry.slot_word(slot, FACT_NEXT)) == 0
 }
 
 fn has_no_rows<D: Pm>(device: &D, geometry: &Geometry) -> bool

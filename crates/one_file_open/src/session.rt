@@ -11,7 +11,7 @@ ghost use Rattle.dn_model.specs.OneFile.{IsOneFile};
 ghost use Rattle.one_file_open.specs.Opened.{IsFileIn, HasNoFile, IsImageIn, IsOpened};
 
 use crate::marks::free_pages;
-use crate::opening::open_head;
+use crate::opening::{FILE, open_head};
 use file_index::PageMap;
 use file_scan::index_items;
 use log_entry::Name;
@@ -21,9 +21,6 @@ use pm_device::Pm;
 use pm_layout::Geometry;
 use std::alloc::Global;
 use thiserror::Error;
-
-// The inode of the file.
-const FILE: u64 = 1;
 
 /// Why an image was not opened.
 #[derive(Clone, Copy, Debug, PartialEq, Eq, Error)]

@@ -158,7 +158,7 @@ module _ (f : Row → CountWord) (who : ℕ) (d : Disk) (t : Table) (row : Row) 
   leaves_after kept = record {
     rest = rest_after;
     only = stores_only-weaken _ _ s u (λ a is. of_table (word_within a is)) only;
-    others = λ q a other out inside flushed. kept.flushed q a other (λ is. out (of_table (word_within a is))) flushed;
+    others = λ q a other out inside flushed. kept.flushed q a other (λ is. out (of_table (word_within a is))) inside flushed;
   }
 
 bytes_still : (d : Disk) (slot rfc uc page : ℕ) → page_bytes (recounted d slot rfc uc) page ≡ page_bytes d page

@@ -3,7 +3,7 @@ use Rattle.std.proofs.Common.{◌≡◌, ◌≢◌, ◌⊎◌, inl, inr, ⊎_eli
 use Rattle.std.specs.Prelude.{Option, Some, None, IsNone, Contains, if◌then◌else◌, ◌==◌}
 use Rattle.std.proofs.lemmas.Bool.{cases_eq}
 use Rattle.pm_device.specs.State.{State}
-use Rattle.pm_device.specs.Settled.{StoresOnly, KeepsFlushed, Others}
+use Rattle.pm_device.specs.Settled.{StoresOnly, KeepsFlushed, Others, SettlesAll}
 use Rattle.pm_device.specs.Commit.{IsDone}
 use Rattle.pm_layout.specs.Geometry.{inode_word}
 use Rattle.dn_model.specs.Table.{Row, row_of}
@@ -133,7 +133,7 @@ module _ (d : Disk) (b b' : Parts) (s u : State) (v : IsVolume d b s) (p : Dying
       none_listed (rows e) page is.no_row at.row (subst (λ (rs : List Row). Contains rs at.row) (sym (fall_living d p.ino p.place may).rows_same) at.at_slot.there) (sym at.page ∙ sym same)
 
   module _ (spare : s.spare ≤ u.spare + 3) (only : StoresOnly (λ a. a ≡ inode_word p.ino 3) s u) (others : KeepsFlushed (Others 16) (λ a. a ≡ inode_word p.ino 3) s u)
-      (done : IsDone 16 (inode_word p.ino 3) p.place s u) where
+      (done : IsDone 16 (inode_word p.ino 3) p.place s u) (settles : SettlesAll 16 s u) where
     moves : MovesRoom b b' s u
     moves = record {
       units = omega (arith, change.units, one_was, none_now, zero_same);
@@ -150,4 +150,4 @@ module _ (d : Disk) (b b' : Parts) (s u : State) (v : IsVolume d b s) (p : Dying
           no_row = subst (λ (rs : List Row). IsNone (row_of rs page)) (sym (fall_living d p.ino p.place may).rows_same) (⊎_elim (λ (was : IsUnused d page). was) (λ none. absurd none) is).no_row;
         })
         (λ page is. ⊎_elim (λ was. inl was) (λ same. absurd (no_page page is same)) (fall_before d p.ino p.place may page is))
-        (λ page none unused. none) counts reclaiming moves only others done
+        (λ page none unused. none) counts reclaiming moves only others done settles

@@ -6,7 +6,7 @@ use Rattle.std.specs.FinMap.{get}
 use Rattle.std.specs.VecDeque.{deque_len, deque_capacity}
 use Rattle.std.proofs.lemmas.Bool.{cases_eq}
 use Rattle.pm_device.specs.State.{State}
-use Rattle.pm_device.specs.Settled.{IsSettled, StoresOnly, KeepsFlushed, Others}
+use Rattle.pm_device.specs.Settled.{StoresOnly, KeepsFlushed, Others, SettlesAll}
 use Rattle.pm_device.specs.Commit.{IsDone}
 use Rattle.pm_layout.specs.Geometry.{inode_word}
 use Rattle.page_alloc.specs.Free.{FreePages}
@@ -28,12 +28,12 @@ use Rattle.dn_volume.specs.declared.volume.Parts.{Parts}
 use Rattle.dn_volume.specs.Inodes.{as_use, IsInodeOf, AreInodesOf}
 use Rattle.dn_volume.specs.Reclaims.{one_if, dying_units, IsReclaiming}
 use Rattle.dn_volume.specs.Agrees.{IsVolume}
+use Rattle.dn_volume.proofs.Stills.{still_settles}
 use Rattle.reclaim.specs.Worked.{Gives, EndsState, EndsInode, ChangesOne}
-use Rattle.reclaim.proofs.WorkEvent.{WorkEvent, flight_same}
+use Rattle.reclaim.proofs.WorkEvent.{WorkEvent, others_same}
 use Rattle.reclaim.proofs.NodesChanged.{nodes_are, nodes_kept}
 use Rattle.reclaim.proofs.SpaceGained.{space_gained, slots_stay}
 use Rattle.reclaim.proofs.RoomWorked.{MovesRoom, room_worked}
-use Rattle.reclaim.proofs.StillWorks.{still_works}
 use Rattle.reclaim.proofs.SteppedDisk.{step_pointers, step_leaves, step_fast}
 use Rattle.reclaim.proofs.UnitsLost.{no_places, units_dying, units_free, units_move}
 use Rattle.reclaim.proofs.FallEvent.{same_rows, other_room}
@@ -143,7 +143,7 @@ module _ (d : Disk) (b b' : Parts) (s u : State) (v : IsVolume d b s) (ino : ℕ
   ended i has = (may.before, subst (λ (j : ℕ). (d.inode j).use_of ≡ Dying may.before) (⊎_elim (λ same. same) (λ later. absurd (omega (arith, later.1))) (listed_cases ino [] i has)) may.dying)
 
   module _ (units : b.owed.units + 3 ≤ s.spare) (spare : s.spare ≤ u.spare + 3) (only : StoresOnly (λ a. a ≡ inode_word ino 0) s u) (others : KeepsFlushed (Others 16) (λ a. a ≡ inode_word ino 0) s u)
-      (done : IsDone 16 (inode_word ino 0) 0 s u) where
+      (done : IsDone 16 (inode_word ino 0) 0 s u) (settles : SettlesAll 16 s u) where
     moves : MovesRoom b b' s u
     moves = record {
       units = omega (arith, change.units, none_then, none_now, zero_same);
@@ -169,5 +169,5 @@ module _ (d : Disk) (b b' : Parts) (s u : State) (v : IsVolume d b s) (ino : ℕ
       reclaiming = reclaiming;
       pointers = step_pointers d ino Ends 0 0 (omega arith) (end_one d ino may) (end_living d ino may) may.in_table v.pointers;
       room = room_worked b b' s u change.kept moves v.room (other_room d b b' s v EndsState ino may.before may.dying change.inodes);
-      still = still_works b b' s u (λ a. a ≡ inode_word ino 0) (λ a. cases_eq a (inode_word ino 0)) only others (λ a is. subst (IsSettled u) (sym is) done.word) v.flights.clients (flight_same b b' change.kept) v.still;
+      still = still_settles 16 b b' s u settles (others_same b b' change.kept 16) v.still;
     }

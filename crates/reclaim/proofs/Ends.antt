@@ -4,12 +4,12 @@ use Rattle.dedupe_queue.specs.declared.Work.{Work}
 use Rattle.std.specs.Prelude.{if◌then◌else◌, ◌==◌, Option, Some, None, IsSome, Result, Ok, Err, IsErr, slice_index_or, vec_len, vec_capacity}
 use Rattle.std.specs.VecDeque.{deque_len}
 use Rattle.pm_device.specs.State.{State, Agree, Rose}
-use Rattle.pm_device.specs.Settled.{StoresOnly, KeepsFlushed, Others}
+use Rattle.pm_device.specs.Settled.{StoresOnly, KeepsFlushed, Others, SettlesAll}
 use Rattle.pm_layout.specs.Geometry.{slot_word}
 use Rattle.dn_model.specs.Disk.{Disk}
 use Rattle.dn_model.specs.Own.{Print}
 use Rattle.fact_counts.specs.Standing.{HasRowWith}
-use Rattle.fact_counts.specs.Counted.{down, MaySettleDown, LeavesTables, SettlesTable, SettlesOwn}
+use Rattle.fact_counts.specs.Counted.{down, MaySettleDown, LeavesTables, SettlesTable}
 use Rattle.dn_volume.specs.declared.background.DyingPlace.{DyingPlace}
 use Rattle.dn_volume.specs.declared.volume.Parts.{Parts}
 use Rattle.dn_volume.specs.declared.volume.Volume.{Volume}
@@ -112,7 +112,7 @@ module _ {D F : Type 0} (state : D → State) (w : Volume D F) (slot : ℕ) (som
 
     -- it succeeded
     module _ (word : ℕ) (change : SettlesRelease slot word w.parts w'.parts) (unchecked : w.parts.reclaiming.zero_check ≡ None) (unraised : w.parts.reclaiming.raised ≡ None)
-        (settles : SettlesTable down w.parts.fact slot (state w.device) (state w'.device)) (own : SettlesOwn w.parts.fact slot 16 (state w.device) (state w'.device))
+        (settles : SettlesTable down w.parts.fact slot (state w.device) (state w'.device)) (own : SettlesAll 16 (state w.device) (state w'.device))
         (others : KeepsFlushed (Others 16) (λ a. a ≡ slot_word w.parts.fact.geometry slot 4) (state w.device) (state w'.device))
         (is_word : IsWordAfter down (state w.device).now w.parts.fact slot word) (units : w.parts.owed.units + RELEASE_UNITS ≤ (state w.device).spare) (spare : (state w.device).spare ≤ (state w'.device).spare + 3)
         (trace_room : vec_len w.parts.trace + w.parts.owed.trace + 1 ≤ vec_capacity w.parts.trace) where

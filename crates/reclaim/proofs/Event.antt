@@ -9,7 +9,7 @@ use Rattle.std.specs.FinMap.{FinMap}
 use Rattle.std.specs.Ordering.{nat_cmp}
 use Rattle.std.specs.Cmp.Lexicographic.{slice_cmp}
 use Rattle.pm_device.specs.State.{State, Agree, Rose}
-use Rattle.pm_device.specs.Settled.{StoresOnly, KeepsFlushed, Others}
+use Rattle.pm_device.specs.Settled.{StoresOnly, KeepsFlushed, Others, SettlesAll}
 use Rattle.pm_layout.specs.declared.Geometry.{Geometry}
 use Rattle.pm_layout.specs.Geometry.{IsAccepted, slot_word, slots}
 use Rattle.fingerprint.specs.Count.{count_word}
@@ -22,7 +22,7 @@ use Rattle.law_table.specs.Changes.{recounted}
 use Rattle.law_table_on_disk.specs.CountLaws.{MayRecount}
 use Rattle.law_table_on_disk.proofs.Recounted.{recount_own}
 use Rattle.fact_table.specs.Table.{Table, IsAtSlot, HasRow}
-use Rattle.fact_counts.specs.Counted.{LeavesTables, SettlesTable, SettlesOwn, count_changed}
+use Rattle.fact_counts.specs.Counted.{LeavesTables, SettlesTable, count_changed}
 use Rattle.fact_counts.proofs.Counting.{row_kept, row_small}
 use Rattle.dn_volume.specs.declared.flight.Flight.{Flight}
 use Rattle.dn_volume.specs.declared.background.DyingPlace.{DyingPlace}
@@ -44,7 +44,6 @@ use Rattle.dn_volume.specs.Rely.{IsFor, LeavesRest, StayInHand}
 use Rattle.dn_volume.proofs.OthersStay.{others_stay}
 use Rattle.dn_volume.proofs.Tables.{is_table}
 use Rattle.dn_volume.proofs.Stills.{still_settles}
-use Rattle.dn_volume.proofs.Settling.{settles_one}
 use Rattle.dn_volume.proofs.Kept.{ops_same}
 use Rattle.reclaim.specs.Released.{KeepsParts, Stops}
 use Rattle.dn_volume.proofs.CountsMoved.{MovesCounts, counts_move}
@@ -58,7 +57,7 @@ pub record CountsOne (f : Row → CountWord) (who : ℕ) (d : Disk) (b : Parts) 
   pub only : StoresOnly (λ a. a ≡ slot_word b.fact.geometry slot 4) s u
   pub leaves : LeavesTables f b.fact slot s u
   pub settles : SettlesTable f b.fact slot s u
-  pub own : SettlesOwn b.fact slot who s u
+  pub own : SettlesAll who s u
   pub others : KeepsFlushed (Others who) (λ a. a ≡ slot_word b.fact.geometry slot 4) s u
   pub faults : s.faults ≤ u.faults
 
@@ -158,7 +157,7 @@ module _ (f : Row → CountWord) (who : ℕ) (d : Disk) (b b' : Parts) (s u : St
     pointers = no_stale_after f who d t row slot s u b.geometry is.counted.at_slot v.fast (is_table d b s v) may is.counted.only v.pointers;
     room = is.room;
     trace = names_more b b' (record { slot = slot; word = word }) is.kept.geometry is.trace (slot_small f who d b s u slot row v may is.counted.at_slot) v.trace;
-    still = still_settles who b b' s u (settles_one who (slot_word t.geometry slot 4) s u is.counted.only is.counted.others is.counted.own.word is.counted.own.flushed) is.same v.still;
+    still = still_settles who b b' s u is.counted.own is.same v.still;
   }
 
   pub traces_after : Traces d e b b'

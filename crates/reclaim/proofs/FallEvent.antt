@@ -4,7 +4,7 @@ use Rattle.std.proofs.Common.{◌≡◌, ◌≢◌, ◌⊎◌, inl, inr, ⊎_eli
 use Rattle.std.specs.Prelude.{slice_get, Option, Some, Contains}
 use Rattle.std.proofs.lemmas.Bool.{cases_eq}
 use Rattle.pm_device.specs.State.{State}
-use Rattle.pm_device.specs.Settled.{IsSettled, StoresOnly, KeepsFlushed, Others}
+use Rattle.pm_device.specs.Settled.{StoresOnly, KeepsFlushed, Others, SettlesAll}
 use Rattle.pm_device.specs.Commit.{IsDone}
 use Rattle.pm_layout.specs.Geometry.{inode_word}
 use Rattle.dn_model.specs.Table.{Row}
@@ -25,12 +25,12 @@ use Rattle.dn_volume.specs.Flights.{GrowsBy, IsFlightOf}
 use Rattle.dn_volume.specs.Balance.{AreCounted}
 use Rattle.dn_volume.specs.Reclaims.{IsReclaiming}
 use Rattle.dn_volume.specs.Agrees.{IsVolume}
+use Rattle.dn_volume.proofs.Stills.{still_settles}
 use Rattle.reclaim.specs.Worked.{FallsTo, ChangesOne, Gives, KeepsWork}
-use Rattle.reclaim.proofs.WorkEvent.{WorkEvent, flight_same}
+use Rattle.reclaim.proofs.WorkEvent.{WorkEvent, others_same}
 use Rattle.reclaim.proofs.NodesChanged.{nodes_kept}
 use Rattle.reclaim.proofs.SpaceGained.{space_gained, slots_stay}
 use Rattle.reclaim.proofs.RoomWorked.{MovesRoom, room_worked}
-use Rattle.reclaim.proofs.StillWorks.{still_works}
 use Rattle.reclaim.proofs.SteppedDisk.{step_pointers, step_leaves, step_fast}
 use Rattle.reclaim.proofs.Fallen.{fall_one, fall_living, fall_nodes}
 
@@ -64,7 +64,7 @@ module _ (d : Disk) (b b' : Parts) (s u : State) (v : IsVolume d b s) (ino cut :
   module _ (given : ℕ → Type 0) (gives : Gives given b.free b'.free) (then : (page : ℕ) → IsUnused d page ⊎ given page → IsUnused e page)
       (before : (page : ℕ) → IsUnused e page → IsUnused d page ⊎ given page) (was_used : (page : ℕ) → given page → IsUnused d page → ⊥)
       (counts : AreCounted e b') (reclaiming : IsReclaiming e b') (moves : MovesRoom b b' s u) (only : StoresOnly (λ a. a ≡ inode_word ino 3) s u)
-      (others : KeepsFlushed (Others 16) (λ a. a ≡ inode_word ino 3) s u) (done : IsDone 16 (inode_word ino 3) cut s u) where
+      (others : KeepsFlushed (Others 16) (λ a. a ≡ inode_word ino 3) s u) (done : IsDone 16 (inode_word ino 3) cut s u) (settles : SettlesAll 16 s u) where
     pub fall_event : WorkEvent (ino ∷ []) d e b b' s u
     fall_event = record {
       fast = step_fast d ino (Falls cut) 3 cut (omega arith) (fall_one d ino cut may) (fall_living d ino cut may) may.in_table s u b.geometry v.fast only done;
@@ -81,5 +81,5 @@ module _ (d : Disk) (b b' : Parts) (s u : State) (v : IsVolume d b s) (ino cut :
       reclaiming = reclaiming;
       pointers = step_pointers d ino (Falls cut) 3 cut (omega arith) (fall_one d ino cut may) (fall_living d ino cut may) may.in_table v.pointers;
       room = room_worked b b' s u kept moves v.room (other_room d b b' s v (FallsTo cut) ino may.before may.dying change);
-      still = still_works b b' s u (λ a. a ≡ inode_word ino 3) (λ a. cases_eq a (inode_word ino 3)) only others (λ a is. subst (IsSettled u) (sym is) done.word) v.flights.clients (flight_same b b' kept) v.still;
+      still = still_settles 16 b b' s u settles (others_same b b' kept 16) v.still;
     }

@@ -3,7 +3,7 @@ use Rattle.std.proofs.Common.{◌≡◌, ◌≢◌, ◌⊎◌, inl, inr, ⊎_eli
 use Rattle.std.specs.Prelude.{Option, Some, None, IsNone, Contains}
 use Rattle.std.specs.VecDeque.{deque_len, deque_capacity}
 use Rattle.pm_device.specs.State.{State}
-use Rattle.pm_device.specs.Settled.{StoresOnly, KeepsFlushed, Others}
+use Rattle.pm_device.specs.Settled.{StoresOnly, KeepsFlushed, Others, SettlesAll}
 use Rattle.pm_device.specs.Commit.{IsDone}
 use Rattle.pm_layout.specs.Geometry.{inode_word}
 use Rattle.dn_model.specs.Table.{Row, row_of}
@@ -74,7 +74,7 @@ module _ (d : Disk) (b b' : Parts) (s u : State) (v : IsVolume d b s) (ino place
   }
 
   module _ (units : b.owed.units + 3 ≤ s.spare) (spare : s.spare ≤ u.spare + 3) (only : StoresOnly (λ a. a ≡ inode_word ino 3) s u) (others : KeepsFlushed (Others 16) (λ a. a ≡ inode_word ino 3) s u)
-      (done : IsDone 16 (inode_word ino 3) place s u) where
+      (done : IsDone 16 (inode_word ino 3) place s u) (settles : SettlesAll 16 s u) where
     moves : MovesRoom b b' s u
     moves = record {
       units = omega (arith, change.units, none_then, none_now, zero_same);
@@ -91,4 +91,4 @@ module _ (d : Disk) (b b' : Parts) (s u : State) (v : IsVolume d b s) (ino place
         (λ p same. fall_used d ino place may p (same ∙ sym last.block))
         (counts_stay d e b b' change.kept change.zero_check change.raised change.releases (fall_living d ino place may).rows_same
         (λ row has. (fall_drops d ino place may).others row.page (λ same. none row has (same ∙ last.block))) v.counts)
-        reclaiming moves only others done
+        reclaiming moves only others done settles

@@ -13,7 +13,6 @@ pub mod ShareEnds
 pub mod Roomy
 pub mod RoomThen
 pub mod WorkEvent
-pub mod StillWorks
 pub mod NodesChanged
 pub mod SpaceGained
 pub mod RoomWorked

@@ -4,7 +4,7 @@ use Rattle.std.specs.Prelude.{slice_get, Option, Some, None, vec_len, vec_capaci
 use Rattle.std.specs.VecDeque.{deque_len, deque_capacity}
 use Rattle.std.proofs.lemmas.Bool.{cases_eq}
 use Rattle.pm_device.specs.State.{State, Agree, Rose}
-use Rattle.pm_device.specs.Settled.{StoresOnly, KeepsFlushed, Others}
+use Rattle.pm_device.specs.Settled.{StoresOnly, KeepsFlushed, Others, SettlesAll}
 use Rattle.pm_layout.specs.Geometry.{slot_word}
 use Rattle.dn_model.specs.Table.{Row}
 use Rattle.dn_model.specs.Disk.{Disk}
@@ -17,7 +17,7 @@ use Rattle.law_table.proofs.Counted.{recounts_rows}
 use Rattle.law_table_on_disk.proofs.Frame.{maps_same}
 use Rattle.fact_table.specs.Table.{IsAtSlot, HasRow}
 use Rattle.fact_counts.specs.Standing.{HasRowWith}
-use Rattle.fact_counts.specs.Counted.{raised as raised_counts, MayRaise, LeavesTables, SettlesTable, SettlesOwn, count_changed}
+use Rattle.fact_counts.specs.Counted.{raised as raised_counts, MayRaise, LeavesTables, SettlesTable, count_changed}
 use Rattle.dn_volume.specs.declared.units.TheConstants.{FALL_UNITS}
 use Rattle.reclaim.specs.declared.release.TheConstants.{RELEASE_UNITS}
 use Rattle.dn_volume.specs.declared.flight.Flight.{Flight}
@@ -219,7 +219,7 @@ module _ {D F : Type 0} (state : D → State) (w : Volume D F) (p : DyingPlace) 
         event_breaks state print raised_counts 16 w w' d p.slot 0 at.row v at.at_slot may stops only agree leaves faults rose
 
     module _ (word : ℕ) (change : RaisesPlace p word w.parts w'.parts) (unraised : w.parts.reclaiming.raised ≡ None) (none_wait : deque_len w.parts.reclaiming.releases ≡ 0)
-        (settles : SettlesTable raised_counts w.parts.fact p.slot (state w.device) (state w'.device)) (own : SettlesOwn w.parts.fact p.slot 16 (state w.device) (state w'.device))
+        (settles : SettlesTable raised_counts w.parts.fact p.slot (state w.device) (state w'.device)) (own : SettlesAll 16 (state w.device) (state w'.device))
         (others : KeepsFlushed (Others 16) (λ a. a ≡ slot_word w.parts.fact.geometry p.slot 4) (state w.device) (state w'.device)) (is_word : IsWordAfter raised_counts (state w.device).now w.parts.fact p.slot word)
         (room : HasRoomFor state w) (spare : (state w.device).spare ≤ (state w'.device).spare + 3) where
       no_items : w.parts.reclaiming.releases.items ≡ []

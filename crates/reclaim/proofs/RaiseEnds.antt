@@ -2,7 +2,7 @@
 use Rattle.std.proofs.Common.{◌≡◌, ◌≢◌, ℕ, ◌+◌, ◌-◌, ◌<◌, ◌≤◌, Bool, false, length, refl, sym, ◌∙◌, ap, subst, arith}
 use Rattle.std.specs.Prelude.{slice_index, Option, Some, None, if◌then◌else◌, vec_len, vec_capacity}
 use Rattle.pm_device.specs.State.{State, Agree, Rose}
-use Rattle.pm_device.specs.Settled.{StoresOnly, KeepsFlushed, Others}
+use Rattle.pm_device.specs.Settled.{StoresOnly, KeepsFlushed, Others, SettlesAll}
 use Rattle.pm_layout.specs.Geometry.{slot_word}
 use Rattle.dn_model.specs.Disk.{Disk}
 use Rattle.dn_model.specs.Own.{Print}
@@ -12,7 +12,7 @@ use Rattle.law_table_on_disk.specs.CountLaws.{MayRecount}
 use Rattle.law_table_on_disk.proofs.Balanced.{raise_balance}
 use Rattle.fact_table.specs.Table.{HasRow}
 use Rattle.fact_counts.specs.Standing.{HasRowWith}
-use Rattle.fact_counts.specs.Counted.{raised, MayRaise, LeavesTables, SettlesTable, SettlesOwn}
+use Rattle.fact_counts.specs.Counted.{raised, MayRaise, LeavesTables, SettlesTable}
 use Rattle.dn_volume.specs.declared.flight.Flight.{Flight}
 use Rattle.dn_volume.specs.declared.volume.Parts.{Parts}
 use Rattle.dn_volume.specs.declared.volume.Volume.{Volume}
@@ -87,7 +87,7 @@ module _ {D F : Type 0} (state : D → State) (w : Volume D F) (who slot : ℕ) 
 
     -- it succeeded
     module _ (word : ℕ) (change : RaisesOne who slot word w.parts w'.parts) (settles : SettlesTable raised w.parts.fact slot (state w.device) (state w'.device))
-        (own : SettlesOwn w.parts.fact slot who (state w.device) (state w'.device))
+        (own : SettlesAll who (state w.device) (state w'.device))
         (others : KeepsFlushed (Others who) (λ a. a ≡ slot_word w.parts.fact.geometry slot 4) (state w.device) (state w'.device))
         (is_word : IsWordAfter raised (state w.device).now w.parts.fact slot word) (spare : (state w.device).spare ≤ (state w'.device).spare + 3) where
       pub raise_moves : (print : Print) (d : Disk) → IsVolume d w.parts (state w.device) → MovesOn state print who w w' d

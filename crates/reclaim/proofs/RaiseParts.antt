@@ -296,8 +296,7 @@ module _ (d : Disk) (b b' : Parts) (s u : State) (v : IsVolume d b s) (who slot 
         rest = leaves_rest.rest;
         only = leaves_rest.only;
         others = λ q a ne out inside flushed. elim (cases_eq q who) [
-          | inl me ↦ settled_is_flushed u q a (counted.own.flushed a inside (subst (λ (x : ℕ). IsFlushed x s a) me flushed)
-              (λ at. out (of_table (word_within raised_row who d b.fact row slot s u b.geometry counted.at_slot v.fast (is_table d b s v) may.may counted.only a at))))
+          | inl me ↦ settled_is_flushed u q a (counted.own.own a inside (subst (λ (x : ℕ). IsFlushed x s a) me flushed))
           | inr other ↦ leaves_rest.others q a other out inside flushed
         ];
       }

@@ -87,7 +87,7 @@ module _ (d : Disk) (b c : Parts) (s t : State) (v : IsVolume d b s) (same : IsS
       counting = λ row has some. record { still = row; there = has; slot = refl; page = refl; print = refl };
     };
     only = stores_only-same (IsWordOf [] [] d) s t agree same;
-    others = λ q a ne out inside flushed. (keeps-same Anyone (λ x. ⊥) s t same).flushed q a tt (λ no. no) flushed;
+    others = λ q a ne out inside flushed. (keeps-same Anyone (λ x. ⊥) s t same).flushed q a tt (λ no. no) inside flushed;
   }
 
   for_it : IsFor d b 16 [] []

@@ -2,12 +2,12 @@
 use Rattle.std.proofs.Common.{◌≡◌, ℕ, ◌+◌, ◌-◌, ◌*◌, ◌<◌, ◌≤◌, Bool, true, false, List, length, refl, ◌∙◌, ap, subst, arith}
 use Rattle.std.specs.Prelude.{Option, None, Some, if◌then◌else◌, nat_lt, vec_len, vec_capacity}
 use Rattle.pm_device.specs.State.{State, Agree, Rose}
-use Rattle.pm_device.specs.Settled.{StoresOnly, KeepsFlushed, Others}
+use Rattle.pm_device.specs.Settled.{StoresOnly, KeepsFlushed, Others, SettlesAll}
 use Rattle.pm_layout.specs.Geometry.{slot_word}
 use Rattle.dn_model.specs.Disk.{Disk}
 use Rattle.dn_model.specs.Own.{Print}
 use Rattle.fact_counts.specs.Standing.{HasRowWith}
-use Rattle.fact_counts.specs.Counted.{up, MaySettleUp, LeavesTables, SettlesTable, SettlesOwn}
+use Rattle.fact_counts.specs.Counted.{up, MaySettleUp, LeavesTables, SettlesTable}
 use Rattle.dn_volume.specs.declared.background.Sharing.{Sharing}
 use Rattle.dn_volume.specs.declared.volume.Volume.{Volume}
 use Rattle.dn_volume.specs.Agrees.{IsVolume, Agrees, agrees_with, is_stopped}
@@ -107,7 +107,7 @@ module _ {D F : Type 0} (state : D → State) (w : Volume D F) (slot : ℕ) (to 
           let has = to_settle d w.parts (state w.device) v slot to in
           event_breaks state print up 15 w w' d slot 0 has.row v has.at_slot (settle_recounts d w.parts (state w.device) v slot to) stops only agree leaves faults rose
 
-    module _ (word : ℕ) (change : SettlesShare slot word w.parts w'.parts) (settles : SettlesTable up w.parts.fact slot (state w.device) (state w'.device)) (own : SettlesOwn w.parts.fact slot 15 (state w.device) (state w'.device))
+    module _ (word : ℕ) (change : SettlesShare slot word w.parts w'.parts) (settles : SettlesTable up w.parts.fact slot (state w.device) (state w'.device)) (own : SettlesAll 15 (state w.device) (state w'.device))
         (others : KeepsFlushed (Others 15) (λ a. a ≡ slot_word w.parts.fact.geometry slot 4) (state w.device) (state w'.device))
         (is_word : IsWordAfter up (state w.device).now w.parts.fact slot word) (spare : (state w.device).spare ≤ (state w'.device).spare + 3) where
       pub share_moves : (print : Print) (d : Disk) → IsVolume d w.parts (state w.device) → MovesOn state print 15 w w' d

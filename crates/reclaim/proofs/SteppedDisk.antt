@@ -86,7 +86,7 @@ module _ (d : Disk) (ino : ℕ) (step : Step) (field value : ℕ) (small : field
     step_leaves others = record {
       rest = keeps_rest;
       only = stores_only-weaken _ _ s u word_of only;
-      others = λ q a ne out inside flushed. others.flushed q a ne (λ is. out (word_of a is)) flushed;
+      others = λ q a ne out inside flushed. others.flushed q a ne (λ is. out (word_of a is)) inside flushed;
     }
       where
         word_of : (a : ℕ) → a ≡ inode_word ino field → IsWordOf (ino ∷ []) [] d a

@@ -3,7 +3,7 @@ use Rattle.std.proofs.Common.{◌≡◌, ◌⊎◌, ℕ, ◌+◌, ◌*◌, ◌/�
 use Rattle.std.specs.Prelude.{Option, Some, None, Contains}
 use Rattle.std.specs.VecDeque.{deque_len, deque_capacity}
 use Rattle.pm_device.specs.State.{State, Agree, Rose}
-use Rattle.pm_device.specs.Settled.{IsSettled, LeavesOnly, StoresOnly, KeepsFlushed, Others}
+use Rattle.pm_device.specs.Settled.{IsSettled, LeavesOnly, StoresOnly, KeepsFlushed, Others, SettlesAll}
 use Rattle.pm_device.specs.Commit.{IsDone, LeavesOneWord}
 use Rattle.pm_layout.specs.declared.Geometry.{Geometry}
 use Rattle.pm_layout.specs.Geometry.{inode_word}
@@ -126,9 +126,9 @@ module _ {D F : Type 0} (state : D → State) (w : Volume D F) where
           step_shown d p.ino (Falls p.place) 3 p.place (omega arith) (fall_one d p.ino p.place may) (fall_living d p.ino p.place may) may.in_table (state w.device) (state w'.device) w.parts.geometry v.fast sets.only print
           (own_kept d p.ino (Falls p.place) (fall_steps d p.ino p.place may) print) agree sets.faults sets.any_moment
 
-      pub drop_moves : IsDone 16 (inode_word p.ino 3) p.place (state w.device) (state w'.device) → DropsPlace p w.parts w'.parts → MovesOn state print 16 w w' d
-      drop_moves done change = work_moves state print w w' d (stepped d p.ino (Falls p.place)) v drop_shown (p.ino ∷ [])
-          (drop_event d w.parts w'.parts (state w.device) (state w'.device) v p raised_is change sets.spare sets.only sets.others done)
+      pub drop_moves : IsDone 16 (inode_word p.ino 3) p.place (state w.device) (state w'.device) → SettlesAll 16 (state w.device) (state w'.device) → DropsPlace p w.parts w'.parts → MovesOn state print 16 w w' d
+      drop_moves done settles change = work_moves state print w w' d (stepped d p.ino (Falls p.place)) v drop_shown (p.ino ∷ [])
+          (drop_event d w.parts w'.parts (state w.device) (state w'.device) v p raised_is change sets.spare sets.only sets.others done settles)
 
       pub drop_breaks : Stops w.parts w'.parts → Rose (state w.device).faults (state w'.device).faults → Breaks state print 16 None w w' d
       drop_breaks stops rose = work_breaks state print w w' d (stepped d p.ino (Falls p.place)) v drop_shown stops (λ a. a ≡ inode_word p.ino 3) sets.only (λ a low is. omega (arith, low, is)) rose
@@ -179,9 +179,9 @@ module _ {D F : Type 0} (state : D → State) (w : Volume D F) where
           step_shown d ino (Falls place) 3 place (omega arith) (fall_one d ino place may) (fall_living d ino place may) may.in_table (state w.device) (state w'.device) w.parts.geometry v.fast sets.only print
           (own_kept d ino (Falls place) (fall_steps d ino place may) print) agree sets.faults sets.any_moment
 
-      pub free_moves : IsDone 16 (inode_word ino 3) place (state w.device) (state w'.device) → w.parts.owed.units + 3 ≤ (state w.device).spare → FreesPlace ino place page w.parts w'.parts → MovesOn state print 16 w w' d
-      free_moves done units change = work_moves state print w w' d (stepped d ino (Falls place)) v free_shown (ino ∷ [])
-          (free_event d w.parts w'.parts (state w.device) (state w'.device) v ino place page (last_of d v) (none_of d v) unraised change units sets.spare sets.only sets.others done)
+      pub free_moves : IsDone 16 (inode_word ino 3) place (state w.device) (state w'.device) → SettlesAll 16 (state w.device) (state w'.device) → w.parts.owed.units + 3 ≤ (state w.device).spare → FreesPlace ino place page w.parts w'.parts → MovesOn state print 16 w w' d
+      free_moves done settles units change = work_moves state print w w' d (stepped d ino (Falls place)) v free_shown (ino ∷ [])
+          (free_event d w.parts w'.parts (state w.device) (state w'.device) v ino place page (last_of d v) (none_of d v) unraised change units sets.spare sets.only sets.others done settles)
 
       pub free_breaks : Stops w.parts w'.parts → Rose (state w.device).faults (state w'.device).faults → Breaks state print 16 None w w' d
       free_breaks stops rose = work_breaks state print w w' d (stepped d ino (Falls place)) v free_shown stops (λ a. a ≡ inode_word ino 3) sets.only (λ a low is. omega (arith, low, is)) rose
@@ -219,10 +219,10 @@ module _ {D F : Type 0} (state : D → State) (w : Volume D F) where
           step_shown d ino Ends 0 0 (omega arith) (end_one d ino may) (end_living d ino may) may.in_table (state w.device) (state w'.device) w.parts.geometry v.fast sets.only print
           (own_kept d ino Ends (end_steps d ino may) print) agree sets.faults sets.any_moment
 
-      pub end_moves : IsDone 16 (inode_word ino 0) 0 (state w.device) (state w'.device) → w.parts.owed.units + 3 ≤ (state w.device).spare → EndsInode ino w.parts w'.parts
+      pub end_moves : IsDone 16 (inode_word ino 0) 0 (state w.device) (state w'.device) → SettlesAll 16 (state w.device) (state w'.device) → w.parts.owed.units + 3 ≤ (state w.device).spare → EndsInode ino w.parts w'.parts
           → Gives (Contains (d.inode ino).log.pages) w.parts.free w'.parts.free → MovesOn state print 16 w w' d
-      end_moves done units change gives = work_moves state print w w' d (stepped d ino Ends) v end_shown (ino ∷ [])
-          (end_event d w.parts w'.parts (state w.device) (state w'.device) v ino (ends_of d v) unraised change gives units sets.spare sets.only sets.others done)
+      end_moves done settles units change gives = work_moves state print w w' d (stepped d ino Ends) v end_shown (ino ∷ [])
+          (end_event d w.parts w'.parts (state w.device) (state w'.device) v ino (ends_of d v) unraised change gives units sets.spare sets.only sets.others done settles)
 
       pub end_breaks : Stops w.parts w'.parts → Rose (state w.device).faults (state w'.device).faults → Breaks state print 16 None w w' d
       end_breaks stops rose = work_breaks state print w w' d (stepped d ino Ends) v end_shown stops (λ a. a ≡ inode_word ino 0) sets.only (λ a low is. omega (arith, low, is)) rose

@@ -30,7 +30,6 @@ use Rattle.dn_volume.specs.Accounts.{AccountsFor}
 use Rattle.dn_volume.specs.Agrees.{StandsFast, IsVolume, IsStopped, NamesSlots, HasHead, HasNoStale}
 use Rattle.dn_volume.specs.Events.{IsBetween, Counts, Moves, MovesOn, Breaks, word_at}
 use Rattle.dn_volume.specs.Rely.{IsFor, LeavesRest, StayInHand}
-use Rattle.dn_volume.specs.StillLaws.{SettlesAll}
 use Rattle.dn_volume.specs.Stills.{IsStillBut}
 use Rattle.dn_volume.proofs.Heads.{head_of, head_kept}
 use Rattle.dn_volume.proofs.Kept.{ops_same}

@@ -2,6 +2,7 @@
 use Rattle.std.proofs.Common.{◌≡◌, ◌⊎◌, ⊎_elim, ℕ, ◌+◌, ◌*◌, ◌<◌, ◌≤◌, false, List, [], length, refl, sym, ◌∙◌, ap, subst, arith}
 use Rattle.std.specs.Prelude.{Option, Some, None, Contains}
 use Rattle.pm_device.specs.State.{State, Agree, Rose}
+use Rattle.pm_device.specs.Settled.{SettlesAll}
 use Rattle.pm_device.specs.Reading.{Stands}
 use Rattle.pm_layout.specs.Geometry.{slots}
 use Rattle.page_alloc.specs.Free.{FreePages}
@@ -108,8 +109,8 @@ module _ {D F : Type 0} (state : D → State) (w : Volume D F) (slot : ℕ) (pen
         gone_breaks stops rose = work_breaks state print w w' d (cleared d has.row) v shown stops (IsRemoveWord d has.row) (only d has.row may) (remove_high d w.parts (state w.device) (state w'.device) v slot has.row has.is zero_is.no_reference zero_is.no_update) rose
 
         pub gone_moves : Checks w.parts w'.parts → KeepsThrough 16 w.parts.fact slot (state w.device) (state w'.device) → MakesRemoved w.parts.fact w'.parts.fact slot (state w.device) (state w'.device)
-            → SettlesRemoved w.parts.fact slot (state w.device) (state w'.device) → Gives (λ p. p ≡ page) w.parts.free w'.parts.free → (state w.device).spare ≤ (state w'.device).spare + 6 → MovesOn state print 16 w w' d
-        gone_moves checks others makes settles gives spare =
+            → SettlesRemoved w.parts.fact slot (state w.device) (state w'.device) → Gives (λ p. p ≡ page) w.parts.free w'.parts.free → (state w.device).spare ≤ (state w'.device).spare + 6 → SettlesAll 16 (state w.device) (state w'.device) → MovesOn state print 16 w w' d
+        gone_moves checks others makes settles gives spare own =
             work_moves state print w w' d (cleared d has.row) v shown []
             (gone_event d w.parts (state w.device) (state w'.device) v slot has.row has.is zero_is.no_reference zero_is.no_update (only d has.row may) w'.parts pending checks (others d has.row may)
-            (settles d has.row may table_stands) (makes d has.row may) (subst (λ (q : ℕ). Gives (λ p. p ≡ q) w.parts.free w'.parts.free) (sym zero_is.page_is) gives) spare)
+            (settles d has.row may table_stands) (makes d has.row may) (subst (λ (q : ℕ). Gives (λ p. p ≡ q) w.parts.free w'.parts.free) (sym zero_is.page_is) gives) spare own)

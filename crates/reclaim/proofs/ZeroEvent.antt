@@ -4,7 +4,7 @@ use Rattle.std.specs.Prelude.{slice_get, Option, Some, None, Contains, if◌then
 use Rattle.std.proofs.lemmas.Bool.{cases_eq}
 use Rattle.pm_device.specs.Past.{Left, moment}
 use Rattle.pm_device.specs.State.{State, Agree}
-use Rattle.pm_device.specs.Settled.{IsSettled, LeavesOnly, StoresOnly, KeepsFlushed, Others}
+use Rattle.pm_device.specs.Settled.{LeavesOnly, StoresOnly, KeepsFlushed, Others, SettlesAll}
 use Rattle.pm_device.specs.Reading.{Stands}
 use Rattle.pm_device.specs.Words.{IsIn}
 use Rattle.pm_device.proofs.Moments.{leaves_only-weaken}
@@ -37,18 +37,17 @@ use Rattle.dn_volume.specs.Reclaims.{one_if, dying_units}
 use Rattle.dn_volume.specs.Agrees.{StandsFast, HasNoStale, IsVolume}
 use Rattle.dn_volume.specs.Events.{IsBetween}
 use Rattle.dn_volume.specs.Rely.{IsWordOf, of_table, LeavesRest}
-use Rattle.dn_volume.proofs.Granted.{Decides}
+use Rattle.dn_volume.proofs.Stills.{still_same, still_settles}
 use Rattle.dn_volume.proofs.Hands.{names_stay, inodes_stay, dying_same, table_stays}
 use Rattle.dn_volume.proofs.InHand.{raised_stays}
 use Rattle.dn_volume.proofs.Kept.{quiet_accounts}
 use Rattle.dn_volume.proofs.MappingsMoved.{going_counted}
 use Rattle.dn_volume.proofs.Tables.{is_table}
 use Rattle.reclaim.specs.Worked.{Gives, Checks}
-use Rattle.reclaim.proofs.WorkEvent.{WorkEvent, WorkShown, flight_same}
+use Rattle.reclaim.proofs.WorkEvent.{WorkEvent, WorkShown, flies_on, others_same}
 use Rattle.reclaim.proofs.NodesChanged.{nodes_same}
 use Rattle.reclaim.proofs.SpaceGained.{space_gained, slots_stay, gives_none}
 use Rattle.reclaim.proofs.RoomWorked.{room_worked}
-use Rattle.reclaim.proofs.StillWorks.{still_works}
 use Rattle.reclaim.proofs.ZeroDisk.{unmapped, gone, gone_next, removed_next, removed_own, gone_own, gone_then, gone_before, gone_used, gone_rest, gone_accounts, gone_words}
 use Rattle.reclaim.proofs.Zeroed.{under_way, one_was, none_now, raised_one, long_same, few_still, zero_moves, counts_again, images_now, before_at, without_kept, next_told}
 
@@ -92,8 +91,7 @@ module _ (d : Disk) (b b' : Parts) (s : State) (v : IsVolume d b s) (slot : ℕ)
       pointers = v.pointers;
       room = room_worked b b' s s checks.kept (zero_moves b b' slot pending checks d s s v (omega arith)) v.room
           (λ who f c y flies is at. v.room.places who f c y flies is (ap (λ (ns : List InodeState). slice_get ns f.ino) (sym zero_inodes) ∙ at));
-      still = still_works b b' s s (λ a. ⊥) (λ a. inr (λ none. none)) (stores_only-none (λ a. ⊥) s agree) (record { flushed = λ q a other out flushed. flushed }) (λ a none. absurd none) v.flights.clients
-          (flight_same b b' checks.kept) v.still;
+      still = still_same b b' s s (record { now = refl; past = refl; faults = refl }) (flies_on b b' checks.kept) v.still;
     }
       where
         no_check : (x : ℕ) (o : Option ℕ) → o ≡ None → o ≡ Some x → ⊥
@@ -212,16 +210,13 @@ module _ (d : Disk) (b : Parts) (s u : State) (v : IsVolume d b s) (slot : ℕ) 
         }
 
     module _ (b' : Parts) (pending : b.reclaiming.zero_check ≡ Some slot) (checks : Checks b b') (others : KeepsFlushed (Others 16) (IsRemoveWord d row) s u) (settles : Stands (TableSays e) u)
-        (table : IsTable e u.now b'.fact) (gives : Gives (λ p. p ≡ row.page) b.free b'.free) (spare : s.spare ≤ u.spare + 6) where
+        (table : IsTable e u.now b'.fact) (gives : Gives (λ p. p ≡ row.page) b.free b'.free) (spare : s.spare ≤ u.spare + 6) (own : SettlesAll 16 s u) where
       leaves_rest : LeavesRest 16 [] [] d e s u
       leaves_rest = record {
         rest = gone_rest d row v.fast.valid at_slot.there no_reference no_update;
         only = stores_only-weaken _ _ s u (λ a is. of_table (within a is)) only;
-        others = λ q a ne out inside flushed. others.flushed q a ne (λ is. out (of_table (within a is))) flushed;
+        others = λ q a ne out inside flushed. others.flushed q a ne (λ is. out (of_table (within a is))) inside flushed;
       }
-
-      decide : (a : ℕ) → Decides (IsRemoveWord d row a)
-      decide a = ⊎_elim (λ gate. inl (inl gate)) (λ not. ⊎_elim (λ pointer. inl (inr pointer)) (λ neither. inr (λ is. ⊎_elim not neither is)) (cases_eq a (pointer_word d.geometry row.page))) (cases_eq a (deciding_word d row))
 
       row_left : (x : ℕ) → b'.reclaiming.zero_check ≡ Some x → HasRow e x
       row_left x is = absurd (no_check b'.reclaiming.zero_check checks.zero_check is)
@@ -260,5 +255,5 @@ module _ (d : Disk) (b : Parts) (s u : State) (v : IsVolume d b s) (slot : ℕ) 
         pointers = none_stale;
         room = room_worked b b' s u checks.kept (zero_moves b b' slot pending checks d s u v spare) v.room
             (λ who f c y flies is at. v.room.places who f c y flies is (ap (λ (ns : _). slice_get ns.items f.ino) (sym checks.inodes) ∙ at));
-        still = still_works b b' s u (IsRemoveWord d row) decide only others (λ a is. let told = word_told a is in settles.settled a told.0 told.1) v.flights.clients (flight_same b b' checks.kept) v.still;
+        still = still_settles 16 b b' s u own (others_same b b' checks.kept 16) v.still;
       }

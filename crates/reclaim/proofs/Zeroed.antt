@@ -37,7 +37,6 @@ use Rattle.dn_volume.specs.Events.{IsBetween}
 use Rattle.dn_volume.specs.Stills.{IsStillBut}
 use Rattle.dn_volume.proofs.Between.{old_or_new}
 use Rattle.dn_volume.proofs.CountsMoved.{SameUnderWay}
-use Rattle.dn_volume.proofs.Granted.{Decides}
 use Rattle.dn_volume.proofs.HandsKept.{owed_same, raised_same}
 use Rattle.dn_volume.proofs.Tables.{is_table}
 use Rattle.reclaim.specs.Released.{Stops}

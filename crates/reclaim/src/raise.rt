@@ -1,11 +1,11 @@
 // An operation in flight raises the next of its rows.
 ghost use Rattle.std.specs.Prelude.{◌≡◌, ℕ, ◌+◌, ◌-◌, ◌<◌, ◌≤◌, false, length, Some, OnOk, IfOk, IsErr, slice_index, vec_len, vec_capacity};
 ghost use Rattle.pm_device.specs.State.{Rose};
-ghost use Rattle.pm_device.specs.Settled.{StoresOnly, KeepsFlushed, Others};
+ghost use Rattle.pm_device.specs.Settled.{StoresOnly, KeepsFlushed, Others, SettlesAll};
 ghost use Rattle.pm_layout.specs.Geometry.{slot_word};
 ghost use Rattle.dn_model.specs.Disk.{Disk};
 ghost use Rattle.fact_counts.specs.Standing.{HasRowWith};
-ghost use Rattle.fact_counts.specs.Counted.{raised, MayRaise, SettlesTable, SettlesOwn, LeavesTables};
+ghost use Rattle.fact_counts.specs.Counted.{raised, MayRaise, SettlesTable, LeavesTables};
 ghost use Rattle.dn_volume.specs.declared.flight.Flight.{Flight as KeptFlight};
 ghost use Rattle.dn_volume.specs.Parties.{Flies};
 ghost use Rattle.dn_volume.specs.Flights.{left_of};
@@ -27,7 +27,7 @@ pub(crate) fn raise_at<D: Pm>(fact: &Fact, device: &mut D, who: u32, slot: u64) 
     requires room { 3 ≤ (D.state device.old).spare }
     ensures images { LeavesTables raised fact.now slot (D.state device.old) (D.state device.new) }
     ensures settled { OnOk result (SettlesTable raised fact.now slot (D.state device.old) (D.state device.new)) }
-    ensures own { OnOk result (SettlesOwn fact.now slot who (D.state device.old) (D.state device.new)) }
+    ensures settles { OnOk result (SettlesAll who (D.state device.old) (D.state device.new)) }
     ensures word { IfOk result (λ word. IsWordAfter raised (D.state device.old).now fact.now slot word) }
     ensures only { StoresOnly (λ a. a ≡ slot_word fact.now.geometry slot 4) (D.state device.old) (D.state device.new) }
     ensures others { KeepsFlushed (Others who) (λ a. a ≡ slot_word fact.now.geometry slot 4) (D.state device.old) (D.state device.new) }

@@ -2,11 +2,11 @@
 ghost use Rattle.std.specs.Prelude.{◌≡◌, ℕ, ◌+◌, ◌^◌, ◌<◌, ◌≤◌, false, None, OnOk, IfOk, IsErr, vec_len, vec_capacity, slice_index_or};
 ghost use Rattle.std.specs.VecDeque.{deque_len};
 ghost use Rattle.pm_device.specs.State.{Rose};
-ghost use Rattle.pm_device.specs.Settled.{StoresOnly, KeepsFlushed, Others};
+ghost use Rattle.pm_device.specs.Settled.{StoresOnly, KeepsFlushed, Others, SettlesAll};
 ghost use Rattle.pm_layout.specs.Geometry.{slot_word};
 ghost use Rattle.dn_model.specs.Disk.{Disk};
 ghost use Rattle.fact_counts.specs.Standing.{HasRowWith};
-ghost use Rattle.fact_counts.specs.Counted.{down, MaySettleDown, SettlesTable, SettlesOwn, LeavesTables};
+ghost use Rattle.fact_counts.specs.Counted.{down, MaySettleDown, SettlesTable, LeavesTables};
 ghost use Rattle.dn_volume.specs.Agrees.{Agrees, IsVolume};
 ghost use Rattle.dn_volume.specs.Works.{ReclaimWorks};
 ghost use Rattle.reclaim.specs.Released.{SettlesRelease, Stops, IsWordAfter};
@@ -28,7 +28,7 @@ fn settle_row<D: Pm>(fact: &Fact, device: &mut D, slot: u64) -> Result<u64, Fail
     requires room { 3 ≤ (D.state device.old).spare }
     ensures images { LeavesTables down fact.now slot (D.state device.old) (D.state device.new) }
     ensures settled { OnOk result (SettlesTable down fact.now slot (D.state device.old) (D.state device.new)) }
-    ensures own { OnOk result (SettlesOwn fact.now slot 16 (D.state device.old) (D.state device.new)) }
+    ensures settles { OnOk result (SettlesAll 16 (D.state device.old) (D.state device.new)) }
     ensures word { IfOk result (λ word. IsWordAfter down (D.state device.old).now fact.now slot word) }
     ensures only { StoresOnly (λ a. a ≡ slot_word fact.now.geometry slot 4) (D.state device.old) (D.state device.new) }
     ensures others { KeepsFlushed (Others 16) (λ a. a ≡ slot_word fact.now.geometry slot 4) (D.state device.old) (D.state device.new) }

@@ -1,11 +1,11 @@
 // The daemon settles the row whose mapping it has added.
 ghost use Rattle.std.specs.Prelude.{◌≡◌, ℕ, ◌+◌, ◌^◌, ◌<◌, ◌≤◌, false, Some, OnOk, IfOk, IsErr, vec_len, vec_capacity};
 ghost use Rattle.pm_device.specs.State.{Rose};
-ghost use Rattle.pm_device.specs.Settled.{StoresOnly, KeepsFlushed, Others};
+ghost use Rattle.pm_device.specs.Settled.{StoresOnly, KeepsFlushed, Others, SettlesAll};
 ghost use Rattle.pm_layout.specs.Geometry.{slot_word};
 ghost use Rattle.dn_model.specs.Disk.{Disk};
 ghost use Rattle.fact_counts.specs.Standing.{HasRowWith};
-ghost use Rattle.fact_counts.specs.Counted.{up, MaySettleUp, SettlesTable, SettlesOwn, LeavesTables};
+ghost use Rattle.fact_counts.specs.Counted.{up, MaySettleUp, SettlesTable, LeavesTables};
 ghost use Rattle.dn_volume.specs.declared.background.Sharing.{Sharing as KeptSharing};
 ghost use Rattle.dn_volume.specs.declared.background.SharingStep.TheVariants.{Look};
 ghost use Rattle.dn_volume.specs.Agrees.{Agrees, IsVolume};
@@ -26,7 +26,7 @@ fn settle_row_up<D: Pm>(fact: &Fact, device: &mut D, slot: u64) -> Result<u64, F
     requires room { 3 ≤ (D.state device.old).spare }
     ensures images { LeavesTables up fact.now slot (D.state device.old) (D.state device.new) }
     ensures settled { OnOk result (SettlesTable up fact.now slot (D.state device.old) (D.state device.new)) }
-    ensures own { OnOk result (SettlesOwn fact.now slot 15 (D.state device.old) (D.state device.new)) }
+    ensures settles { OnOk result (SettlesAll 15 (D.state device.old) (D.state device.new)) }
     ensures word { IfOk result (λ word. IsWordAfter up (D.state device.old).now fact.now slot word) }
     ensures only { StoresOnly (λ a. a ≡ slot_word fact.now.geometry slot 4) (D.state device.old) (D.state device.new) }
     ensures others { KeepsFlushed (Others 15) (λ a. a ≡ slot_word fact.now.geometry slot 4) (D.state device.old) (D.state device.new) }

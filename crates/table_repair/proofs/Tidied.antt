@@ -21,7 +21,7 @@ use Rattle.fact_calls.specs.declared.call.TableCall.TheVariants.{ClearStale}
 use Rattle.fact_calls.specs.Follows.{Follows}
 use Rattle.fact_calls.specs.Made.{IsSameBut, MayCall}
 use Rattle.fact_calls.proofs.Called.{clear_images, clear_made}
-use Rattle.fact_calls.proofs.Words.{stale_in}
+use Rattle.fact_calls.proofs.Words.{only_table, stale_in}
 use Rattle.law_table_calls.specs.Calls.{HasRows, IsOnDisk}
 use Rattle.law_table_calls.proofs.Disks.{call_images, call_made}
 use Rattle.table_repair.specs.Settling.{SettlesFrom, HasSettling, StandsWith, CountsAreSettled, TableIsSettled}
@@ -47,7 +47,7 @@ module _ (d : Disk) (t : Table) (s : State) (counts : CountsAreSettled d t s) (u
   is = counts.stands
 
   pub clear_only : StoresOnly (IsTableWord t.geometry) s u
-  clear_only = stale_in e t.geometry is.table.geometry s u (stores e is.table)
+  clear_only = only_table t.geometry (IsStaleWord e) (stale_in e t.geometry is.table.geometry) s u (stores e is.table)
 
   pub tidy_only : (t0 : Table) → d.geometry ≡ t0.geometry → (s0 : State) → StoresOnly (IsTableWord t0.geometry) s0 s
       → StoresOnly (IsTableWord t0.geometry) s0 u

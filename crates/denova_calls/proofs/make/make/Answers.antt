@@ -7,7 +7,8 @@ returns-in-Ok-format-clause-ends g c =
     let S = g.D.Pm.state in
     let f = c.in-Ok-format.ensures in
     let whole = c.format.ensures in
-    formatted_tells c.args.g (S c.args.device.now) (S c.format.new.device) c.requires.accepted c.format.result c.in-Ok.text.items whole.wrong_size c.in-Ok-format.is f.any_moment f.done c.in-Ok.ensures
+    formatted_tells c.args.g (S c.args.device.now) (S c.format.new.device) c.requires.accepted c.format.result c.in-Ok.text.items whole.wrong_size
+    c.in-Ok-format.is f.any_moment f.done c.in-Ok.ensures
 
 pub returns-in-Err-WrongSize-clause-ends : goal.returns-in-Err-WrongSize-clause-ends
 returns-in-Err-WrongSize-clause-ends g c =
@@ -15,7 +16,8 @@ returns-in-Err-WrongSize-clause-ends g c =
     let here = c.in-Err-WrongSize in
     let f = c.format.ensures in
     let is = here.is ∙ ap Err here.field-0-is in
-    wrong_size_tells c.args.g (S c.args.device.now) (S c.format.new.device) c.requires.accepted c.format.result here.words c.refused.result f.wrong_size is (f.wrong_size_stores_nothing here.words is) c.refused.ensures
+    wrong_size_tells c.args.g (S c.args.device.now) (S c.format.new.device) c.requires.accepted c.format.result here.words c.refused.result
+    f.wrong_size is (f.wrong_size_stores_nothing here.words is) c.refused.ensures
 
 pub returns-in-Err-Failed-clause-ends : goal.returns-in-Err-Failed-clause-ends
 returns-in-Err-Failed-clause-ends g c =

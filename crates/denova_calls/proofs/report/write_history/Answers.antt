@@ -10,7 +10,8 @@ pub loop-k-preserved : goal.loop-k-preserved
 loop-k-preserved c =
     let in_lines : c.loop-k.k < length c.args.lines.now = omega arith in
     let in_history : c.loop-k.k < length c.args.history.now = omega arith in
-    history_text-more c.args.lines.now c.args.history.now c.loop-k.k c.index-history-k.result _ c.loop-k.text.items _ in_lines in_history c.loop-k.invariant c.in_ok-write_line.ensures
+    history_text-more c.args.lines.now c.args.history.now c.loop-k.k c.index-history-k.result _ c.loop-k.text.items _ in_lines in_history
+    c.loop-k.invariant c.in_ok-write_line.ensures
 
 pub returns : goal.returns
 returns c =

@@ -196,9 +196,11 @@ pub returns-in_err-insert-in-Insert-clause-only : goal.returns-in_err-insert-in-
 returns-in_err-insert-in-Insert-clause-only g c =
     let S = g.D.Pm.state in
     let can = c.requires.can in
-    let may = of_call-may can.disk (S c.args.device.now).now c.args.fact.now c.args.call.now (Insert c.in-Insert.print c.in-Insert.page) c.in-Insert.is
+    let may = of_call-may can.disk (S c.args.device.now).now c.args.fact.now c.args.call.now (Insert c.in-Insert.print c.in-Insert.page)
+    c.in-Insert.is
     can.may in
-    only_table c.args.fact.now.geometry _ (insert_in can.disk (S c.args.device.now).now c.args.fact.now c.insert.new.fact c.in-Insert.print c.in-Insert.page
+    only_table c.args.fact.now.geometry _ (insert_in can.disk (S c.args.device.now).now c.args.fact.now c.insert.new.fact c.in-Insert.print
+    c.in-Insert.page
     (insert_may can.disk (S c.args.device.now) c.args.fact.now c.in-Insert.print c.in-Insert.page may.table may.may))
     (S c.args.device.now) (S c.insert.new.device) c.insert.ensures.only
 
@@ -206,9 +208,11 @@ pub returns-in_err-insert-in-Insert-clause-others : goal.returns-in_err-insert-i
 returns-in_err-insert-in-Insert-clause-others g c =
     let S = g.D.Pm.state in
     let can = c.requires.can in
-    let may = of_call-may can.disk (S c.args.device.now).now c.args.fact.now c.args.call.now (Insert c.in-Insert.print c.in-Insert.page) c.in-Insert.is
+    let may = of_call-may can.disk (S c.args.device.now).now c.args.fact.now c.args.call.now (Insert c.in-Insert.print c.in-Insert.page)
+    c.in-Insert.is
     can.may in
-    keeps_table c.args.fact.now.geometry _ (insert_in can.disk (S c.args.device.now).now c.args.fact.now c.insert.new.fact c.in-Insert.print c.in-Insert.page
+    keeps_table c.args.fact.now.geometry _ (insert_in can.disk (S c.args.device.now).now c.args.fact.now c.insert.new.fact c.in-Insert.print
+    c.in-Insert.page
     (insert_may can.disk (S c.args.device.now) c.args.fact.now c.in-Insert.print c.in-Insert.page may.table may.may))
     (S c.args.device.now) (S c.insert.new.device) c.args.who c.insert.ensures.others
 
@@ -216,9 +220,11 @@ pub returns-in_ok-insert-in-Insert-clause-only : goal.returns-in_ok-insert-in-In
 returns-in_ok-insert-in-Insert-clause-only g c =
     let S = g.D.Pm.state in
     let can = c.requires.can in
-    let may = of_call-may can.disk (S c.args.device.now).now c.args.fact.now c.args.call.now (Insert c.in-Insert.print c.in-Insert.page) c.in-Insert.is
+    let may = of_call-may can.disk (S c.args.device.now).now c.args.fact.now c.args.call.now (Insert c.in-Insert.print c.in-Insert.page)
+    c.in-Insert.is
     can.may in
-    only_table c.args.fact.now.geometry _ (insert_in can.disk (S c.args.device.now).now c.args.fact.now c.insert.new.fact c.in-Insert.print c.in-Insert.page
+    only_table c.args.fact.now.geometry _ (insert_in can.disk (S c.args.device.now).now c.args.fact.now c.insert.new.fact c.in-Insert.print
+    c.in-Insert.page
     (insert_may can.disk (S c.args.device.now) c.args.fact.now c.in-Insert.print c.in-Insert.page may.table may.may))
     (S c.args.device.now) (S c.insert.new.device) c.insert.ensures.only
 
@@ -226,9 +232,11 @@ pub returns-in_ok-insert-in-Insert-clause-others : goal.returns-in_ok-insert-in-
 returns-in_ok-insert-in-Insert-clause-others g c =
     let S = g.D.Pm.state in
     let can = c.requires.can in
-    let may = of_call-may can.disk (S c.args.device.now).now c.args.fact.now c.args.call.now (Insert c.in-Insert.print c.in-Insert.page) c.in-Insert.is
+    let may = of_call-may can.disk (S c.args.device.now).now c.args.fact.now c.args.call.now (Insert c.in-Insert.print c.in-Insert.page)
+    c.in-Insert.is
     can.may in
-    keeps_table c.args.fact.now.geometry _ (insert_in can.disk (S c.args.device.now).now c.args.fact.now c.insert.new.fact c.in-Insert.print c.in-Insert.page
+    keeps_table c.args.fact.now.geometry _ (insert_in can.disk (S c.args.device.now).now c.args.fact.now c.insert.new.fact c.in-Insert.print
+    c.in-Insert.page
     (insert_may can.disk (S c.args.device.now) c.args.fact.now c.in-Insert.print c.in-Insert.page may.table may.may))
     (S c.args.device.now) (S c.insert.new.device) c.args.who c.insert.ensures.others
 
@@ -296,7 +304,8 @@ pub returns-in-Recount-clause-only : goal.returns-in-Recount-clause-only
 returns-in-Recount-clause-only g c =
     let S = g.D.Pm.state in
     let can = c.requires.can in
-    let may = of_call-may can.disk (S c.args.device.now).now c.args.fact.now c.args.call.now (Recount c.in-Recount.slot c.in-Recount.rfc) c.in-Recount.is
+    let may = of_call-may can.disk (S c.args.device.now).now c.args.fact.now c.args.call.now (Recount c.in-Recount.slot c.in-Recount.rfc)
+    c.in-Recount.is
     can.may in
     only_table c.args.fact.now.geometry _ (counts_in can.disk (S c.args.device.now).now c.args.fact.now may.table c.in-Recount.slot may.may.row
     (record { there = may.may.there; slot_is = may.may.slot_is }))
@@ -306,7 +315,8 @@ pub returns-in-Recount-clause-others : goal.returns-in-Recount-clause-others
 returns-in-Recount-clause-others g c =
     let S = g.D.Pm.state in
     let can = c.requires.can in
-    let may = of_call-may can.disk (S c.args.device.now).now c.args.fact.now c.args.call.now (Recount c.in-Recount.slot c.in-Recount.rfc) c.in-Recount.is
+    let may = of_call-may can.disk (S c.args.device.now).now c.args.fact.now c.args.call.now (Recount c.in-Recount.slot c.in-Recount.rfc)
+    c.in-Recount.is
     can.may in
     keeps_table c.args.fact.now.geometry _ (counts_in can.disk (S c.args.device.now).now c.args.fact.now may.table c.in-Recount.slot may.may.row
     (record { there = may.may.there; slot_is = may.may.slot_is }))

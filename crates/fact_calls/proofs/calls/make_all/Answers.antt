@@ -66,8 +66,10 @@ loop-i-preserved g c =
       spare = omega (arith, used, c.loop-i.invariant.spare);
       faults = omega (arith, c.make.ensures.faults, c.loop-i.invariant.faults);
       pages = next_geometry c.args.who c.args.calls.now c.loop-i.i c.args.fact.now c.loop-i.fact (S c.args.device.now) (S c.loop-i.device)
-          c.loop-i.invariant _ (get_at c.args.calls.now c.loop-i.i _ (omega arith)) can.disk can.may (S c.make.new.device) c.make.new.fact c.in_ok-make.ensures.done;
-      only = next_only c.args.who c.args.calls.now c.loop-i.i c.args.fact.now c.loop-i.fact (S c.args.device.now) (S c.loop-i.device) c.loop-i.invariant
+          c.loop-i.invariant _ (get_at c.args.calls.now c.loop-i.i _ (omega arith)) can.disk can.may (S c.make.new.device) c.make.new.fact
+          c.in_ok-make.ensures.done;
+      only = next_only c.args.who c.args.calls.now c.loop-i.i c.args.fact.now c.loop-i.fact (S c.args.device.now) (S c.loop-i.device)
+          c.loop-i.invariant
           (S c.make.new.device) c.make.ensures.only;
       others = next_others c.args.who c.args.calls.now c.loop-i.i c.args.fact.now c.loop-i.fact (S c.args.device.now) (S c.loop-i.device)
           c.loop-i.invariant (S c.make.new.device) c.make.ensures.others;
@@ -77,7 +79,8 @@ loop-i-preserved g c =
           (S c.loop-i.device) c.loop-i.invariant _ (get_at c.args.calls.now c.loop-i.i _ (omega arith)) d may (S c.make.new.device)
           c.make.ensures.images stands c.make.new.fact c.in_ok-make.ensures.done (g.met.D.Pm.agree c.make.new.device);
       made = λ d may. next_made c.args.who c.args.calls.now c.loop-i.i c.args.fact.now c.loop-i.fact (S c.args.device.now) (S c.loop-i.device)
-          c.loop-i.invariant _ (get_at c.args.calls.now c.loop-i.i _ (omega arith)) d may (S c.make.new.device) c.make.new.fact c.in_ok-make.ensures.done;
+          c.loop-i.invariant _ (get_at c.args.calls.now c.loop-i.i _ (omega arith)) d may (S c.make.new.device) c.make.new.fact
+          c.in_ok-make.ensures.done;
     }
 
 pub returns-clause-each : goal.returns-clause-each

@@ -12,7 +12,13 @@ returns-in-Ok-clause-plan c =
     let all_are = made.pages_are ∙ c.deref.ensures.value in
     let needs = ap length all_are ∙ c.in_ok-pages.ensures.count ∙ c.pages_needed-needed.ensures in
     let of_places = ap (λ (n : ℕ). n + (if nat_lt c.args.room n then 1 else 0)) c.places_of-places.ensures in
-    let long : length plan.blocks.items ≡ c.places_of-places.result = omega (arith, made.places_are, ap length c.deref.ensures.value, c.in_ok-pages.ensures.count, c.pages_needed-needed.ensures) in
+    let long : length plan.blocks.items ≡ c.places_of-places.result = omega (
+      arith,
+      made.places_are,
+      ap length c.deref.ensures.value,
+      c.in_ok-pages.ensures.count,
+      c.pages_needed-needed.ensures,
+    ) in
     let few = runs-few plan.first plan.blocks.items plan.runs.items c.places_of-places.result long made.cut in
     record {
       first = made.first_is;
@@ -22,7 +28,8 @@ returns-in-Ok-clause-plan c =
       needs = needs ∙ of_places;
       cut = made.cut;
       spelled_by = made.spelled_by;
-      log_page = log-page c.args.room (length plan.runs.items) c.places_of-places.result plan.fresh.items plan.spare.items plan.blocks.items few long needs made.unused made.used;
+      log_page = log-page c.args.room (length plan.runs.items) c.places_of-places.result plan.fresh.items plan.spare.items plan.blocks.items few long
+          needs made.unused made.used;
     }
 
 pub returns-in-Err-clause-no_memory : goal.returns-in-Err-clause-no_memory

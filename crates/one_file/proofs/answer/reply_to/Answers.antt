@@ -7,4 +7,5 @@ use Rattle.one_file.proofs.answer.reply_to.Goals as goal
 pub returns-in-Read-clause-answered : goal.returns-in-Read-clause-answered
 returns-in-Read-clause-answered g c =
     if_ok_map c.answer_read.result _ _ (λ reply steps. λ d is.
-    answers-same g.D.Pm.state c.args.v.now d c.args.op.now reply (g.met.D.Pm.agree c.args.v.now.device) is (subst (λ (op : Op). IsStep d op reply d) (sym c.in-Read.is) (steps d is))) c.answer_read.ensures.step
+    answers-same g.D.Pm.state c.args.v.now d c.args.op.now reply (g.met.D.Pm.agree c.args.v.now.device) is
+    (subst (λ (op : Op). IsStep d op reply d) (sym c.in-Read.is) (steps d is))) c.answer_read.ensures.step

@@ -17,5 +17,6 @@ read_bytes-requires-clause-blocks g c =
 
 pub returns-in-Ok-clause-step : goal.returns-in-Ok-clause-step
 returns-in-Ok-clause-step g c = λ d is.
-    read_step d c.args.name.now (bytes d 1) (subst (λ (name : List ℕ). IsRefusalOf (files d) (bytes d 1) name None) c.bytes.ensures (c.in_default.ensures.files d is)) c.args.at c.args.count c.of.result
+    read_step d c.args.name.now (bytes d 1) (subst (λ (name : List ℕ). IsRefusalOf (files d) (bytes d 1) name None) c.bytes.ensures
+    (c.in_default.ensures.files d is)) c.args.at c.args.count c.of.result
     (omega (arith, c.if-count-gt-MOST_BYTES.false)) (c.of.ensures ∙ c.in-Ok.ensures d 1 is.held.file is.held.valid is.held.geometry is.held.stands)

@@ -38,7 +38,7 @@ returns-in-Ok-clause-agrees g c =
       any_moment = c.set_word.ensures.any_moment; only = c.set_word.ensures.only; others = c.set_word.ensures.others; spare = c.set_word.ensures.spare; faults = c.set_word.ensures.faults;
     }) in
     moved_agrees S c.args.v.now g.F.Fingerprint.print _ found.0 (drop_moves S c.args.v.now c.in-Some.p c.in-Some.is g.F.Fingerprint.print _ sets (g.met.D.Pm.agree c.set_word.new.device) found.0 found.1
-    (done_at _ _ c.in-Some.p.place (S c.args.v.now.device) (S c.set_word.new.device) c.inode_word-word.ensures c.in-Ok.ensures.done) c.note_drop.ensures)
+    (done_at _ _ c.in-Some.p.place (S c.args.v.now.device) (S c.set_word.new.device) c.inode_word-word.ensures c.in-Ok.ensures.done) c.in-Ok.ensures.settles c.note_drop.ensures)
 
 pub returns-in-Ok-clause-event : goal.returns-in-Ok-clause-event
 returns-in-Ok-clause-event g c = λ d v.
@@ -47,7 +47,7 @@ returns-in-Ok-clause-event g c = λ d v.
       any_moment = c.set_word.ensures.any_moment; only = c.set_word.ensures.only; others = c.set_word.ensures.others; spare = c.set_word.ensures.spare; faults = c.set_word.ensures.faults;
     }) in (
       drop_moves S c.args.v.now c.in-Some.p c.in-Some.is g.F.Fingerprint.print _ sets (g.met.D.Pm.agree c.set_word.new.device) d v
-          (done_at _ _ c.in-Some.p.place (S c.args.v.now.device) (S c.set_word.new.device) c.inode_word-word.ensures c.in-Ok.ensures.done) c.note_drop.ensures,
+          (done_at _ _ c.in-Some.p.place (S c.args.v.now.device) (S c.set_word.new.device) c.inode_word-word.ensures c.in-Ok.ensures.done) c.in-Ok.ensures.settles c.note_drop.ensures,
       some_work c.args.v.now.parts (drop_waits S c.args.v.now c.in-Some.p c.in-Some.is c.requires.agrees c.requires.running),
       less_work c.args.v.now.parts c.note_drop.new.parts c.note_drop.ensures.kept (omega (arith, c.note_drop.ensures.waiting)),
     )

@@ -32,7 +32,7 @@ returns-in-Ok-clause-agrees g c =
       any_moment = c.set_word.ensures.any_moment; only = c.set_word.ensures.only; others = c.set_word.ensures.others; spare = c.set_word.ensures.spare; faults = c.set_word.ensures.faults;
     }) in
     moved_agrees S c.args.v.now g.F.Fingerprint.print _ found.0 (free_moves S c.args.v.now c.args.ino c.args.place c.args.page c.requires.place c.requires.no_row c.requires.unraised g.F.Fingerprint.print _ sets (g.met.D.Pm.agree c.set_word.new.device) found.0 found.1
-    (done_at _ _ c.args.place (S c.args.v.now.device) (S c.set_word.new.device) c.inode_word-word.ensures c.in-Ok.ensures.done) c.requires.units c.note_freed.ensures)
+    (done_at _ _ c.args.place (S c.args.v.now.device) (S c.set_word.new.device) c.inode_word-word.ensures c.in-Ok.ensures.done) c.in-Ok.ensures.settles c.requires.units c.note_freed.ensures)
 
 pub returns-in-Ok-clause-event : goal.returns-in-Ok-clause-event
 returns-in-Ok-clause-event g c = λ d v.
@@ -41,7 +41,7 @@ returns-in-Ok-clause-event g c = λ d v.
       any_moment = c.set_word.ensures.any_moment; only = c.set_word.ensures.only; others = c.set_word.ensures.others; spare = c.set_word.ensures.spare; faults = c.set_word.ensures.faults;
     }) in (
       free_moves S c.args.v.now c.args.ino c.args.place c.args.page c.requires.place c.requires.no_row c.requires.unraised g.F.Fingerprint.print _ sets (g.met.D.Pm.agree c.set_word.new.device) d v
-          (done_at _ _ c.args.place (S c.args.v.now.device) (S c.set_word.new.device) c.inode_word-word.ensures c.in-Ok.ensures.done) c.requires.units c.note_freed.ensures,
+          (done_at _ _ c.args.place (S c.args.v.now.device) (S c.set_word.new.device) c.inode_word-word.ensures c.in-Ok.ensures.done) c.in-Ok.ensures.settles c.requires.units c.note_freed.ensures,
       some_work c.args.v.now.parts (let four = free_waits S c.args.v.now c.args.ino c.args.place c.args.page c.requires.place c.requires.no_row c.requires.unraised c.requires.agrees c.requires.running in omega (arith, four)),
       less_work c.args.v.now.parts c.note_freed.new.parts c.note_freed.ensures.kept (omega (arith, c.note_freed.ensures.waiting)),
     )

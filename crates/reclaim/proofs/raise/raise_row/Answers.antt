@@ -40,14 +40,14 @@ pub returns-in-Ok-clause-agrees : goal.returns-in-Ok-clause-agrees
 returns-in-Ok-clause-agrees g c =
     let to = c.requires.raises in
     raise_agrees g.D.Pm.state c.args.v.now c.args.who c.row_to_raise-slot.result to (c.row_to_raise-slot.ensures to.flight to.flies) _ c.raise_at.ensures.only (g.met.D.Pm.agree c.raise_at.new.device) c.raise_at.ensures.images c.raise_at.ensures.faults
-    c.in-Ok.word c.note_raise.ensures c.in-Ok.ensures.settled c.in-Ok.ensures.own c.raise_at.ensures.others c.in-Ok.ensures.word c.raise_at.ensures.spare g.F.Fingerprint.print c.requires.agrees c.requires.running
+    c.in-Ok.word c.note_raise.ensures c.in-Ok.ensures.settled c.in-Ok.ensures.settles c.raise_at.ensures.others c.in-Ok.ensures.word c.raise_at.ensures.spare g.F.Fingerprint.print c.requires.agrees c.requires.running
 
 pub returns-in-Ok-clause-event : goal.returns-in-Ok-clause-event
 returns-in-Ok-clause-event g c = λ d f v flies.
     let to = c.requires.raises in
     let on = raise_flies g.D.Pm.state c.args.v.now c.args.who c.row_to_raise-slot.result to (c.row_to_raise-slot.ensures to.flight to.flies) c.note_raise.new.parts c.in-Ok.word c.left_to_raise.result c.note_raise.ensures c.left_to_raise.ensures d v f flies in (
       raise_moves g.D.Pm.state c.args.v.now c.args.who c.row_to_raise-slot.result to (c.row_to_raise-slot.ensures to.flight to.flies) _ c.raise_at.ensures.only (g.met.D.Pm.agree c.raise_at.new.device) c.raise_at.ensures.images c.raise_at.ensures.faults
-          c.in-Ok.word c.note_raise.ensures c.in-Ok.ensures.settled c.in-Ok.ensures.own c.raise_at.ensures.others c.in-Ok.ensures.word c.raise_at.ensures.spare g.F.Fingerprint.print d v,
+          c.in-Ok.word c.note_raise.ensures c.in-Ok.ensures.settled c.in-Ok.ensures.settles c.raise_at.ensures.others c.in-Ok.ensures.word c.raise_at.ensures.spare g.F.Fingerprint.print d v,
       on.0,
       on.1,
       on.2,

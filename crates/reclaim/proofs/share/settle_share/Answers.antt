@@ -26,12 +26,12 @@ note_share-requires-clause-changes g c = share_change_owed g.D.Pm.state c.args.v
 pub returns-in-Ok-clause-agrees : goal.returns-in-Ok-clause-agrees
 returns-in-Ok-clause-agrees g c =
     share_agrees g.D.Pm.state c.args.v.now c.slot_to_settle-slot.result c.slot_to_settle-slot.ensures _ c.settle_row_up.ensures.only (g.met.D.Pm.agree c.settle_row_up.new.device) c.settle_row_up.ensures.images c.settle_row_up.ensures.faults
-    c.in-Ok.word c.note_share.ensures c.in-Ok.ensures.settled c.in-Ok.ensures.own c.settle_row_up.ensures.others c.in-Ok.ensures.word c.settle_row_up.ensures.spare g.F.Fingerprint.print c.requires.agrees c.requires.running
+    c.in-Ok.word c.note_share.ensures c.in-Ok.ensures.settled c.in-Ok.ensures.settles c.settle_row_up.ensures.others c.in-Ok.ensures.word c.settle_row_up.ensures.spare g.F.Fingerprint.print c.requires.agrees c.requires.running
 
 pub returns-in-Ok-clause-event : goal.returns-in-Ok-clause-event
 returns-in-Ok-clause-event g c = λ d v. (
   share_moves g.D.Pm.state c.args.v.now c.slot_to_settle-slot.result c.slot_to_settle-slot.ensures _ c.settle_row_up.ensures.only (g.met.D.Pm.agree c.settle_row_up.new.device) c.settle_row_up.ensures.images c.settle_row_up.ensures.faults
-      c.in-Ok.word c.note_share.ensures c.in-Ok.ensures.settled c.in-Ok.ensures.own c.settle_row_up.ensures.others c.in-Ok.ensures.word c.settle_row_up.ensures.spare g.F.Fingerprint.print d v,
+      c.in-Ok.word c.note_share.ensures c.in-Ok.ensures.settled c.in-Ok.ensures.settles c.settle_row_up.ensures.others c.in-Ok.ensures.word c.settle_row_up.ensures.spare g.F.Fingerprint.print d v,
   share_work d c.args.v.now.parts c.slot_to_settle-slot.result c.slot_to_settle-slot.ensures,
   subst (λ (n : ℕ). DaemonLowers c.args.v.now.parts c.note_share.new.parts n) (sym c.events_left.ensures)
       (share_lowers g.D.Pm.state c.args.v.now c.slot_to_settle-slot.result c.slot_to_settle-slot.ensures c.note_share.new.parts c.in-Ok.word c.note_share.ensures c.requires.agrees c.requires.running),

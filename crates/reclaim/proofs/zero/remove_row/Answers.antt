@@ -43,7 +43,7 @@ returns-in-Ok-clause-agrees g c =
     c.remove_zero.ensures.faults g.F.Fingerprint.print (checks_since c.args.v.now.parts c.remove_zero.new.fact c.give_back.new.self c.note_checked.new.parts c.note_checked.ensures.checks) c.remove_zero.ensures.others
     (subst (λ t. MakesRemoved c.args.v.now.parts.fact t c.args.slot (S c.args.v.now.device) (S c.remove_zero.new.device)) (sym c.note_checked.ensures.fact) c.in-Ok.ensures.done) c.in-Ok.ensures.settled
     (subst (Gives (λ p. p ≡ c.args.page) c.args.v.now.parts.free) (sym c.note_checked.ensures.free) (gives_one c.args.page c.args.v.now.parts.free c.give_back.new.self c.give_back.ensures.gives_back c.give_back.ensures.in_order))
-    c.remove_zero.ensures.spare)
+    c.remove_zero.ensures.spare c.in-Ok.ensures.settles)
 
 pub returns-in-Ok-clause-event : goal.returns-in-Ok-clause-event
 returns-in-Ok-clause-event g c = λ d v.
@@ -52,7 +52,7 @@ returns-in-Ok-clause-event g c = λ d v.
           c.remove_zero.ensures.faults g.F.Fingerprint.print (checks_since c.args.v.now.parts c.remove_zero.new.fact c.give_back.new.self c.note_checked.new.parts c.note_checked.ensures.checks) c.remove_zero.ensures.others
           (subst (λ t. MakesRemoved c.args.v.now.parts.fact t c.args.slot (S c.args.v.now.device) (S c.remove_zero.new.device)) (sym c.note_checked.ensures.fact) c.in-Ok.ensures.done) c.in-Ok.ensures.settled
           (subst (Gives (λ p. p ≡ c.args.page) c.args.v.now.parts.free) (sym c.note_checked.ensures.free) (gives_one c.args.page c.args.v.now.parts.free c.give_back.new.self c.give_back.ensures.gives_back c.give_back.ensures.in_order))
-          c.remove_zero.ensures.spare,
+          c.remove_zero.ensures.spare c.in-Ok.ensures.settles,
       some_work c.args.v.now.parts (zero_waits S c.args.v.now c.args.slot c.requires.pending c.requires.agrees c.requires.running),
       less_work c.args.v.now.parts c.note_checked.new.parts (checks_since c.args.v.now.parts c.remove_zero.new.fact c.give_back.new.self c.note_checked.new.parts c.note_checked.ensures.checks).kept
           (omega (arith, c.note_checked.ensures.checks.waiting)),

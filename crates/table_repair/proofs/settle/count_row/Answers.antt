@@ -2,7 +2,7 @@ use Rattle.std.proofs.Common.{refl, arith}
 use Rattle.pm_device.proofs.Only.{stores_only-none}
 use Rattle.fact_scan.specs.Seen.{as_row}
 use Rattle.fact_calls.proofs.Called.{both_done}
-use Rattle.fact_calls.proofs.Words.{counts_in}
+use Rattle.fact_calls.proofs.Words.{only_table, counts_in}
 use Rattle.table_repair.proofs.OneRow.{no_images, count_none, count_images, count_made}
 use Rattle.table_repair.proofs.settle.count_row.Goals as goal
 
@@ -21,8 +21,8 @@ pub returns-clause-only : goal.returns-clause-only
 returns-clause-only g c =
     let S = g.D.Pm.state in
     let has = c.requires.row in
-    counts_in has.disk (S c.args.device.now).now c.args.fact.now has.is.stands.table c.args.row.now.slot (as_row c.args.row.now)
-    (record { there = has.is.there; slot_is = refl }) (S c.args.device.now) (S c.recount.new.device) c.recount.ensures.only
+    only_table c.args.fact.now.geometry _ (counts_in has.disk (S c.args.device.now).now c.args.fact.now has.is.stands.table c.args.row.now.slot
+    (as_row c.args.row.now) (record { there = has.is.there; slot_is = refl })) (S c.args.device.now) (S c.recount.new.device) c.recount.ensures.only
 
 pub returns-clause-images : goal.returns-clause-images
 returns-clause-images g c =

@@ -2,7 +2,7 @@ use Rattle.std.proofs.Common.{refl, sym, ◌∙◌, arith}
 use Rattle.pm_device.proofs.Only.{stores_only-none}
 use Rattle.fact_scan.specs.Seen.{as_row}
 use Rattle.fact_calls.proofs.Called.{both_done}
-use Rattle.fact_calls.proofs.Words.{zero_in}
+use Rattle.fact_calls.proofs.Words.{only_table, zero_in}
 use Rattle.table_repair.specs.Settling.{with_count}
 use Rattle.table_repair.proofs.OneRow.{no_images, gone_none, has_zero, gone_images, gone_made}
 use Rattle.table_repair.proofs.settle.drop_row.Goals as goal
@@ -26,7 +26,8 @@ returns-clause-only g c =
     let has = c.requires.row in
     let zero = has_zero has.disk c.args.fact.now (with_count (as_row c.args.row.now) c.args.mappings) c.args.mappings (S c.args.device.now) has.is
     (omega arith) refl (omega (arith, has.is.counted)) in
-    zero_in zero.disk zero.row (S c.args.device.now).now c.args.fact.now c.args.row.now.slot zero.may (S c.args.device.now)
+    only_table c.args.fact.now.geometry _ (zero_in zero.disk zero.row (S c.args.device.now).now c.args.fact.now c.args.row.now.slot zero.may)
+    (S c.args.device.now)
     (S c.remove_zero.new.device) (c.remove_zero.ensures.only zero.disk zero.row zero.may)
 
 pub returns-clause-images : goal.returns-clause-images

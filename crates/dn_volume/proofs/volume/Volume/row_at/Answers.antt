@@ -8,7 +8,8 @@ row_at-requires-clause-table g c =
 
 pub returns-clause-found : goal.returns-clause-found
 returns-clause-found g c =
-    some_map c.row_at.result _ _ (λ r has d v. has d (is_table d c.args.self.now.parts (g.D.Pm.state c.args.self.now.device) v)) c.row_at.ensures.found
+    some_map c.row_at.result _ _ (λ r has d v. has d (is_table d c.args.self.now.parts (g.D.Pm.state c.args.self.now.device) v))
+    c.row_at.ensures.found
 
 pub returns-clause-none : goal.returns-clause-none
 returns-clause-none g c =
