@@ -77,5 +77,5 @@ pub none_begun : (b : Parts) → false ≡ is_some b.reclaiming.zero_check → f
 none_begun b unchecked unraised begun = ⊎_elim (λ some. clash b.reclaiming.zero_check unchecked some) (λ some. clash b.reclaiming.raised unraised some) begun
   where
     clash : {X : Type 0} (o : Option X) → false ≡ is_some o → IsSome o → ⊥
-    clash None none some = some
+    clash None none some = cc
     clash (Some x) none some = cc
