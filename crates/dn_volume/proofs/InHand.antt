@@ -86,7 +86,8 @@ module _ (inodes pages : List ℕ) (d e : Disk) (valid : IsValid d) (rest : Keep
       done_so = λ i m lt mapped by_item.
           let was = sym (place (sharing.first + i)) ∙ mapped in
           ⊎_elim (λ alone. inl alone)
-          (λ has. inr (has_row (row_of (rows e) m.block) (row_of (rows d) m.block) (rest.slots sharing.work.ino (sharing.first + i) m out was)
+          (λ has. inr (has_row (row_of (rows e) m.block) (row_of (rows d) m.block) (rest.slots sharing.work.ino (sharing.first + i) m
+           is.begun.in_table out was)
           has)) (is.begun.done_so i m lt was by_item);
     }
 
@@ -101,7 +102,7 @@ module _ (inodes pages : List ℕ) (d e : Disk) (valid : IsValid d) (rest : Keep
           mapped = place (sharing.first + sharing.done) ∙ st.mapped;
           by_item = st.by_item;
           no_row = has_none (row_of (rows e) st.by.block) (row_of (rows d) st.by.block) (rest.slots sharing.work.ino (sharing.first + sharing.done)
-              st.by out st.mapped) st.no_row;
+              st.by is.begun.in_table out st.mapped) st.no_row;
           row = still.still;
           at_slot = record { there = still.there; slot_is = still.slot ∙ st.at_slot.slot_is };
           equal = ap (page_bytes e) still.page ∙ bytes_of st.row.page (inr (row_found (rows d) st.row st.at_slot.there)) ∙ st.equal ∙ sym

@@ -35,7 +35,7 @@ module _ (inodes pages : List ℕ) (d e : Disk) (valid : IsValid d) (rest : Keep
 
   slot_same : (idx : ℕ) (m : Option Mapping) → maps d ino idx ≡ m → slot_of e m ≡ slot_of d m
   slot_same idx None is = refl
-  slot_same idx (Some m) is = rest.slots ino idx m out is
+  slot_same idx (Some m) is = rest.slots ino idx m in_table out is
 
   pub row_slots_same : (n from : ℕ) → row_slots e ino from n ≡ row_slots d ino from n
   unfolding row_slots

@@ -57,7 +57,8 @@ pub record KeepsRest (inodes pages : List ℕ) (d e : Disk) : Type 0 where
       → (named e name ≡ Some i) ↔ (named d name ≡ Some i)
   pub word : (page k : ℕ) → IsReadPage d page → e.word page k ≡ d.word page k
   pub unused : (page : ℕ) → (Contains pages page → ⊥) → IsUnused d page → IsUnused e page
-  pub slots : (i idx : ℕ) (m : Mapping) → (Contains inodes i → ⊥) → maps d i idx ≡ Some m
+  pub slots : (i idx : ℕ) (m : Mapping) → i < d.geometry.inodes → (Contains inodes i → ⊥)
+      → maps d i idx ≡ Some m
       → slot_of_row (row_of (rows e) m.block) ≡ slot_of_row (row_of (rows d) m.block)
   pub counting : (row : Row) → Contains (rows d) row → 1 ≤ row.rfc + row.uc → KeepsRow e row
 

@@ -39,7 +39,7 @@ module _ (d e : Disk) (f : Flight) (c : DataChange) (from n : ℕ) (kind : f.cha
     unused = λ page out unused. unused_kept f.ino d e disk.event disk.well from n disk.drops page unused
         (λ i lt same. out (block_taken f c kind page (subst (Contains c.blocks.items) same (block_listed i lt))))
         (λ fresh. out (fresh_taken f c kind page (subst (λ (ps : List ℕ). Contains ps page) disk.takes fresh)));
-    slots = λ i idx m out is. ap (λ (rs : List Row). slot_of_row (row_of rs m.block)) (rows_same f.ino d e disk.event disk.well from n disk.drops);
+    slots = λ i idx m in_table out is. ap (λ (rs : List Row). slot_of_row (row_of rs m.block)) (rows_same f.ino d e disk.event disk.well from n disk.drops);
     counting = λ row has some. record {
       still = row;
       there = subst (λ (rs : List Row). Contains rs row) (sym (rows_same f.ino d e disk.event disk.well from n disk.drops)) has;

@@ -358,7 +358,7 @@ module _ (d : Disk) (b b' : Parts) (s t : State) (who : ℕ) (f : Flight) (name 
       named_so = λ i other some out. ((λ is. is), (λ is. is));
       word = λ page k read. refl;
       unused = λ page out unused. unused;
-      slots = λ i idx m out is. refl;
+      slots = λ i idx m in_table out is. refl;
       counting = λ row has some. record { still = row; there = has; slot = refl; page = refl; print = refl };
     };
     only = stores_only-same (IsWordOf [] [] d) s t agree device;

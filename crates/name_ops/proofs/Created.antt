@@ -251,7 +251,7 @@ module _ (d : Disk) (b b' : Parts) (s t : State) (who : ℕ) (f : Flight) (name 
         free = free_kept d change changes page unused.free out;
         no_row = unused.no_row;
       };
-      slots = λ i idx m out is. refl;
+      slots = λ i idx m in_table out is. refl;
       counting = λ row has some. record { still = row; there = has; slot = refl; page = refl; print = refl };
     }
       where

@@ -230,7 +230,7 @@ module _ (d : Disk) (b b' : Parts) (s u t : State) (who : ℕ) (f : Flight) (nam
     named_so = λ i other some out. ((λ is. is), (λ is. is));
     word = λ page k read. refl;
     unused = λ page out unused. unused;
-    slots = λ i idx m out is. refl;
+    slots = λ i idx m in_table out is. refl;
     counting = λ row has some. record { still = row; there = has; slot = refl; page = refl; print = refl };
   }
 

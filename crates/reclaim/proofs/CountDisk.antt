@@ -150,7 +150,7 @@ module _ (f : Row → CountWord) (who : ℕ) (d : Disk) (t : Table) (row : Row) 
     named_so = λ i name some out. (λ is. sym (named_same d e.chain e.pointer name) ∙ is, λ is. named_same d e.chain e.pointer name ∙ is);
     word = λ page k read. refl;
     unused = λ page out is. unused_after page is;
-    slots = λ i idx m out is. ap slot_of_row (moved.found m.block) ∙ slots_map (row_of (rows d) m.block);
+    slots = λ i idx m in_table out is. ap slot_of_row (moved.found m.block) ∙ slots_map (row_of (rows d) m.block);
     counting = λ r has some. row_still r has;
   }
 

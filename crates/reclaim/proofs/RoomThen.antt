@@ -23,9 +23,9 @@ use Rattle.reclaim.proofs.Roomy.{leaves_since, rose_since, room_volume}
 
 module _ {D F : Type 0} (state : D → State) (w w1 : Volume D F) (made : MakesRoom state w w1) where
   pub room_is : Agree (state w.device).now (state w.device).past → (d : Disk) → IsVolume d w.parts (state w.device) → IsVolume d w1.parts (state w1.device)
-  room_is agree d v = room_volume d w.parts w1.parts (state w.device) (state w1.device) v made.same agree made.parts made.trace made.len made.capacity made.spare
+  room_is agree d v = room_volume d w.parts w1.parts (state w.device) (state w1.device) v made.same agree made.parts made.trace made.len made.capacity made.releases made.releases_len made.releases_capacity made.spare
 
-  same_part : {X : Type 0} (f : Parts → X) → f (record w.parts { trace = w1.parts.trace }) ≡ f w.parts → f w1.parts ≡ f w.parts
+  same_part : {X : Type 0} (f : Parts → X) → f (record w.parts { trace = w1.parts.trace; reclaiming = record w.parts.reclaiming { releases = w1.parts.reclaiming.releases } }) ≡ f w.parts → f w1.parts ≡ f w.parts
   same_part f same = ap f made.parts ∙ same
 
   same_room : SameButRoom w.parts w1.parts
@@ -38,7 +38,7 @@ module _ {D F : Type 0} (state : D → State) (w w1 : Volume D F) (made : MakesR
       sharing = same_part (λ p. p.sharing) refl;
       zero_check = same_part (λ p. p.reclaiming.zero_check) refl;
       raised = same_part (λ p. p.reclaiming.raised) refl;
-      releases = same_part (λ p. p.reclaiming.releases.items) refl;
+      releases = made.releases;
       waiting = same_part (λ p. p.reclaiming.waiting) refl;
       trace = made.trace;
       stopped = same_part (λ p. p.stopped) refl;

@@ -1,6 +1,7 @@
 -- A volume for which room was made, and the event after that.
 use Rattle.std.proofs.Common.{◌≡◌, ◌≢◌, ◌⊎◌, ⊎_elim, ℕ, ◌<◌, ◌≤◌, List, [], length, refl, sym, ◌∙◌, ap, subst, arith}
 use Rattle.std.specs.Prelude.{Option, All, slice_index, vec_len, vec_capacity}
+use Rattle.std.specs.VecDeque.{deque_len, deque_capacity}
 use Rattle.pm_layout.specs.Geometry.{slots}
 use Rattle.pm_device.specs.Past.{Past, moment}
 use Rattle.pm_device.specs.State.{State, Agree, IsSame, Rose}
@@ -14,12 +15,14 @@ use Rattle.dn_model.specs.declared.op.CountChange.{CountChange}
 use Rattle.dn_volume.specs.declared.volume.Parts.{Parts}
 use Rattle.dn_volume.specs.Parties.{Flies, Holds, by_client, by_daemon, Takes, for_client}
 use Rattle.dn_volume.specs.Flights.{IsFlight}
+use Rattle.dn_volume.specs.Balance.{times, AreCounted}
 use Rattle.dn_volume.specs.Shares.{IsWaiting, in_queue, is_begun}
 use Rattle.dn_volume.specs.Reserve.{HasRoom}
 use Rattle.dn_volume.specs.Agrees.{StandsFast, IsVolume}
 use Rattle.dn_volume.specs.Rely.{LeavesRest, IsFor, IsWordOf}
 use Rattle.dn_volume.proofs.Stills.{still_same}
 use Rattle.dn_volume.proofs.OthersStay.{others_stay}
+use Rattle.dn_volume.proofs.MappingsMoved.{mappings_counted}
 use Rattle.reclaim.proofs.Settled.{no_client}
 
 module _ (s t : State) (same : IsSame s t) where
@@ -44,10 +47,12 @@ module _ (s t : State) (same : IsSame s t) where
   pub rose_since : (n : ℕ) → Rose t.faults n → Rose s.faults n
   rose_since n = subst (λ (k : ℕ). Rose k n) same.faults
 
-module _ (d : Disk) (b c : Parts) (s t : State) (v : IsVolume d b s) (same : IsSame s t) (agree : Agree s.now s.past) (is : c ≡ record b { trace = c.trace }) (items : c.trace.items ≡ b.trace.items)
-    (len : vec_len c.trace ≡ vec_len b.trace) (capacity : vec_capacity b.trace ≤ vec_capacity c.trace) (spare : (t.spare ≡ s.spare) ⊎ (b.owed.units ≤ t.spare)) where
+module _ (d : Disk) (b c : Parts) (s t : State) (v : IsVolume d b s) (same : IsSame s t) (agree : Agree s.now s.past) (is : c ≡ record b { trace = c.trace; reclaiming = record b.reclaiming { releases = c.reclaiming.releases } })
+    (items : c.trace.items ≡ b.trace.items) (len : vec_len c.trace ≡ vec_len b.trace) (capacity : vec_capacity b.trace ≤ vec_capacity c.trace)
+    (releases : c.reclaiming.releases.items ≡ b.reclaiming.releases.items) (releases_len : deque_len c.reclaiming.releases ≡ deque_len b.reclaiming.releases)
+    (releases_capacity : deque_capacity b.reclaiming.releases ≤ deque_capacity c.reclaiming.releases) (spare : (t.spare ≡ s.spare) ⊎ (b.owed.units ≤ t.spare)) where
   abbrev b' : Parts
-  b' = record b { trace = c.trace }
+  b' = record b { trace = c.trace; reclaiming = record b.reclaiming { releases = c.reclaiming.releases } }
 
   holds_still : (who ino : ℕ) → Holds b who ino → Holds b' who ino
   holds_still who ino (by_client f flies has) = by_client f (record { client = flies.client; is = flies.is }) has
@@ -78,7 +83,7 @@ module _ (d : Disk) (b c : Parts) (s t : State) (v : IsVolume d b s) (same : IsS
       named_so = λ i name some out. (λ x. x, λ x. x);
       word = λ page k read. refl;
       unused = λ page out unused. unused;
-      slots = λ i idx m out mapped. refl;
+      slots = λ i idx m in_table out mapped. refl;
       counting = λ row has some. record { still = row; there = has; slot = refl; page = refl; print = refl };
     };
     only = stores_only-same (IsWordOf [] [] d) s t agree same;
@@ -101,10 +106,24 @@ module _ (d : Disk) (b c : Parts) (s t : State) (v : IsVolume d b s) (same : IsS
     trace = omega (arith, v.room.trace, len, capacity);
     history = v.room.history;
     queue = v.room.queue;
-    releases = v.room.releases;
+    releases = omega (arith, v.room.releases, releases_len, releases_capacity);
     names = v.room.names;
     places = λ who f x n flies data_is at. v.room.places who f x n (record { client = flies.client; is = flies.is }) data_is at;
   }
+
+  same_length : length c.reclaiming.releases.items ≡ length b.reclaiming.releases.items
+  same_length = ap (λ (xs : List ℕ). length xs) releases
+
+  counts : AreCounted d b'
+  counts = mappings_counted d d b b' (λ slot. 0) (λ slot. 0) (record {
+    rows_same = refl;
+    mappings_move = λ row has. refl;
+    raised_move = λ slot. omega arith;
+    added_move = λ slot. omega arith;
+    dropped_move = λ slot. let same = ap (times slot) releases in omega (arith, same);
+    zero_same = refl;
+    few = omega (arith, v.counts.few, same_length);
+  }) v.counts
 
   with_room : IsVolume d b' t
   with_room = record {
@@ -127,11 +146,11 @@ module _ (d : Disk) (b c : Parts) (s t : State) (v : IsVolume d b s) (same : IsS
       left = v.space.left;
     };
     table = v.table;
-    counts = record { balanced = v.counts.balanced; there = v.counts.there; zero_checked = v.counts.zero_checked; few = v.counts.few };
+    counts = counts;
     flights = record { clients = v.flights.clients; each = λ q f flies. stay q f (below q f flies) flies };
     queue = record { waits = λ ino idx m place undone. waits_still ino m.slot (v.queue.waits ino idx m place undone) };
     sharing = v.sharing;
-    reclaiming = record { waiting = v.reclaiming.waiting; zero_check = v.reclaiming.zero_check; raised = v.reclaiming.raised };
+    reclaiming = record { waiting = omega (arith, v.reclaiming.waiting, same_length); zero_check = v.reclaiming.zero_check; raised = v.reclaiming.raised };
     pointers = v.pointers;
     room = room;
     trace = subst (All (λ (change : CountChange). change.slot < slots b.geometry)) (sym items) v.trace;

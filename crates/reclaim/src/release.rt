@@ -1,7 +1,7 @@
 // A waiting release is settled.
-ghost use Rattle.std.specs.Prelude.{◌≡◌, ◌⊎◌, ℕ, ◌+◌, ◌^◌, ◌<◌, ◌≤◌, true, false, None, OnOk, IfOk, IsErr, vec_len, vec_capacity, slice_index_or};
+ghost use Rattle.std.specs.Prelude.{◌≡◌, ℕ, ◌+◌, ◌^◌, ◌<◌, ◌≤◌, false, None, OnOk, IfOk, IsErr, vec_len, vec_capacity, slice_index_or};
 ghost use Rattle.std.specs.VecDeque.{deque_len};
-ghost use Rattle.pm_device.specs.State.{Rose, IsSame};
+ghost use Rattle.pm_device.specs.State.{Rose};
 ghost use Rattle.pm_device.specs.Settled.{StoresOnly, KeepsFlushed, Others, SettlesAll};
 ghost use Rattle.pm_layout.specs.Geometry.{slot_word};
 ghost use Rattle.dn_model.specs.Disk.{Disk};
@@ -101,44 +101,5 @@ pub fn settle_release<D: Pm, F: Fingerprint>(v: &mut Volume<D, F>) -> Outcome
             stop(&mut v.parts);
             Outcome::Stopped
         }
-    }
-}
-
-// Makes room for the release that comes next.
-fn ready_release<D: Pm, F: Fingerprint>(v: &mut Volume<D, F>) -> bool
-    ensures same { IsSame (D.state v.old.device) (D.state v.new.device) }
-    ensures parts { v.new.parts ≡ record v.old.parts { trace = v.new.parts.trace } }
-    ensures trace { v.new.parts.trace.items ≡ v.old.parts.trace.items }
-    ensures len { vec_len v.new.parts.trace ≡ vec_len v.old.parts.trace }
-    ensures capacity { vec_capacity v.old.parts.trace ≤ vec_capacity v.new.parts.trace }
-    ensures spare { ((D.state v.new.device).spare ≡ (D.state v.old.device).spare) ⊎ (v.old.parts.owed.units ≤ (D.state v.new.device).spare) }
-    ensures room { result ≡ true → (v.old.parts.owed.units + RELEASE_UNITS < 2 ^ 64) × (v.old.parts.owed.units + RELEASE_UNITS ≤ (D.state v.new.device).spare) × (vec_len v.old.parts.trace + v.old.parts.owed.trace + 1 ≤ vec_capacity v.new.parts.trace) }
-{
-    let Some(units) = v.parts.owed.units.checked_add(RELEASE_UNITS) else {
-        return false;
-    };
-    let Some(changes) = v.parts.owed.trace.checked_add(1) else {
-        return false;
-    };
-    if v.device.ready(units).is_err() {
-        return false;
-    }
-    v.parts.trace.reserve(changes as usize).is_ok()
-}
-
-/// A release that waits is settled, where memory is there for it.
-pub fn release<D: Pm, F: Fingerprint>(v: &mut Volume<D, F>) -> Outcome
-    requires agrees { Agrees D.state v.old }
-    requires running { v.old.parts.stopped ≡ false }
-    requires unchecked { v.old.parts.reclaiming.zero_check ≡ None }
-    requires unraised { v.old.parts.reclaiming.raised ≡ None }
-    requires some { 0 < deque_len v.old.parts.reclaiming.releases }
-    ensures agrees { Agrees D.state v.new }
-    ensures event { (d : Disk) → IsVolume d v.old.parts (D.state v.old.device) → ReclaimWorks D.state F.print v.old v.new d result }
-{
-    if ready_release(v) {
-        settle_release(v)
-    } else {
-        Outcome::NoMemory
     }
 }
