@@ -87,7 +87,7 @@ module _ (inodes pages : List ℕ) (d e : Disk) (valid : IsValid d) (rest : Keep
           let was = sym (place (sharing.first + i)) ∙ mapped in
           ⊎_elim (λ alone. inl alone)
           (λ has. inr (has_row (row_of (rows e) m.block) (row_of (rows d) m.block) (rest.slots sharing.work.ino (sharing.first + i) m
-           is.begun.in_table out was)
+          is.begun.in_table out was)
           has)) (is.begun.done_so i m lt was by_item);
     }
 

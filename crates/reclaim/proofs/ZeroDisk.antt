@@ -60,11 +60,15 @@ module _ (d : Disk) (row : Row) (valid : IsValid d) (has : Contains (rows d) row
 
   -- nothing is mapped to its page
   no_place : (i idx : ℕ) (m : Mapping) → i < d.geometry.inodes → maps d i idx ≡ Some m → m.block ≡ row.page → ⊥
-  no_place i idx m lt is same = absurd (omega (arith, unmapped, mapped_counts d row.page (record {
-    ino = i;
-    idx = idx;
-    maps_to = record { in_table = lt; in_file = maps-in_file d valid i idx m lt is; by = m; is = is; block = same };
-  })))
+  no_place i idx m lt is same = absurd (omega (
+    arith,
+    unmapped,
+    mapped_counts d row.page (record {
+      ino = i;
+      idx = idx;
+      maps_to = record { in_table = lt; in_file = maps-in_file d valid i idx m lt is; by = m; is = is; block = same };
+    }),
+  ))
 
   pub removed_own : (print : Print) → IsOwn print d → IsOwn print (removed d row.slot)
   removed_own print = remove_own d row valid has print (λ ino idx m place done same. absurd (no_place ino idx m place.in_table place.maps same))

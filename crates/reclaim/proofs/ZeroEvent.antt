@@ -116,13 +116,15 @@ module _ (d : Disk) (b : Parts) (s u : State) (v : IsVolume d b s) (slot : ℕ) 
 
   gate_told : (w : ℕ) × TableSays e (deciding_word d row) w
   gate_told = elim (cases_eq row.slot prefix) [
-    | inl same ↦
-        (_, inl (record {
-          prefix = prefix;
-          direct = direct;
-          says = at_direct_page (ap (λ (t : Bool). if t then slot_word d.geometry row.slot 0 else slot_word d.geometry (slot_before prefix (d.chain prefix) row.slot) 5) (same_test row.slot prefix same)
-              ∙ ap (λ (x : ℕ). slot_word d.geometry x 0) same) refl;
-        }))
+    | inl same ↦ (
+      _,
+      inl (record {
+        prefix = prefix;
+        direct = direct;
+        says = at_direct_page (ap (λ (t : Bool). if t then slot_word d.geometry row.slot 0 else slot_word d.geometry (slot_before prefix (d.chain prefix) row.slot) 5) (same_test row.slot prefix same)
+            ∙ ap (λ (x : ℕ). slot_word d.geometry x 0) same) refl;
+      }),
+    )
     | inr other ↦ behind (ap (λ (t : Bool). if t then slot_word d.geometry row.slot 0 else slot_word d.geometry (slot_before prefix (d.chain prefix) row.slot) 5) (other_test row.slot prefix other))
         (before_at row.slot prefix (d.chain prefix))
   ]
