@@ -3,7 +3,7 @@
 # yet), runs a job on it, shows the replies, and checks the image.
 #
 # sh examples/first.sh               proves and builds the program first, where that isn't done
-# sh examples/first.sh --unproved    shows the same in about a minute, by a build that proves nothing
+# sh examples/first.sh --unproved    shows the same in a minute or two, by a build that proves nothing
 set -eu
 here=$(cd "$(dirname "$0")/.." && pwd)
 folder=$(mktemp -d)
@@ -12,7 +12,7 @@ image=$folder/sample.img
 
 case ${1:-} in
 --unproved)
-    echo "Without proofs: what follows is run by a build that proves nothing. It takes about a minute." >&2
+    echo "Without proofs: what follows is run by a build that proves nothing. It takes a minute or two." >&2
     denova() {
         (cd "$here/crates/denova_cli" && rt try -- "$@" 2>"$folder/said") | grep -v -e '^checked: ' -e '^run='
     }
