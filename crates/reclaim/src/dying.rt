@@ -28,7 +28,9 @@ fn note_place(parts: &mut Parts, p: DyingPlace, word: u64)
 {
     parts.reclaiming.raised = Some(p);
     parts.reclaiming.waiting -= 1;
-    parts.trace.push_reserved(CountChange { slot: p.slot, word });
+    parts
+        .trace
+        .push_reserved(CountChange { slot: p.slot, word });
     parts.owed.units += FALL_UNITS;
     parts.owed.releases += 1;
     parts.made = parts.made.saturating_add(1);

@@ -93,7 +93,12 @@ pub fn drop_place<D: Pm, F: Fingerprint>(v: &mut Volume<D, F>) -> Outcome
 
 /// The cut of a dying inode falls to its last place, which is on a page without a row: that page is free. `Stopped`
 /// where a fence of the device failed.
-pub fn free_place<D: Pm, F: Fingerprint>(v: &mut Volume<D, F>, ino: u64, place: u64, page: u64) -> Outcome
+pub fn free_place<D: Pm, F: Fingerprint>(
+    v: &mut Volume<D, F>,
+    ino: u64,
+    place: u64,
+    page: u64,
+) -> Outcome
     requires agrees { Agrees D.state v.old }
     requires running { v.old.parts.stopped ≡ false }
     requires unraised { v.old.parts.reclaiming.raised ≡ None }

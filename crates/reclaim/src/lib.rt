@@ -9,7 +9,6 @@ pub mod end;
 pub mod fall;
 pub mod order;
 pub mod raise;
-
 pub mod release;
 pub mod share;
 pub mod zero;

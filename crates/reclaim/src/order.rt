@@ -35,7 +35,11 @@ fn make_room<D: Pm, F: Fingerprint>(v: &mut Volume<D, F>) -> bool
     if v.parts.trace.reserve(changes as usize).is_err() {
         return false;
     }
-    v.parts.reclaiming.releases.reserve(releases as usize).is_ok()
+    v.parts
+        .reclaiming
+        .releases
+        .reserve(releases as usize)
+        .is_ok()
 }
 
 // A release waits, or the next event is one of a dying file.

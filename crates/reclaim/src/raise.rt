@@ -22,7 +22,12 @@ use fingerprint::Fingerprint;
 use pm_device::{Failed, Pm};
 
 // The row at a slot is raised: the word that its counts have then.
-pub(crate) fn raise_at<D: Pm>(fact: &Fact, device: &mut D, who: u32, slot: u64) -> Result<u64, Failed>
+pub(crate) fn raise_at<D: Pm>(
+    fact: &Fact,
+    device: &mut D,
+    who: u32,
+    slot: u64,
+) -> Result<u64, Failed>
     requires row { HasRowWith (D.state device.old).now fact.now slot MayRaise }
     requires room { 3 ≤ (D.state device.old).spare }
     ensures images { LeavesTables raised fact.now slot (D.state device.old) (D.state device.new) }

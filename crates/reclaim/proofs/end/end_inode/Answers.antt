@@ -1,4 +1,4 @@
-use Rattle.std.proofs.Common.{ℕ, ◌/◌, ◌*◌, ◌+◌, ◌≤◌, ◌<◌, length, sym, ◌∙◌, ap, subst, arith}
+use Rattle.std.proofs.Common.{ℕ, ◌/◌, ◌*◌, ◌+◌, ◌≤◌, length, sym, ◌∙◌, ap, subst, arith}
 use Rattle.pm_layout.specs.Geometry.{IsAccepted}
 use Rattle.dn_volume.specs.Agrees.{is_stopped}
 use Rattle.dn_volume.proofs.Tables.{running_disk}
@@ -6,7 +6,7 @@ use Rattle.reclaim.proofs.Ends.{err_is}
 use Rattle.reclaim.proofs.NextPlace.{may_end}
 use Rattle.reclaim.proofs.EndedInode.{ends_since}
 use Rattle.reclaim.proofs.Zeroed.{stops_freed}
-use Rattle.reclaim.proofs.LogWalk.{log_leads, can_give_log}
+use Rattle.reclaim.proofs.LogWalk.{can_give_log}
 use Rattle.reclaim.proofs.WorkEnds.{sets_at, done_at, moved_agrees, some_work, less_work, end_gives, end_ino, end_there, end_line, end_waits, end_moves, end_breaks}
 use Rattle.reclaim.proofs.end.end_inode.Goals as goal
 
@@ -47,7 +47,11 @@ returns-in-Ok-clause-agrees g c =
     let S = g.D.Pm.state in
     let found = running_disk S c.args.v.now c.requires.running c.requires.agrees in
     let sets = sets_at _ _ 0 (S c.args.v.now.device) (S c.set_word.new.device) c.inode_word.ensures (record {
-      any_moment = c.set_word.ensures.any_moment; only = c.set_word.ensures.only; others = c.set_word.ensures.others; spare = c.set_word.ensures.spare; faults = c.set_word.ensures.faults;
+      any_moment = c.set_word.ensures.any_moment;
+      only = c.set_word.ensures.only;
+      others = c.set_word.ensures.others;
+      spare = c.set_word.ensures.spare;
+      faults = c.set_word.ensures.faults;
     }) in
     moved_agrees S c.args.v.now g.F.Fingerprint.print _ found.0 (end_moves S c.args.v.now c.args.ino c.requires.none c.requires.unraised g.F.Fingerprint.print _ sets (g.met.D.Pm.agree c.set_word.new.device) found.0 found.1
     (done_at _ _ 0 (S c.args.v.now.device) (S c.set_word.new.device) c.inode_word.ensures c.in-Ok.ensures.done) c.in-Ok.ensures.settles c.requires.units (ends_since c.args.ino c.args.v.now.parts c.give_back_log.new.free _ c.note_end.ensures.ends)
@@ -57,11 +61,15 @@ pub returns-in-Ok-clause-event : goal.returns-in-Ok-clause-event
 returns-in-Ok-clause-event g c = λ d v.
     let S = g.D.Pm.state in
     let sets = sets_at _ _ 0 (S c.args.v.now.device) (S c.set_word.new.device) c.inode_word.ensures (record {
-      any_moment = c.set_word.ensures.any_moment; only = c.set_word.ensures.only; others = c.set_word.ensures.others; spare = c.set_word.ensures.spare; faults = c.set_word.ensures.faults;
+      any_moment = c.set_word.ensures.any_moment;
+      only = c.set_word.ensures.only;
+      others = c.set_word.ensures.others;
+      spare = c.set_word.ensures.spare;
+      faults = c.set_word.ensures.faults;
     }) in (
       end_moves S c.args.v.now c.args.ino c.requires.none c.requires.unraised g.F.Fingerprint.print _ sets (g.met.D.Pm.agree c.set_word.new.device) d v
           (done_at _ _ 0 (S c.args.v.now.device) (S c.set_word.new.device) c.inode_word.ensures c.in-Ok.ensures.done) c.in-Ok.ensures.settles c.requires.units (ends_since c.args.ino c.args.v.now.parts c.give_back_log.new.free _ c.note_end.ensures.ends)
-    (end_gives c.args.v.now.parts (S c.args.v.now.device) d v c.args.ino c.requires.none c.give_back_log.new.free _ c.give_back_log.ensures c.note_end.ensures.free),
+          (end_gives c.args.v.now.parts (S c.args.v.now.device) d v c.args.ino c.requires.none c.give_back_log.new.free _ c.give_back_log.ensures c.note_end.ensures.free),
       some_work c.args.v.now.parts (end_waits S c.args.v.now c.args.ino c.requires.none c.requires.unraised c.requires.agrees c.requires.running),
       less_work c.args.v.now.parts c.note_end.new.parts (ends_since c.args.ino c.args.v.now.parts c.give_back_log.new.free c.note_end.new.parts c.note_end.ensures.ends).kept (omega (arith, c.note_end.ensures.ends.waiting)),
     )
@@ -71,7 +79,11 @@ returns-in-Err-clause-agrees g c =
     let S = g.D.Pm.state in
     let found = running_disk S c.args.v.now c.requires.running c.requires.agrees in
     let sets = sets_at _ _ 0 (S c.args.v.now.device) (S c.set_word.new.device) c.inode_word.ensures (record {
-      any_moment = c.set_word.ensures.any_moment; only = c.set_word.ensures.only; others = c.set_word.ensures.others; spare = c.set_word.ensures.spare; faults = c.set_word.ensures.faults;
+      any_moment = c.set_word.ensures.any_moment;
+      only = c.set_word.ensures.only;
+      others = c.set_word.ensures.others;
+      spare = c.set_word.ensures.spare;
+      faults = c.set_word.ensures.faults;
     }) in
     is_stopped (end_breaks S c.args.v.now c.args.ino c.requires.none c.requires.unraised g.F.Fingerprint.print (record { device = c.set_word.new.device; print = c.args.v.now.print; parts = c.stop.new.parts }) sets (g.met.D.Pm.agree c.set_word.new.device) found.0 found.1 (stops_freed c.args.v.now.parts c.give_back_log.new.free c.stop.new.parts c.stop.ensures)
     (c.set_word.ensures.failed (err_is c.set_word.result _ c.in-Err.is))).stopped
@@ -80,7 +92,12 @@ pub returns-in-Err-clause-event : goal.returns-in-Err-clause-event
 returns-in-Err-clause-event g c = λ d v.
     let S = g.D.Pm.state in
     let sets = sets_at _ _ 0 (S c.args.v.now.device) (S c.set_word.new.device) c.inode_word.ensures (record {
-      any_moment = c.set_word.ensures.any_moment; only = c.set_word.ensures.only; others = c.set_word.ensures.others; spare = c.set_word.ensures.spare; faults = c.set_word.ensures.faults;
-    }) in
-    (end_breaks S c.args.v.now c.args.ino c.requires.none c.requires.unraised g.F.Fingerprint.print (record { device = c.set_word.new.device; print = c.args.v.now.print; parts = c.stop.new.parts }) sets (g.met.D.Pm.agree c.set_word.new.device) d v (stops_freed c.args.v.now.parts c.give_back_log.new.free c.stop.new.parts c.stop.ensures) (c.set_word.ensures.failed (err_is c.set_word.result _ c.in-Err.is)),
-    some_work c.args.v.now.parts (end_waits S c.args.v.now c.args.ino c.requires.none c.requires.unraised c.requires.agrees c.requires.running))
+      any_moment = c.set_word.ensures.any_moment;
+      only = c.set_word.ensures.only;
+      others = c.set_word.ensures.others;
+      spare = c.set_word.ensures.spare;
+      faults = c.set_word.ensures.faults;
+    }) in (
+      end_breaks S c.args.v.now c.args.ino c.requires.none c.requires.unraised g.F.Fingerprint.print (record { device = c.set_word.new.device; print = c.args.v.now.print; parts = c.stop.new.parts }) sets (g.met.D.Pm.agree c.set_word.new.device) d v (stops_freed c.args.v.now.parts c.give_back_log.new.free c.stop.new.parts c.stop.ensures) (c.set_word.ensures.failed (err_is c.set_word.result _ c.in-Err.is)),
+      some_work c.args.v.now.parts (end_waits S c.args.v.now c.args.ino c.requires.none c.requires.unraised c.requires.agrees c.requires.running),
+    )

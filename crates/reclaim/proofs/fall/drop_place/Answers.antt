@@ -1,4 +1,4 @@
-use Rattle.std.proofs.Common.{ℕ, ◌/◌, ◌*◌, ◌+◌, ◌≤◌, ◌<◌, length, sym, subst, arith}
+use Rattle.std.proofs.Common.{ℕ, ◌/◌, ◌*◌, ◌+◌, ◌≤◌, length, sym, subst, arith}
 use Rattle.dn_volume.specs.Agrees.{is_stopped}
 use Rattle.dn_volume.proofs.Tables.{running_disk}
 use Rattle.reclaim.proofs.Ends.{err_is}
@@ -35,7 +35,11 @@ returns-in-Ok-clause-agrees g c =
     let S = g.D.Pm.state in
     let found = running_disk S c.args.v.now c.requires.running c.requires.agrees in
     let sets = sets_at _ _ c.in-Some.p.place (S c.args.v.now.device) (S c.set_word.new.device) c.inode_word-word.ensures (record {
-      any_moment = c.set_word.ensures.any_moment; only = c.set_word.ensures.only; others = c.set_word.ensures.others; spare = c.set_word.ensures.spare; faults = c.set_word.ensures.faults;
+      any_moment = c.set_word.ensures.any_moment;
+      only = c.set_word.ensures.only;
+      others = c.set_word.ensures.others;
+      spare = c.set_word.ensures.spare;
+      faults = c.set_word.ensures.faults;
     }) in
     moved_agrees S c.args.v.now g.F.Fingerprint.print _ found.0 (drop_moves S c.args.v.now c.in-Some.p c.in-Some.is g.F.Fingerprint.print _ sets (g.met.D.Pm.agree c.set_word.new.device) found.0 found.1
     (done_at _ _ c.in-Some.p.place (S c.args.v.now.device) (S c.set_word.new.device) c.inode_word-word.ensures c.in-Ok.ensures.done) c.in-Ok.ensures.settles c.note_drop.ensures)
@@ -44,7 +48,11 @@ pub returns-in-Ok-clause-event : goal.returns-in-Ok-clause-event
 returns-in-Ok-clause-event g c = λ d v.
     let S = g.D.Pm.state in
     let sets = sets_at _ _ c.in-Some.p.place (S c.args.v.now.device) (S c.set_word.new.device) c.inode_word-word.ensures (record {
-      any_moment = c.set_word.ensures.any_moment; only = c.set_word.ensures.only; others = c.set_word.ensures.others; spare = c.set_word.ensures.spare; faults = c.set_word.ensures.faults;
+      any_moment = c.set_word.ensures.any_moment;
+      only = c.set_word.ensures.only;
+      others = c.set_word.ensures.others;
+      spare = c.set_word.ensures.spare;
+      faults = c.set_word.ensures.faults;
     }) in (
       drop_moves S c.args.v.now c.in-Some.p c.in-Some.is g.F.Fingerprint.print _ sets (g.met.D.Pm.agree c.set_word.new.device) d v
           (done_at _ _ c.in-Some.p.place (S c.args.v.now.device) (S c.set_word.new.device) c.inode_word-word.ensures c.in-Ok.ensures.done) c.in-Ok.ensures.settles c.note_drop.ensures,
@@ -57,7 +65,11 @@ returns-in-Err-clause-agrees g c =
     let S = g.D.Pm.state in
     let found = running_disk S c.args.v.now c.requires.running c.requires.agrees in
     let sets = sets_at _ _ c.in-Some.p.place (S c.args.v.now.device) (S c.set_word.new.device) c.inode_word-word.ensures (record {
-      any_moment = c.set_word.ensures.any_moment; only = c.set_word.ensures.only; others = c.set_word.ensures.others; spare = c.set_word.ensures.spare; faults = c.set_word.ensures.faults;
+      any_moment = c.set_word.ensures.any_moment;
+      only = c.set_word.ensures.only;
+      others = c.set_word.ensures.others;
+      spare = c.set_word.ensures.spare;
+      faults = c.set_word.ensures.faults;
     }) in
     is_stopped (drop_breaks S c.args.v.now c.in-Some.p c.in-Some.is g.F.Fingerprint.print (record { device = c.set_word.new.device; print = c.args.v.now.print; parts = c.stop.new.parts }) sets (g.met.D.Pm.agree c.set_word.new.device) found.0 found.1 c.stop.ensures
     (c.set_word.ensures.failed (err_is c.set_word.result _ c.in-Err.is))).stopped
@@ -66,7 +78,12 @@ pub returns-in-Err-clause-event : goal.returns-in-Err-clause-event
 returns-in-Err-clause-event g c = λ d v.
     let S = g.D.Pm.state in
     let sets = sets_at _ _ c.in-Some.p.place (S c.args.v.now.device) (S c.set_word.new.device) c.inode_word-word.ensures (record {
-      any_moment = c.set_word.ensures.any_moment; only = c.set_word.ensures.only; others = c.set_word.ensures.others; spare = c.set_word.ensures.spare; faults = c.set_word.ensures.faults;
-    }) in
-    (drop_breaks S c.args.v.now c.in-Some.p c.in-Some.is g.F.Fingerprint.print (record { device = c.set_word.new.device; print = c.args.v.now.print; parts = c.stop.new.parts }) sets (g.met.D.Pm.agree c.set_word.new.device) d v c.stop.ensures (c.set_word.ensures.failed (err_is c.set_word.result _ c.in-Err.is)),
-    some_work c.args.v.now.parts (drop_waits S c.args.v.now c.in-Some.p c.in-Some.is c.requires.agrees c.requires.running))
+      any_moment = c.set_word.ensures.any_moment;
+      only = c.set_word.ensures.only;
+      others = c.set_word.ensures.others;
+      spare = c.set_word.ensures.spare;
+      faults = c.set_word.ensures.faults;
+    }) in (
+      drop_breaks S c.args.v.now c.in-Some.p c.in-Some.is g.F.Fingerprint.print (record { device = c.set_word.new.device; print = c.args.v.now.print; parts = c.stop.new.parts }) sets (g.met.D.Pm.agree c.set_word.new.device) d v c.stop.ensures (c.set_word.ensures.failed (err_is c.set_word.result _ c.in-Err.is)),
+      some_work c.args.v.now.parts (drop_waits S c.args.v.now c.in-Some.p c.in-Some.is c.requires.agrees c.requires.running),
+    )

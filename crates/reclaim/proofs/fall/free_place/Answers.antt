@@ -1,4 +1,4 @@
-use Rattle.std.proofs.Common.{ℕ, ◌/◌, ◌*◌, ◌+◌, ◌≤◌, ◌<◌, length, sym, subst, arith}
+use Rattle.std.proofs.Common.{ℕ, ◌/◌, ◌*◌, ◌+◌, ◌≤◌, length, sym, subst, arith}
 use Rattle.dn_volume.specs.Agrees.{is_stopped}
 use Rattle.dn_volume.proofs.Tables.{running_disk}
 use Rattle.reclaim.proofs.Ends.{err_is}
@@ -29,7 +29,11 @@ returns-in-Ok-clause-agrees g c =
     let S = g.D.Pm.state in
     let found = running_disk S c.args.v.now c.requires.running c.requires.agrees in
     let sets = sets_at _ _ c.args.place (S c.args.v.now.device) (S c.set_word.new.device) c.inode_word-word.ensures (record {
-      any_moment = c.set_word.ensures.any_moment; only = c.set_word.ensures.only; others = c.set_word.ensures.others; spare = c.set_word.ensures.spare; faults = c.set_word.ensures.faults;
+      any_moment = c.set_word.ensures.any_moment;
+      only = c.set_word.ensures.only;
+      others = c.set_word.ensures.others;
+      spare = c.set_word.ensures.spare;
+      faults = c.set_word.ensures.faults;
     }) in
     moved_agrees S c.args.v.now g.F.Fingerprint.print _ found.0 (free_moves S c.args.v.now c.args.ino c.args.place c.args.page c.requires.place c.requires.no_row c.requires.unraised g.F.Fingerprint.print _ sets (g.met.D.Pm.agree c.set_word.new.device) found.0 found.1
     (done_at _ _ c.args.place (S c.args.v.now.device) (S c.set_word.new.device) c.inode_word-word.ensures c.in-Ok.ensures.done) c.in-Ok.ensures.settles c.requires.units c.note_freed.ensures)
@@ -38,7 +42,11 @@ pub returns-in-Ok-clause-event : goal.returns-in-Ok-clause-event
 returns-in-Ok-clause-event g c = λ d v.
     let S = g.D.Pm.state in
     let sets = sets_at _ _ c.args.place (S c.args.v.now.device) (S c.set_word.new.device) c.inode_word-word.ensures (record {
-      any_moment = c.set_word.ensures.any_moment; only = c.set_word.ensures.only; others = c.set_word.ensures.others; spare = c.set_word.ensures.spare; faults = c.set_word.ensures.faults;
+      any_moment = c.set_word.ensures.any_moment;
+      only = c.set_word.ensures.only;
+      others = c.set_word.ensures.others;
+      spare = c.set_word.ensures.spare;
+      faults = c.set_word.ensures.faults;
     }) in (
       free_moves S c.args.v.now c.args.ino c.args.place c.args.page c.requires.place c.requires.no_row c.requires.unraised g.F.Fingerprint.print _ sets (g.met.D.Pm.agree c.set_word.new.device) d v
           (done_at _ _ c.args.place (S c.args.v.now.device) (S c.set_word.new.device) c.inode_word-word.ensures c.in-Ok.ensures.done) c.in-Ok.ensures.settles c.requires.units c.note_freed.ensures,
@@ -51,7 +59,11 @@ returns-in-Err-clause-agrees g c =
     let S = g.D.Pm.state in
     let found = running_disk S c.args.v.now c.requires.running c.requires.agrees in
     let sets = sets_at _ _ c.args.place (S c.args.v.now.device) (S c.set_word.new.device) c.inode_word-word.ensures (record {
-      any_moment = c.set_word.ensures.any_moment; only = c.set_word.ensures.only; others = c.set_word.ensures.others; spare = c.set_word.ensures.spare; faults = c.set_word.ensures.faults;
+      any_moment = c.set_word.ensures.any_moment;
+      only = c.set_word.ensures.only;
+      others = c.set_word.ensures.others;
+      spare = c.set_word.ensures.spare;
+      faults = c.set_word.ensures.faults;
     }) in
     is_stopped (free_breaks S c.args.v.now c.args.ino c.args.place c.args.page c.requires.place c.requires.no_row c.requires.unraised g.F.Fingerprint.print (record { device = c.set_word.new.device; print = c.args.v.now.print; parts = c.stop.new.parts }) sets (g.met.D.Pm.agree c.set_word.new.device) found.0 found.1 c.stop.ensures
     (c.set_word.ensures.failed (err_is c.set_word.result _ c.in-Err.is))).stopped
@@ -60,7 +72,12 @@ pub returns-in-Err-clause-event : goal.returns-in-Err-clause-event
 returns-in-Err-clause-event g c = λ d v.
     let S = g.D.Pm.state in
     let sets = sets_at _ _ c.args.place (S c.args.v.now.device) (S c.set_word.new.device) c.inode_word-word.ensures (record {
-      any_moment = c.set_word.ensures.any_moment; only = c.set_word.ensures.only; others = c.set_word.ensures.others; spare = c.set_word.ensures.spare; faults = c.set_word.ensures.faults;
-    }) in
-    (free_breaks S c.args.v.now c.args.ino c.args.place c.args.page c.requires.place c.requires.no_row c.requires.unraised g.F.Fingerprint.print (record { device = c.set_word.new.device; print = c.args.v.now.print; parts = c.stop.new.parts }) sets (g.met.D.Pm.agree c.set_word.new.device) d v c.stop.ensures (c.set_word.ensures.failed (err_is c.set_word.result _ c.in-Err.is)),
-    some_work c.args.v.now.parts (let four = free_waits S c.args.v.now c.args.ino c.args.place c.args.page c.requires.place c.requires.no_row c.requires.unraised c.requires.agrees c.requires.running in omega (arith, four)))
+      any_moment = c.set_word.ensures.any_moment;
+      only = c.set_word.ensures.only;
+      others = c.set_word.ensures.others;
+      spare = c.set_word.ensures.spare;
+      faults = c.set_word.ensures.faults;
+    }) in (
+      free_breaks S c.args.v.now c.args.ino c.args.place c.args.page c.requires.place c.requires.no_row c.requires.unraised g.F.Fingerprint.print (record { device = c.set_word.new.device; print = c.args.v.now.print; parts = c.stop.new.parts }) sets (g.met.D.Pm.agree c.set_word.new.device) d v c.stop.ensures (c.set_word.ensures.failed (err_is c.set_word.result _ c.in-Err.is)),
+      some_work c.args.v.now.parts (let four = free_waits S c.args.v.now c.args.ino c.args.place c.args.page c.requires.place c.requires.no_row c.requires.unraised c.requires.agrees c.requires.running in omega (arith, four)),
+    )

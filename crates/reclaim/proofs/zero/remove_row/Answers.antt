@@ -1,4 +1,4 @@
-use Rattle.std.proofs.Common.{◌≡◌, ◌<◌, sym, subst, arith}
+use Rattle.std.proofs.Common.{◌≡◌, sym, subst, arith}
 use Rattle.fact_changes.specs.Removal.{MakesRemoved}
 use Rattle.dn_volume.specs.Agrees.{is_stopped}
 use Rattle.dn_volume.proofs.Tables.{running_disk}
@@ -67,7 +67,8 @@ returns-in-Err-clause-agrees g c =
 
 pub returns-in-Err-clause-event : goal.returns-in-Err-clause-event
 returns-in-Err-clause-event g c = λ d v.
-    let S = g.D.Pm.state in
-    (gone_breaks S c.args.v.now c.args.slot c.requires.pending c.args.page c.requires.zero d v (record { device = c.remove_zero.new.device; print = c.args.v.now.print; parts = c.stop.new.parts }) c.remove_zero.ensures.only c.remove_zero.ensures.images (g.met.D.Pm.agree c.remove_zero.new.device)
-    c.remove_zero.ensures.faults g.F.Fingerprint.print (stops_since c.args.v.now.parts c.remove_zero.new.fact c.stop.new.parts c.stop.ensures) (c.remove_zero.ensures.failed (err_is c.remove_zero.result _ c.in-Err.is)),
-    some_work c.args.v.now.parts (zero_waits S c.args.v.now c.args.slot c.requires.pending c.requires.agrees c.requires.running))
+    let S = g.D.Pm.state in (
+      gone_breaks S c.args.v.now c.args.slot c.requires.pending c.args.page c.requires.zero d v (record { device = c.remove_zero.new.device; print = c.args.v.now.print; parts = c.stop.new.parts }) c.remove_zero.ensures.only c.remove_zero.ensures.images (g.met.D.Pm.agree c.remove_zero.new.device)
+          c.remove_zero.ensures.faults g.F.Fingerprint.print (stops_since c.args.v.now.parts c.remove_zero.new.fact c.stop.new.parts c.stop.ensures) (c.remove_zero.ensures.failed (err_is c.remove_zero.result _ c.in-Err.is)),
+      some_work c.args.v.now.parts (zero_waits S c.args.v.now c.args.slot c.requires.pending c.requires.agrees c.requires.running),
+    )
