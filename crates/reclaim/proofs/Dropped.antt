@@ -1,6 +1,6 @@
 -- The raised place of a dying inode is gone.
-use Rattle.std.proofs.Common.{◌≡◌, ◌≢◌, ◌⊎◌, inl, inr, ⊎_elim, ℕ, zero, suc, ◌+◌, ◌*◌, ◌<◌, ◌≤◌, Bool, List, [], ◌∷◌, ◌++◌, length, length-append, refl, sym, ◌∙◌, ap, subst, arith}
-use Rattle.std.specs.Prelude.{Option, Some, None, IsNone, Contains, if◌then◌else◌, ◌==◌}
+use Rattle.std.proofs.Common.{◌≡◌, ◌≢◌, inl, inr, ⊎_elim, ℕ, ◌+◌, ◌≤◌, List, [], ◌∷◌, length, length-append, sym, ◌∙◌, ap, subst, arith}
+use Rattle.std.specs.Prelude.{Option, Some, None, IsNone, Contains}
 use Rattle.std.proofs.lemmas.Bool.{cases_eq}
 use Rattle.pm_device.specs.State.{State}
 use Rattle.pm_device.specs.Settled.{StoresOnly, KeepsFlushed, Others, SettlesAll}
@@ -15,11 +15,9 @@ use Rattle.law_dying.specs.Dying.{Falls, stepped, MayFall}
 use Rattle.law_dying.proofs.Steps.{fall_drops}
 use Rattle.dn_volume.specs.declared.background.DyingPlace.{DyingPlace}
 use Rattle.dn_volume.specs.declared.volume.Parts.{Parts}
-use Rattle.dn_volume.specs.declared.volume.Room.{Room}
 use Rattle.dn_volume.specs.Parties.{flight_at}
-use Rattle.dn_volume.specs.Balance.{times, raised_by, raised_to_share, raised_to_die, added_to_share, raised, added, dropped, AreCounted}
-use Rattle.dn_volume.specs.Reclaims.{one_if, dying_units, IsRaised, IsReclaiming}
-use Rattle.dn_volume.specs.Reserve.{owed_sum}
+use Rattle.dn_volume.specs.Balance.{times, raised_by, raised_to_share, raised_to_die, added_to_share, raised, added, AreCounted}
+use Rattle.dn_volume.specs.Reclaims.{one_if, IsRaised, IsReclaiming}
 use Rattle.dn_volume.specs.Agrees.{IsVolume}
 use Rattle.dn_volume.proofs.HandsKept.{owed_same}
 use Rattle.dn_volume.proofs.MappingsMoved.{mappings_counted}

@@ -1,10 +1,9 @@
 -- A dying inode without places is free, and so are the pages of its log: the volume of after.
-use Rattle.std.proofs.Common.{◌≡◌, ◌≢◌, ◌⊎◌, inl, inr, ⊎_elim, ℕ, ◌+◌, ◌*◌, ◌<◌, ◌≤◌, List, [], ◌∷◌, length, refl, sym, ◌∙◌, ap, subst, arith}
-use Rattle.std.specs.Prelude.{slice_get, Option, Some, None, IsNone, Contains}
+use Rattle.std.proofs.Common.{◌≡◌, ◌⊎◌, inl, inr, ⊎_elim, ℕ, ◌+◌, ◌≤◌, List, [], ◌∷◌, length, sym, ◌∙◌, ap, subst, arith}
+use Rattle.std.specs.Prelude.{Option, None, IsNone, Contains}
 use Rattle.std.specs.Option.{option_map}
 use Rattle.std.specs.FinMap.{get}
 use Rattle.std.specs.VecDeque.{deque_len, deque_capacity}
-use Rattle.std.proofs.lemmas.Bool.{cases_eq}
 use Rattle.pm_device.specs.State.{State}
 use Rattle.pm_device.specs.Settled.{StoresOnly, KeepsFlushed, Others, SettlesAll}
 use Rattle.pm_device.specs.Commit.{IsDone}
@@ -12,8 +11,8 @@ use Rattle.pm_layout.specs.Geometry.{inode_word}
 use Rattle.page_alloc.specs.Free.{FreePages}
 use Rattle.file_content.specs.Content.{kept}
 use Rattle.dn_model.specs.Table.{Row, row_of}
-use Rattle.dn_model.specs.Disk.{Disk, Inode, Use, Free, Dying, IsUsed, rows}
-use Rattle.dn_model.specs.Counts.{total, IsFree}
+use Rattle.dn_model.specs.Disk.{Disk, Inode, Free, Dying, IsUsed}
+use Rattle.dn_model.specs.Counts.{total}
 use Rattle.law_write.specs.Events.{IsUnused}
 use Rattle.law_table.proofs.Rows.{listed_cases}
 use Rattle.law_table_on_disk.specs.OneWord.{IsOneWord}

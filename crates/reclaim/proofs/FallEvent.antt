@@ -1,8 +1,7 @@
 -- What both falls of a cut have in common: the event, once the pages that come free, the counts, the units of work and
 -- the room are shown.
-use Rattle.std.proofs.Common.{◌≡◌, ◌≢◌, ◌⊎◌, inl, inr, ⊎_elim, ℕ, ◌+◌, ◌*◌, ◌<◌, ◌≤◌, List, [], ◌∷◌, length, refl, sym, ◌∙◌, ap, subst, arith}
-use Rattle.std.specs.Prelude.{slice_get, Option, Some, Contains}
-use Rattle.std.proofs.lemmas.Bool.{cases_eq}
+use Rattle.std.proofs.Common.{◌≡◌, ◌≢◌, ◌⊎◌, ⊎_elim, ℕ, ◌≤◌, List, [], ◌∷◌, length, sym, ◌∙◌, subst, arith}
+use Rattle.std.specs.Prelude.{slice_get, Some, Contains}
 use Rattle.pm_device.specs.State.{State}
 use Rattle.pm_device.specs.Settled.{StoresOnly, KeepsFlushed, Others, SettlesAll}
 use Rattle.pm_device.specs.Commit.{IsDone}
@@ -10,7 +9,7 @@ use Rattle.pm_layout.specs.Geometry.{inode_word}
 use Rattle.dn_model.specs.Table.{Row}
 use Rattle.dn_model.specs.Disk.{Disk, Use, Live, Dying, rows}
 use Rattle.law_write.specs.Events.{IsUnused}
-use Rattle.law_table.proofs.Rows.{listed_here, listed_cases}
+use Rattle.law_table.proofs.Rows.{listed_cases}
 use Rattle.law_dying.specs.Dying.{Falls, stepped, MayFall}
 use Rattle.law_dying.proofs.Stepped.{same_geometry}
 use Rattle.fact_table.specs.Table.{HasRow}

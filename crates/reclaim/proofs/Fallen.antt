@@ -1,38 +1,28 @@
 -- The cut of a dying inode fell to its last place: the volume of after.
-use Rattle.std.proofs.Common.{◌≡◌, ◌≢◌, ◌⊎◌, inl, inr, ⊎_elim, ℕ, zero, suc, ◌+◌, ◌*◌, ◌<◌, ◌≤◌, Bool, List, [], ◌∷◌, ◌++◌, length, length-append, refl, sym, ◌∙◌, ap, subst, arith}
-use Rattle.std.specs.Prelude.{slice_get, Option, Some, None, IsNone, IsSome, Contains, if◌then◌else◌, ◌==◌}
+use Rattle.std.proofs.Common.{◌≡◌, ◌⊎◌, inl, inr, ⊎_elim, ℕ, ◌+◌, ◌≤◌, List, [], sym, ◌∙◌, ap, subst, arith}
+use Rattle.std.specs.Prelude.{None, IsNone}
 use Rattle.std.specs.Option.{option_map}
 use Rattle.std.specs.FinMap.{get}
 use Rattle.std.proofs.lemmas.Bool.{cases_eq, cases_lt}
-use Rattle.std.proofs.lemmas.List.Elements.{All-contains}
-use Rattle.pm_device.specs.State.{State}
-use Rattle.pm_device.specs.Settled.{StoresOnly, KeepsFlushed, Others}
-use Rattle.pm_device.specs.Commit.{IsDone}
 use Rattle.pm_layout.specs.Geometry.{inode_word}
 use Rattle.file_content.specs.Content.{kept}
-use Rattle.dn_model.specs.Maps.{Mapping, size_of}
+use Rattle.dn_model.specs.Maps.{size_of}
 use Rattle.dn_model.specs.Table.{Row, row_of}
-use Rattle.dn_model.specs.Disk.{Disk, Inode, Use, Live, Dying, IsUsed, maps, rows}
-use Rattle.dn_model.specs.Counts.{total, mappings, IsFree}
+use Rattle.dn_model.specs.Disk.{Disk, Inode, IsUsed, maps, rows}
+use Rattle.dn_model.specs.Counts.{total, IsFree}
 use Rattle.law_write.specs.Events.{IsUnused}
-use Rattle.law_write.proofs.MappedPlaces.{maps-in_file}
 use Rattle.law_write.proofs.WriteValid.{not_mapped}
-use Rattle.law_table.proofs.Rows.{same_test, other_test, none_listed, some_or_none, row_listed, distinct_same}
 use Rattle.law_table_on_disk.specs.MappingLaws.{LowersCut, UnmapsPlace}
 use Rattle.law_table_on_disk.proofs.Remaps.{lowered_cut_unmaps}
 use Rattle.law_table_on_disk.specs.OneWord.{IsOneWord}
 use Rattle.law_dying.specs.Dying.{Falls, stepped, MayFall, KeepsLiving, DropsPlace as DropsMapping}
-use Rattle.law_dying.proofs.Stepped.{at_ino, at_other, same_geometry}
+use Rattle.law_dying.proofs.Stepped.{at_other, same_geometry}
 use Rattle.law_dying.proofs.SteppedDiffers.{stepped_one_word}
-use Rattle.law_dying.proofs.SteppedFiles.{living_kept, own_kept}
+use Rattle.law_dying.proofs.SteppedFiles.{living_kept}
 use Rattle.law_dying.proofs.Steps.{fall_lowers, fall_steps, fall_drops}
-use Rattle.fact_table.specs.Table.{HasRow}
-use Rattle.dn_volume.specs.declared.flight.Flight.{Flight}
 use Rattle.dn_volume.specs.declared.volume.InodeState.{InodeState}
-use Rattle.dn_volume.specs.declared.volume.Parts.{Parts}
 use Rattle.dn_volume.specs.Inodes.{as_use, IsInodeOf, AreInodesOf}
-use Rattle.dn_volume.specs.Reclaims.{mapped_places, dying_units}
-use Rattle.dn_volume.specs.Agrees.{IsVolume}
+use Rattle.dn_volume.specs.Reclaims.{dying_units}
 use Rattle.reclaim.specs.Worked.{FallsTo, ChangesOne}
 use Rattle.reclaim.proofs.NodesChanged.{nodes_are}
 use Rattle.reclaim.proofs.UnitsLost.{places_less, units_dying, units_move}

@@ -1,6 +1,6 @@
 -- The last place of a dying inode is gone, and its page is free.
-use Rattle.std.proofs.Common.{◌≡◌, ◌≢◌, ◌⊎◌, inl, inr, ⊎_elim, ℕ, ◌+◌, ◌*◌, ◌<◌, ◌≤◌, List, [], ◌∷◌, length, refl, sym, ◌∙◌, ap, subst, arith}
-use Rattle.std.specs.Prelude.{Option, Some, None, IsNone, Contains}
+use Rattle.std.proofs.Common.{◌≡◌, inl, inr, ⊎_elim, ℕ, ◌+◌, ◌≤◌, [], ◌∷◌, length, sym, ◌∙◌, ap, arith}
+use Rattle.std.specs.Prelude.{Option, None, IsNone, Contains}
 use Rattle.std.specs.VecDeque.{deque_len, deque_capacity}
 use Rattle.pm_device.specs.State.{State}
 use Rattle.pm_device.specs.Settled.{StoresOnly, KeepsFlushed, Others, SettlesAll}
@@ -8,16 +8,15 @@ use Rattle.pm_device.specs.Commit.{IsDone}
 use Rattle.pm_layout.specs.Geometry.{inode_word}
 use Rattle.dn_model.specs.Table.{Row, row_of}
 use Rattle.dn_model.specs.Disk.{Disk, rows}
-use Rattle.dn_model.specs.Counts.{total, mappings}
+use Rattle.dn_model.specs.Counts.{mappings}
 use Rattle.law_table.proofs.Rows.{none_found}
 use Rattle.law_dying.specs.Dying.{Falls, stepped, MayFall}
 use Rattle.law_dying.proofs.Steps.{fall_drops}
 use Rattle.fact_table.specs.Table.{HasNoneOf}
 use Rattle.dn_volume.specs.declared.background.DyingPlace.{DyingPlace}
 use Rattle.dn_volume.specs.declared.volume.Parts.{Parts}
-use Rattle.dn_volume.specs.Balance.{times, added_to_share, raised, added, dropped, AreCounted}
-use Rattle.dn_volume.specs.Reclaims.{one_if, dying_units, IsReclaiming}
-use Rattle.dn_volume.specs.Reserve.{owed_sum}
+use Rattle.dn_volume.specs.Balance.{times, added_to_share, added, dropped, AreCounted}
+use Rattle.dn_volume.specs.Reclaims.{one_if, IsReclaiming}
 use Rattle.dn_volume.specs.Agrees.{IsVolume}
 use Rattle.dn_volume.proofs.HandsKept.{owed_same, raised_same}
 use Rattle.dn_volume.proofs.MappingsMoved.{mappings_counted}

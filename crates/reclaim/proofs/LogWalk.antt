@@ -1,6 +1,6 @@
 -- The pages of a log are given back one after another.
 use Rattle.std.proofs.Common.{◌≡◌, ◌≢◌, ◌⊎◌, inl, inr, ⊎_elim, ℕ, zero, suc, ◌+◌, ◌-◌, ◌*◌, ◌/◌, ◌%◌, ◌<◌, ◌≤◌, true, false, eqb, get_or, List, length, refl, sym, ◌∙◌, ap, subst, arith}
-use Rattle.std.specs.Prelude.{slice_index, Contains, IsNone}
+use Rattle.std.specs.Prelude.{slice_index, Contains}
 use Rattle.std.proofs.lemmas.Bool.{cases_eq, cases_lt, false≢true}
 use Rattle.std.proofs.lemmas.Bool.Decides.{nat_tests}
 use Rattle.std.specs.List.{list_any}
@@ -15,7 +15,7 @@ use Rattle.pm_layout.specs.Geometry.{inode_word}
 use Rattle.page_alloc.specs.Free.{FreePages, IsInOrder, GivesBack}
 use Rattle.file_content.specs.Pages.{AreApart}
 use Rattle.dn_model.specs.Log.{Log, IsPaged, count, tail_at, at_tail, at_head, at_footer}
-use Rattle.dn_model.specs.Disk.{Disk, Dying, IsUsed, of_logs}
+use Rattle.dn_model.specs.Disk.{Disk, IsUsed, of_logs}
 use Rattle.law_dying.specs.Dying.{MayEnd}
 use Rattle.dn_volume.specs.declared.volume.Parts.{Parts}
 use Rattle.dn_volume.specs.Agrees.{IsVolume}

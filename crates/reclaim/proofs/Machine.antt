@@ -1,15 +1,12 @@
 -- The order of reclaim's events.
-use Rattle.std.proofs.Common.{◌≡◌, ◌⊎◌, ⊎_elim, ℕ, ◌+◌, ◌*◌, ◌<◌, ◌≤◌, List, length, false, refl, sym, ◌∙◌, ap, subst, arith, Option, None, Some}
+use Rattle.std.proofs.Common.{◌≡◌, ◌⊎◌, ⊎_elim, ℕ, ◌<◌, length, false, refl, ap, subst, arith, Option, None, Some}
 use Rattle.std.specs.VecDeque.{deque_len}
-use Rattle.std.specs.Prelude.{slice_index_or, is_some, IsSome}
+use Rattle.std.specs.Prelude.{is_some, IsSome}
 use Rattle.pm_device.specs.State.{State}
 use Rattle.pm_layout.specs.declared.Geometry.{Geometry}
 use Rattle.dn_model.specs.Table.{Row}
 use Rattle.dn_model.specs.Disk.{Disk}
-use Rattle.dn_model.specs.Own.{Print}
 use Rattle.fact_table.specs.Table.{IsTable, HasTable, IsOfPage}
-use Rattle.dn_volume.specs.declared.background.DyingPlace.{DyingPlace}
-use Rattle.dn_volume.specs.declared.volume.InodeState.{InodeState}
 use Rattle.dn_volume.specs.declared.volume.Parts.{Parts}
 use Rattle.dn_volume.specs.declared.volume.Volume.{Volume}
 use Rattle.dn_volume.specs.Reclaims.{one_if, IsRaised}
@@ -18,8 +15,8 @@ use Rattle.dn_volume.specs.Begins.{IsUntouched}
 use Rattle.dn_volume.specs.Works.{MayWork, reclaim_stand}
 use Rattle.dn_volume.proofs.SameRoom.{inodes_same}
 use Rattle.dn_volume.proofs.Tables.{is_table, running_disk}
-use Rattle.reclaim.specs.Dying.{IsDyingState, IsLastOf, IsUnmapped, IsAt, IsDying}
-use Rattle.reclaim.proofs.NextPlace.{IsLastPlace, last_place, page_inside, is_raised, none_wait}
+use Rattle.reclaim.specs.Dying.{IsLastOf, IsAt, IsDying}
+use Rattle.reclaim.proofs.NextPlace.{last_place, page_inside, is_raised, none_wait}
 
 -- nothing was touched
 pub untouched : {D F : Type 0} (state : D → State) (w : Volume D F) (d : Disk) → IsVolume d w.parts (state w.device) → IsUntouched state w w d

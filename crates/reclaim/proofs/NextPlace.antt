@@ -1,6 +1,6 @@
 -- What is kept in memory of a dying inode is the disk's: its last place, or that it has none.
-use Rattle.std.proofs.Common.{◌≡◌, ◌≢◌, ◌⊎◌, inl, inr, ⊎_elim, ℕ, ◌+◌, ◌*◌, ◌<◌, ◌≤◌, Bool, false, List, length, refl, sym, ◌∙◌, ap, subst, arith}
-use Rattle.std.specs.Prelude.{slice_get, Option, Some, None, IsSome, nat_lt, if◌then◌else◌, Contains}
+use Rattle.std.proofs.Common.{◌≡◌, inl, inr, ⊎_elim, ℕ, ◌<◌, ◌≤◌, Bool, false, List, length, refl, sym, ◌∙◌, ap, arith}
+use Rattle.std.specs.Prelude.{slice_get, Option, Some, None, nat_lt, if◌then◌else◌, Contains}
 use Rattle.std.specs.Option.{option_map}
 use Rattle.std.specs.FinMap.{get}
 use Rattle.std.proofs.lemmas.Bool.{cases_lt}
@@ -9,10 +9,9 @@ use Rattle.std.proofs.lemmas.Option.{slice_get_cases}
 use Rattle.pm_device.specs.State.{State}
 use Rattle.file_content.specs.Content.{kept}
 use Rattle.file_index.specs.declared.page_map.Mapping.{Mapping as KeptMapping}
-use Rattle.dn_model.specs.Log.{Log}
 use Rattle.dn_model.specs.Maps.{Mapping, mapping}
 use Rattle.dn_model.specs.Table.{Row}
-use Rattle.dn_model.specs.Disk.{Disk, Use, Free, Live, Dying, maps, maps_by_use}
+use Rattle.dn_model.specs.Disk.{Disk, Use, Dying, maps, maps_by_use}
 use Rattle.dn_model.specs.Counts.{total}
 use Rattle.law_write.proofs.Counting.{total-zero}
 use Rattle.law_write.proofs.MappedPlaces.{maps-in_file}
@@ -20,15 +19,14 @@ use Rattle.law_write.proofs.Unread.{read_in_data}
 use Rattle.law_write.proofs.WriteValid.{not_mapped}
 use Rattle.law_dying.specs.Dying.{MayFall, MayEnd}
 use Rattle.fact_table.specs.Table.{HasNoneOf, IsOfPage}
-use Rattle.dn_volume.specs.declared.background.DyingPlace.{DyingPlace}
 use Rattle.dn_volume.specs.declared.volume.InodeState.{InodeState}
 use Rattle.dn_volume.specs.declared.volume.InodeUse.{InodeUse}
 use Rattle.dn_volume.specs.declared.volume.InodeUse.TheVariants as used
 use Rattle.dn_volume.specs.declared.volume.Parts.{Parts}
-use Rattle.dn_volume.specs.Inodes.{as_use, IsInodeOf}
+use Rattle.dn_volume.specs.Inodes.{as_use}
 use Rattle.dn_volume.specs.Reclaims.{units_by_use, mapped_places, dying_units, IsRaised}
 use Rattle.dn_volume.specs.Agrees.{IsVolume}
-use Rattle.reclaim.specs.Dying.{IsDyingState, IsLastOf, IsUnmapped, IsAt, IsDying}
+use Rattle.reclaim.specs.Dying.{IsLastOf, IsUnmapped, IsAt, IsDying}
 use Rattle.reclaim.proofs.NodesChanged.{there_at}
 use Rattle.reclaim.proofs.UnitsLost.{units_dying, units_some, places_some}
 

@@ -1,8 +1,7 @@
 -- The row of the page of a dying inode's last place was raised.
-use Rattle.std.proofs.Common.{◌≡◌, ◌≢◌, ◌⊎◌, inl, inr, ⊎_elim, ℕ, ◌+◌, ◌*◌, ◌^◌, ◌<◌, ◌≤◌, false, List, [], ◌∷◌, length, refl, sym, ◌∙◌, ap, subst, arith}
+use Rattle.std.proofs.Common.{◌≡◌, ℕ, ◌+◌, ◌≤◌, false, List, [], ◌∷◌, length, refl, sym, ◌∙◌, ap, subst, arith}
 use Rattle.std.specs.Prelude.{slice_get, Option, Some, None, vec_len, vec_capacity}
 use Rattle.std.specs.VecDeque.{deque_len, deque_capacity}
-use Rattle.std.proofs.lemmas.Bool.{cases_eq}
 use Rattle.pm_device.specs.State.{State, Agree, Rose}
 use Rattle.pm_device.specs.Settled.{StoresOnly, KeepsFlushed, Others, SettlesAll}
 use Rattle.pm_layout.specs.Geometry.{slot_word}
@@ -15,7 +14,6 @@ use Rattle.law_table_on_disk.proofs.Balanced.{raise_balance}
 use Rattle.law_table.specs.Changes.{recount}
 use Rattle.law_table.proofs.Counted.{recounts_rows}
 use Rattle.law_table_on_disk.proofs.Frame.{maps_same}
-use Rattle.fact_table.specs.Table.{IsAtSlot, HasRow}
 use Rattle.fact_counts.specs.Standing.{HasRowWith}
 use Rattle.fact_counts.specs.Counted.{raised as raised_counts, MayRaise, LeavesTables, SettlesTable, count_changed}
 use Rattle.dn_volume.specs.declared.units.TheConstants.{FALL_UNITS}
@@ -29,9 +27,9 @@ use Rattle.dn_volume.specs.declared.volume.Room.{Room}
 use Rattle.dn_volume.specs.declared.volume.Volume.{Volume}
 use Rattle.dn_volume.specs.Balance.{times, raised_by, raised_to_share, raised_to_die, raised, added, dropped}
 use Rattle.dn_volume.specs.Parties.{flight_at}
-use Rattle.dn_volume.specs.Reclaims.{one_if, dying_units, IsRaised}
-use Rattle.dn_volume.specs.Reserve.{owed_sum, units_to_share, changes_to_share, Owes, HasRoom}
-use Rattle.dn_volume.specs.Agrees.{IsVolume, Agrees, agrees_with, is_stopped}
+use Rattle.dn_volume.specs.Reclaims.{one_if, IsRaised}
+use Rattle.dn_volume.specs.Reserve.{owed_sum, units_to_share, changes_to_share, HasRoom}
+use Rattle.dn_volume.specs.Agrees.{IsVolume, Agrees}
 use Rattle.dn_volume.specs.Events.{MovesOn, Breaks}
 use Rattle.dn_volume.specs.Works.{ReclaimLowers}
 use Rattle.dedupe_queue.specs.declared.Work.{Work}
@@ -45,11 +43,10 @@ use Rattle.dn_volume.proofs.Times.{times_first, times_other}
 use Rattle.reclaim.specs.Released.{Stops, IsWordAfter}
 use Rattle.reclaim.specs.RoomMade.{HasRoomFor}
 use Rattle.reclaim.specs.Worked.{RaisesPlace}
-use Rattle.reclaim.proofs.Event.{CountsOne, CountEvent, event_moves, event_stopped, event_breaks}
+use Rattle.reclaim.proofs.Event.{CountsOne, CountEvent, event_moves, event_breaks}
 use Rattle.reclaim.proofs.RowsHere.{may_raise}
 use Rattle.reclaim.proofs.Settled.{no_client}
-use Rattle.reclaim.proofs.Dropped.{no_raised}
-use Rattle.reclaim.proofs.UnitsLost.{units_dying, units_some, places_some}
+use Rattle.reclaim.proofs.UnitsLost.{units_dying, units_some}
 
 same_place : (p q : DyingPlace) (r : Option DyingPlace) → r ≡ Some p → r ≡ Some q → p ≡ q
 same_place p q r a b = cc

@@ -29,14 +29,14 @@ use Rattle.dn_volume.specs.Shares.{IsWaiting, in_queue, is_begun}
 use Rattle.dn_volume.specs.Reclaims.{one_if}
 use Rattle.dn_volume.specs.Reserve.{owed_to, owed_sum, units_by, units_to_share, changes_to_share, Owes, HasRoom}
 use Rattle.dn_volume.specs.Agrees.{IsVolume}
-use Rattle.dn_volume.specs.Rely.{LeavesRest, of_table}
+use Rattle.dn_volume.specs.Rely.{LeavesRest}
 use Rattle.dn_volume.proofs.FlightsStay.{flights_stay}
 use Rattle.dn_volume.proofs.Tables.{is_table}
 use Rattle.dn_volume.proofs.Raises.{RaisesRow, raised_more}
 use Rattle.reclaim.specs.Released.{IsWordAfter}
 use Rattle.reclaim.specs.Raised.{IsToRaise, RaisesOne}
 use Rattle.dn_volume.proofs.CountsMoved.{MovesCounts}
-use Rattle.reclaim.proofs.CountDisk.{leaves_after, word_within}
+use Rattle.reclaim.proofs.CountDisk.{leaves_after}
 use Rattle.dn_volume.proofs.Hands.{SameHands}
 use Rattle.reclaim.proofs.Event.{CountsOne, CountEvent}
 use Rattle.dn_volume.proofs.Times.{times_first, times_other}

@@ -1,5 +1,5 @@
 -- Pages come to be unused: the free pages, and those that are taken.
-use Rattle.std.proofs.Common.{◌≡◌, ◌≢◌, ◌⊎◌, inl, inr, ⊎_elim, ℕ, ◌<◌, ◌≤◌, List, length, refl, sym, ◌∙◌, ap, subst, arith}
+use Rattle.std.proofs.Common.{◌≡◌, ◌⊎◌, inl, inr, ⊎_elim, ℕ, List, length, sym, ◌∙◌, ap, subst, arith}
 use Rattle.std.specs.Prelude.{Contains}
 use Rattle.std.proofs.lemmas.Bool.{cases_eq}
 use Rattle.page_alloc.specs.Free.{FreePages, IsInOrder, GivesBack}
@@ -9,7 +9,6 @@ use Rattle.dn_model.specs.Disk.{Disk, rows}
 use Rattle.law_write.specs.Events.{IsUnused}
 use Rattle.fact_table.specs.Table.{Table}
 use Rattle.dn_volume.specs.declared.volume.Parts.{Parts}
-use Rattle.dn_volume.specs.Parties.{Takes}
 use Rattle.dn_volume.specs.Space.{HasSpace, AreSlotsOf}
 use Rattle.reclaim.specs.Worked.{Gives, KeepsWork}
 use Rattle.reclaim.proofs.WorkEvent.{takes_on, takes_back}

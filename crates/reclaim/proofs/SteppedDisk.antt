@@ -1,7 +1,6 @@
 -- A dying inode's cut falls, or it ends, by one word of the device: what is so of the disk afterwards.
-use Rattle.std.proofs.Common.{◌≡◌, ◌≢◌, ◌⊎◌, inl, inr, ⊎_elim, ℕ, ◌+◌, ◌*◌, ◌<◌, ◌≤◌, List, [], ◌∷◌, length, refl, sym, ◌∙◌, ap, subst, arith}
+use Rattle.std.proofs.Common.{◌≡◌, ◌≢◌, inl, ℕ, ◌*◌, ◌<◌, ◌≤◌, List, [], ◌∷◌, length, refl, sym, ◌∙◌, ap, subst, arith}
 use Rattle.std.specs.Prelude.{IsNone, Contains}
-use Rattle.std.proofs.lemmas.Bool.{cases_eq}
 use Rattle.pm_device.specs.State.{State, Agree}
 use Rattle.pm_device.specs.Settled.{IsSettled, LeavesOnly, StoresOnly, KeepsFlushed, Others}
 use Rattle.pm_device.specs.Commit.{IsDone, LeavesOneWord}
@@ -9,7 +8,7 @@ use Rattle.pm_device.proofs.Only.{stores_only-weaken}
 use Rattle.pm_layout.specs.declared.Geometry.{Geometry}
 use Rattle.pm_layout.specs.Geometry.{inode_word}
 use Rattle.dn_model.specs.Table.{Row, row_of}
-use Rattle.dn_model.specs.Disk.{Disk, Dying, rows}
+use Rattle.dn_model.specs.Disk.{Disk}
 use Rattle.dn_model.specs.Own.{Print, IsOwn, page_bytes}
 use Rattle.law_write.specs.Events.{IsUnused}
 use Rattle.law_table.proofs.Rows.{listed_here}

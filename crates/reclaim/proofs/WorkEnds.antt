@@ -1,5 +1,5 @@
 -- The events of dying files and the zero check, from what their calls give.
-use Rattle.std.proofs.Common.{◌≡◌, ◌⊎◌, ℕ, ◌+◌, ◌*◌, ◌/◌, ◌<◌, ◌≤◌, false, List, [], ◌∷◌, length, refl, sym, ◌∙◌, ap, subst, arith}
+use Rattle.std.proofs.Common.{◌≡◌, ℕ, ◌+◌, ◌*◌, ◌/◌, ◌<◌, ◌≤◌, false, List, [], ◌∷◌, length, refl, sym, ap, subst, arith}
 use Rattle.std.specs.Prelude.{Option, Some, None, Contains}
 use Rattle.std.specs.VecDeque.{deque_len, deque_capacity}
 use Rattle.pm_device.specs.State.{State, Agree, Rose}
@@ -9,7 +9,6 @@ use Rattle.pm_layout.specs.declared.Geometry.{Geometry}
 use Rattle.pm_layout.specs.Geometry.{inode_word}
 use Rattle.page_alloc.specs.Free.{FreePages}
 use Rattle.dn_model.specs.Disk.{Disk}
-use Rattle.dn_model.specs.Counts.{total}
 use Rattle.dn_model.specs.Own.{Print}
 use Rattle.law_write.proofs.MappedPlaces.{maps-in_file}
 use Rattle.law_table_on_disk.proofs.OneWord.{one_word_may_commit}
@@ -21,8 +20,8 @@ use Rattle.dn_volume.specs.declared.units.TheConstants.{FALL_UNITS}
 use Rattle.dn_volume.specs.declared.background.DyingPlace.{DyingPlace}
 use Rattle.dn_volume.specs.declared.volume.Parts.{Parts}
 use Rattle.dn_volume.specs.declared.volume.Volume.{Volume}
-use Rattle.dn_volume.specs.Reclaims.{one_if, dying_units}
-use Rattle.dn_volume.specs.Agrees.{IsVolume, Agrees, agrees_with, is_stopped}
+use Rattle.dn_volume.specs.Reclaims.{one_if}
+use Rattle.dn_volume.specs.Agrees.{IsVolume, Agrees, agrees_with}
 use Rattle.dn_volume.specs.Events.{MovesOn, Breaks}
 use Rattle.dn_volume.specs.Works.{MayWork, ReclaimLowers, reclaim_stand}
 use Rattle.dn_volume.proofs.Tables.{is_table, running_disk}
@@ -30,9 +29,9 @@ use Rattle.reclaim.specs.Released.{Stops}
 use Rattle.reclaim.specs.Worked.{KeepsWork, Gives, DropsPlace, FreesPlace, EndsInode}
 use Rattle.reclaim.specs.Walked.{LeadsThrough}
 use Rattle.reclaim.specs.Dying.{IsAt, IsLastOf, IsUnmapped}
-use Rattle.reclaim.proofs.WorkEvent.{WorkShown, work_moves, work_stopped, work_breaks}
+use Rattle.reclaim.proofs.WorkEvent.{WorkShown, work_moves, work_breaks}
 use Rattle.reclaim.proofs.SteppedDisk.{step_shown}
-use Rattle.reclaim.proofs.NextPlace.{IsLastPlace, last_place, may_end, may_fall, in_file, five_wait, page_inside, page_used}
+use Rattle.reclaim.proofs.NextPlace.{IsLastPlace, last_place, may_end, may_fall, five_wait, page_inside, page_used}
 use Rattle.reclaim.proofs.LogWalk.{log_leads}
 use Rattle.reclaim.proofs.UnitsLost.{units_dying, units_some, places_some}
 use Rattle.reclaim.proofs.Fallen.{fall_one, fall_living}

@@ -1,11 +1,10 @@
 -- An event of reclaim that leaves what operations and the daemon have: the volume of after, from what the event has to
 -- show of the disk and of what is kept in memory.
-use Rattle.std.proofs.Common.{◌≡◌, ◌≢◌, ◌⊎◌, inl, inr, ⊎_elim, ℕ, ◌+◌, ◌-◌, ◌*◌, ◌<◌, ◌≤◌, List, [], length, refl, sym, ◌∙◌, ap, subst, arith}
-use Rattle.std.specs.Prelude.{slice_get, Option, Some, None, All, Contains, vec_len, vec_capacity}
+use Rattle.std.proofs.Common.{◌≡◌, ◌≢◌, inr, ℕ, ◌-◌, ◌*◌, ◌<◌, ◌≤◌, List, [], length, refl, sym, ◌∙◌, ap, subst, arith}
+use Rattle.std.specs.Prelude.{slice_get, Option, Some, None, All, Contains}
 use Rattle.std.specs.FinMap.{get}
 use Rattle.std.proofs.lemmas.List.{append-nil}
-use Rattle.std.proofs.lemmas.Bool.{cases_eq}
-use Rattle.pm_device.specs.State.{State, Agree, Rose}
+use Rattle.pm_device.specs.State.{State, Rose}
 use Rattle.pm_device.specs.Settled.{LeavesOnly, StoresOnly}
 use Rattle.pm_layout.specs.declared.Geometry.{Geometry}
 use Rattle.pm_layout.specs.Geometry.{IsAccepted, slots}
@@ -19,16 +18,16 @@ use Rattle.dn_volume.specs.declared.volume.InodeState.{InodeState}
 use Rattle.dn_volume.specs.declared.volume.Parts.{Parts}
 use Rattle.dn_volume.specs.declared.volume.Volume.{Volume}
 use Rattle.dn_volume.specs.Parties.{Flies, Holds, by_client, by_daemon, Takes, for_client, SameOthers, KeepsOps, flight_at}
-use Rattle.dn_volume.specs.Inodes.{AreNamesOf, AreInodesOf, AreHolders}
+use Rattle.dn_volume.specs.Inodes.{AreInodesOf, AreHolders}
 use Rattle.dn_volume.specs.Space.{HasSpace, AreSlotsOf}
 use Rattle.dn_volume.specs.Balance.{AreCounted}
-use Rattle.dn_volume.specs.Flights.{IsFlight, AreFlights}
-use Rattle.dn_volume.specs.Shares.{IsWaiting, in_queue, is_begun, IsQueued}
+use Rattle.dn_volume.specs.Flights.{IsFlight}
+use Rattle.dn_volume.specs.Shares.{IsWaiting, in_queue, is_begun}
 use Rattle.dn_volume.specs.Reclaims.{IsReclaiming}
 use Rattle.dn_volume.specs.Reserve.{HasRoom}
 use Rattle.dn_volume.specs.Accounts.{AccountsFor}
 use Rattle.dn_volume.specs.Agrees.{StandsFast, IsVolume, IsStopped, NamesSlots, HasHead, HasNoStale}
-use Rattle.dn_volume.specs.Events.{IsBetween, Counts, Moves, MovesOn, Breaks, word_at}
+use Rattle.dn_volume.specs.Events.{IsBetween, MovesOn, Breaks, word_at}
 use Rattle.dn_volume.specs.Rely.{IsFor, LeavesRest, StayInHand}
 use Rattle.dn_volume.specs.Stills.{IsStillBut}
 use Rattle.dn_volume.proofs.Heads.{head_of, head_kept}

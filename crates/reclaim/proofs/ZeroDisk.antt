@@ -1,28 +1,28 @@
 -- A row without references and updates goes, and the pointer of its page is cleared: the disk of after.
-use Rattle.std.proofs.Common.{◌≡◌, ◌≢◌, ◌⊎◌, inl, inr, ⊎_elim, ℕ, ◌+◌, ◌*◌, ◌<◌, ◌≤◌, Bool, true, false, List, [], ◌∷◌, length, refl, sym, ◌∙◌, ap, subst, arith}
-use Rattle.std.specs.Prelude.{Option, Some, None, IsSome, IsNone, Contains, if◌then◌else◌, ◌==◌}
+use Rattle.std.proofs.Common.{◌≡◌, ◌≢◌, ◌⊎◌, inl, inr, ⊎_elim, ℕ, ◌<◌, Bool, List, [], ◌∷◌, refl, sym, ◌∙◌, ap, subst, arith}
+use Rattle.std.specs.Prelude.{Some, None, IsSome, Contains, if◌then◌else◌, ◌==◌}
 use Rattle.std.proofs.lemmas.Bool.{cases_eq}
 use Rattle.std.proofs.lemmas.List.Elements.{All-contains}
 use Rattle.fingerprint.specs.Count.{count_word}
 use Rattle.dn_model.specs.Maps.{Mapping}
 use Rattle.dn_model.specs.Table.{Row, row_of, prefix_of}
-use Rattle.dn_model.specs.Disk.{Disk, IsMapped, maps, rows}
+use Rattle.dn_model.specs.Disk.{Disk, maps, rows}
 use Rattle.dn_model.specs.Counts.{mappings, IsNear, IsFree}
-use Rattle.dn_model.specs.Own.{Print, IsOwn, LivePlace, page_bytes}
+use Rattle.dn_model.specs.Own.{Print, IsOwn, page_bytes}
 use Rattle.dn_model.specs.Valid.{IsValid}
-use Rattle.law_write.specs.Events.{IsReadPage, IsUnused}
+use Rattle.law_write.specs.Events.{IsUnused}
 use Rattle.law_write.proofs.MappedPlaces.{maps-in_file}
-use Rattle.law_write.proofs.WriteValid.{mapped_counts, not_mapped}
-use Rattle.law_table.specs.Changes.{without, removed, repointed}
+use Rattle.law_write.proofs.WriteValid.{mapped_counts}
+use Rattle.law_table.specs.Changes.{without, removed}
 use Rattle.law_table.specs.Rows.{TakesRow}
-use Rattle.law_table.proofs.Rows.{same_test, other_test, none_found, none_listed, listed_here, listed_later, row_listed, row_found, some_or_none}
+use Rattle.law_table.proofs.Rows.{same_test, other_test, none_found, none_listed, listed_here, listed_later}
 use Rattle.law_table.proofs.Pointed.{rows_repointed}
 use Rattle.law_table.proofs.Taken.{without_here, without_other, rows_removed}
 use Rattle.law_table.proofs.TableRows.{good_of, stands_in_chain}
 use Rattle.law_table.proofs.Gone.{taken_may_clear}
-use Rattle.law_table_on_disk.specs.RowLaws.{MayRemove, IsUnshared}
+use Rattle.law_table_on_disk.specs.RowLaws.{MayRemove}
 use Rattle.law_table_on_disk.specs.TableLaws.{IsNextDisk}
-use Rattle.law_table_on_disk.proofs.Frame.{maps_same, named_same, free_kept, free_only, mappings_same}
+use Rattle.law_table_on_disk.proofs.Frame.{maps_same, named_same, free_kept, free_only}
 use Rattle.law_table_on_disk.proofs.Mappings.{row_page_free}
 use Rattle.law_table_on_disk.proofs.Removed.{takes, remove_own, may_take, remove_next}
 use Rattle.law_table_on_disk.proofs.Repointed.{repoint_own, may_repoint, repoint_one_word}

@@ -1,33 +1,30 @@
 -- The zero check, from what its calls give.
-use Rattle.std.proofs.Common.{◌≡◌, ◌⊎◌, ⊎_elim, ℕ, ◌+◌, ◌*◌, ◌<◌, ◌≤◌, false, List, [], length, refl, sym, ◌∙◌, ap, subst, arith}
+use Rattle.std.proofs.Common.{◌≡◌, ℕ, ◌+◌, ◌<◌, ◌≤◌, false, [], refl, sym, ap, subst, arith}
 use Rattle.std.specs.Prelude.{Option, Some, None, Contains}
 use Rattle.pm_device.specs.State.{State, Agree, Rose}
 use Rattle.pm_device.specs.Settled.{SettlesAll}
 use Rattle.pm_device.specs.Reading.{Stands}
 use Rattle.pm_layout.specs.Geometry.{slots}
-use Rattle.page_alloc.specs.Free.{FreePages}
 use Rattle.dn_model.specs.Table.{Row}
-use Rattle.dn_model.specs.Disk.{Disk, TableSays, of_chains, of_pointers}
+use Rattle.dn_model.specs.Disk.{Disk, TableSays}
 use Rattle.dn_model.specs.Counts.{total}
 use Rattle.dn_model.specs.Own.{Print}
 use Rattle.law_table_on_disk.proofs.NextDisk.{table_said}
-use Rattle.fact_table.specs.Table.{Table, IsTable, HasTable, IsAtSlot, HasRow}
+use Rattle.fact_table.specs.Table.{HasTable, IsAtSlot, HasRow}
 use Rattle.fact_counts.proofs.Counting.{row_small}
 use Rattle.fact_changes.specs.Removal.{IsRemoveWord, HasZero, MayRemoveAt, MakesRemoved, SettlesRemoved, LeavesRemoved, RemovesOnly, KeepsThrough}
 use Rattle.fact_rows.specs.Gone.{cleared}
 use Rattle.dn_volume.specs.declared.units.TheConstants.{ZERO_CHECK_UNITS}
 use Rattle.dn_volume.specs.declared.background.DyingPlace.{DyingPlace}
-use Rattle.dn_volume.specs.declared.volume.Parts.{Parts}
 use Rattle.dn_volume.specs.declared.volume.Volume.{Volume}
 use Rattle.dn_volume.specs.Reclaims.{one_if, dying_units, IsRaised}
-use Rattle.dn_volume.specs.Agrees.{IsVolume, Agrees, agrees_with, is_stopped}
+use Rattle.dn_volume.specs.Agrees.{IsVolume, Agrees}
 use Rattle.dn_volume.specs.Events.{MovesOn, Breaks}
 use Rattle.dn_volume.proofs.Tables.{is_table, running_disk}
 use Rattle.reclaim.specs.Released.{Stops}
 use Rattle.reclaim.specs.Worked.{Gives, Checks}
 use Rattle.reclaim.specs.Zero.{IsZero, IsZeroRow, IsCountedRow}
-use Rattle.reclaim.proofs.WorkEvent.{WorkEvent, WorkShown, work_moves, work_stopped, work_breaks}
-use Rattle.reclaim.proofs.SpaceGained.{gives_one}
+use Rattle.reclaim.proofs.WorkEvent.{WorkEvent, WorkShown, work_moves, work_breaks}
 use Rattle.reclaim.proofs.UnitsLost.{units_dying, units_some}
 use Rattle.reclaim.proofs.ZeroEvent.{remove_high, stays_event, stays_shown, may_remove, page_in, page_taken, gone_shown, gone_event}
 

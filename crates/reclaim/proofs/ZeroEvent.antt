@@ -1,44 +1,36 @@
 -- The event of a zero check.
-use Rattle.std.proofs.Common.{◌≡◌, ◌≢◌, ◌⊎◌, inl, inr, ⊎_elim, ℕ, ◌+◌, ◌*◌, ◌<◌, ◌≤◌, Bool, List, [], ◌∷◌, length, refl, sym, ◌∙◌, ap, subst, arith}
-use Rattle.std.specs.Prelude.{slice_get, Option, Some, None, Contains, if◌then◌else◌, ◌==◌}
+use Rattle.std.proofs.Common.{◌≡◌, ◌≢◌, ◌⊎◌, inl, inr, ⊎_elim, ℕ, ◌+◌, ◌*◌, ◌<◌, ◌≤◌, Bool, List, [], length, refl, sym, ◌∙◌, ap, subst, arith}
+use Rattle.std.specs.Prelude.{slice_get, Option, Some, None, Contains, if◌then◌else◌}
 use Rattle.std.proofs.lemmas.Bool.{cases_eq}
 use Rattle.pm_device.specs.Past.{Left, moment}
 use Rattle.pm_device.specs.State.{State, Agree}
 use Rattle.pm_device.specs.Settled.{LeavesOnly, StoresOnly, KeepsFlushed, Others, SettlesAll}
 use Rattle.pm_device.specs.Reading.{Stands}
-use Rattle.pm_device.specs.Words.{IsIn}
-use Rattle.pm_device.proofs.Moments.{leaves_only-weaken}
 use Rattle.pm_device.proofs.Only.{stores_only-none, stores_only-weaken}
-use Rattle.pm_layout.specs.declared.Geometry.{Geometry}
-use Rattle.pm_layout.specs.Geometry.{directs, slot_word, pointer_word}
-use Rattle.page_alloc.specs.Free.{FreePages}
+use Rattle.pm_layout.specs.Geometry.{directs, slot_word}
 use Rattle.fingerprint.specs.Count.{count_word}
 use Rattle.dn_model.specs.Table.{Row, at_direct_page, at_direct_next, at_row, prefix_of}
 use Rattle.dn_model.specs.Disk.{Disk, TableSays, rows}
-use Rattle.dn_model.specs.Files.{files}
-use Rattle.dn_model.specs.Own.{Print, IsOwn}
+use Rattle.dn_model.specs.Own.{Print}
 use Rattle.law_table.specs.Changes.{removed, slot_before}
-use Rattle.law_table.specs.Words.{IsTableWord, HoldsTable}
+use Rattle.law_table.specs.Words.{IsTableWord}
 use Rattle.law_table.proofs.Rows.{same_test, other_test, distinct_same}
 use Rattle.law_table.proofs.TableRows.{good_of, stands_in_chain, of_chain, is_row}
 use Rattle.law_table_on_disk.specs.TableLaws.{IsNextDisk}
 use Rattle.law_table_on_disk.proofs.Frame.{files_same, named_same, maps_same, mappings_same}
 use Rattle.law_table_on_disk.proofs.NextDisk.{said_within, standing_table, image_of_table}
-use Rattle.fact_table.specs.Table.{Table, IsTable, IsAtSlot, HasRow}
+use Rattle.fact_table.specs.Table.{IsTable, IsAtSlot, HasRow}
 use Rattle.fact_changes.specs.Removal.{MayRemoveAt, deciding_word, IsRemoveWord}
 use Rattle.fact_rows.specs.Put.{HoldsOneOf}
 use Rattle.fact_rows.specs.Gone.{cleared}
-use Rattle.dn_volume.specs.declared.background.DyingPlace.{DyingPlace}
 use Rattle.dn_volume.specs.declared.volume.InodeState.{InodeState}
 use Rattle.dn_volume.specs.declared.volume.Parts.{Parts}
 use Rattle.dn_volume.specs.Inodes.{AreInodesOf}
-use Rattle.dn_volume.specs.Balance.{AreCounted}
-use Rattle.dn_volume.specs.Reclaims.{one_if, dying_units}
-use Rattle.dn_volume.specs.Agrees.{StandsFast, HasNoStale, IsVolume}
+use Rattle.dn_volume.specs.Agrees.{HasNoStale, IsVolume}
 use Rattle.dn_volume.specs.Events.{IsBetween}
 use Rattle.dn_volume.specs.Rely.{IsWordOf, of_table, LeavesRest}
 use Rattle.dn_volume.proofs.Stills.{still_same, still_settles}
-use Rattle.dn_volume.proofs.Hands.{names_stay, inodes_stay, dying_same, table_stays}
+use Rattle.dn_volume.proofs.Hands.{inodes_stay, dying_same, table_stays}
 use Rattle.dn_volume.proofs.InHand.{raised_stays}
 use Rattle.dn_volume.proofs.Kept.{quiet_accounts}
 use Rattle.dn_volume.proofs.MappingsMoved.{going_counted}
@@ -48,7 +40,7 @@ use Rattle.reclaim.proofs.WorkEvent.{WorkEvent, WorkShown, flies_on, others_same
 use Rattle.reclaim.proofs.NodesChanged.{nodes_same}
 use Rattle.reclaim.proofs.SpaceGained.{space_gained, slots_stay, gives_none}
 use Rattle.reclaim.proofs.RoomWorked.{room_worked}
-use Rattle.reclaim.proofs.ZeroDisk.{unmapped, gone, gone_next, removed_next, removed_own, gone_own, gone_then, gone_before, gone_used, gone_rest, gone_accounts, gone_words}
+use Rattle.reclaim.proofs.ZeroDisk.{gone, gone_next, removed_next, removed_own, gone_own, gone_then, gone_before, gone_used, gone_rest, gone_accounts, gone_words}
 use Rattle.reclaim.proofs.Zeroed.{under_way, one_was, none_now, raised_one, long_same, few_still, zero_moves, counts_again, images_now, before_at, without_kept, next_told}
 
 module _ (d : Disk) (b b' : Parts) (s : State) (v : IsVolume d b s) (slot : ℕ) (pending : b.reclaiming.zero_check ≡ Some slot) (checks : Checks b b') where

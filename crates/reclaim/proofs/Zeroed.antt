@@ -1,46 +1,37 @@
 -- The zero check: the row went, or it was counted again.
-use Rattle.std.proofs.Common.{◌≡◌, ◌≢◌, ◌⊎◌, inl, inr, ⊎_elim, ℕ, ◌+◌, ◌*◌, ◌<◌, ◌≤◌, Bool, List, [], ◌∷◌, length, refl, sym, ◌∙◌, ap, subst, arith}
-use Rattle.std.specs.Prelude.{Option, Some, None, Contains, if◌then◌else◌, ◌==◌}
+use Rattle.std.proofs.Common.{◌≡◌, ◌≢◌, ◌⊎◌, inl, inr, ⊎_elim, ℕ, ◌+◌, ◌≤◌, List, [], ◌∷◌, length, refl, sym, ◌∙◌, ap, subst, arith}
+use Rattle.std.specs.Prelude.{Option, Some, None, Contains}
 use Rattle.std.specs.VecDeque.{deque_len, deque_capacity}
 use Rattle.std.proofs.lemmas.Bool.{cases_eq}
 use Rattle.std.proofs.lemmas.List.Elements.{All-contains}
 use Rattle.pm_device.specs.State.{State, Agree}
-use Rattle.pm_device.specs.Settled.{IsSettled, LeavesOnly, StoresOnly, KeepsFlushed, Others, Anyone}
-use Rattle.pm_device.specs.Reading.{Stands}
+use Rattle.pm_device.specs.Settled.{LeavesOnly}
 use Rattle.pm_device.specs.Words.{IsIn}
-use Rattle.pm_device.proofs.Only.{stores_only-none, stores_only-weaken}
+use Rattle.pm_device.proofs.Only.{stores_only-none}
 use Rattle.pm_layout.specs.declared.Geometry.{Geometry}
-use Rattle.pm_layout.specs.Geometry.{slot_word, pointer_word}
+use Rattle.pm_layout.specs.Geometry.{slot_word}
 use Rattle.page_alloc.specs.Free.{FreePages}
-use Rattle.fingerprint.specs.Count.{count_word}
-use Rattle.dn_model.specs.Table.{Row, RowsSay, at_next, at_later, ChainSays, at_direct_page, at_direct_next, at_row, prefix_of}
-use Rattle.dn_model.specs.Disk.{Disk, TableSays, DiskSays, rows}
+use Rattle.dn_model.specs.Table.{Row, RowsSay, at_next, at_later}
+use Rattle.dn_model.specs.Disk.{Disk, rows}
 use Rattle.dn_model.specs.Image.{StandsFor}
 use Rattle.dn_model.specs.Own.{Print}
-use Rattle.law_table.specs.Changes.{without, removed, slot_before}
-use Rattle.law_table.specs.Words.{IsTableWord}
-use Rattle.law_table.proofs.Rows.{all_listed, same_test, other_test, listed_here, listed_later, listed_cases, distinct_same}
+use Rattle.law_table.specs.Changes.{without, slot_before}
+use Rattle.law_table.proofs.Rows.{all_listed, listed_here, listed_later, listed_cases}
 use Rattle.law_table.proofs.Taken.{without_here, without_other, before_here, before_other}
-use Rattle.law_table.proofs.TableRows.{good_of, stands_in_chain, of_chain, is_row}
 use Rattle.law_table_on_disk.specs.BalanceLaws.{IsBalanced}
 use Rattle.law_table_on_disk.proofs.OneWord.{unread_images}
-use Rattle.fact_table.specs.Table.{Table, IsTable, IsAtSlot, HasRow}
-use Rattle.fact_changes.specs.Removal.{MayRemoveAt, deciding_word, IsRemoveWord}
-use Rattle.fact_rows.specs.Gone.{cleared}
+use Rattle.fact_table.specs.Table.{Table, IsAtSlot}
 use Rattle.dn_volume.specs.declared.background.DyingPlace.{DyingPlace}
 use Rattle.dn_volume.specs.declared.volume.Parts.{Parts}
 use Rattle.dn_volume.specs.Balance.{times, raised, added, dropped, added_to_share, AreCounted}
-use Rattle.dn_volume.specs.Reclaims.{one_if, dying_units}
+use Rattle.dn_volume.specs.Reclaims.{one_if}
 use Rattle.dn_volume.specs.Reserve.{owed_sum}
 use Rattle.dn_volume.specs.Agrees.{StandsFast, IsVolume}
 use Rattle.dn_volume.specs.Events.{IsBetween}
-use Rattle.dn_volume.specs.Stills.{IsStillBut}
-use Rattle.dn_volume.proofs.Between.{old_or_new}
 use Rattle.dn_volume.proofs.CountsMoved.{SameUnderWay}
 use Rattle.dn_volume.proofs.HandsKept.{owed_same, raised_same}
-use Rattle.dn_volume.proofs.Tables.{is_table}
 use Rattle.reclaim.specs.Released.{Stops}
-use Rattle.reclaim.specs.Worked.{Checks, KeepsWork}
+use Rattle.reclaim.specs.Worked.{Checks}
 use Rattle.reclaim.proofs.RoomWorked.{MovesRoom}
 
 -- what is kept of the rest, where only the table and the free pages came in between

@@ -2,7 +2,7 @@
 use Rattle.std.specs.Prelude.{◌≡◌, ◌≢◌, ◌⊎◌, ◌↔◌, ℕ, ◌+◌, ◌≤◌, List, [], ◌∷◌, ◌++◌, length, slice_get, Some, None, Contains, vec_len, vec_capacity}
 use Rattle.std.specs.VecDeque.{deque_len, deque_capacity}
 use Rattle.file_index.specs.Index.{CutsOff}
-use Rattle.page_alloc.specs.Free.{FreePages, IsInOrder, GivesBack}
+use Rattle.page_alloc.specs.Free.{FreePages, IsInOrder}
 use Rattle.dn_volume.specs.declared.units.TheConstants.{FALL_UNITS, ZERO_CHECK_UNITS}
 use Rattle.dn_volume.specs.declared.background.DyingPlace.{DyingPlace}
 use Rattle.dn_volume.specs.declared.volume.InodeState.{InodeState}

@@ -1,4 +1,4 @@
-use Rattle.std.proofs.Common.{ℕ, ◌/◌, ◌*◌, ◌+◌, ◌≤◌, ◌<◌, length, sym, ◌∙◌, ap, subst, arith}
+use Rattle.std.proofs.Common.{ℕ, ◌/◌, ◌*◌, ◌+◌, ◌≤◌, length, sym, ◌∙◌, ap, subst, arith}
 use Rattle.pm_layout.specs.Geometry.{IsAccepted}
 use Rattle.dn_volume.specs.Agrees.{is_stopped}
 use Rattle.dn_volume.proofs.Tables.{running_disk}
@@ -6,7 +6,7 @@ use Rattle.reclaim.proofs.Ends.{err_is}
 use Rattle.reclaim.proofs.NextPlace.{may_end}
 use Rattle.reclaim.proofs.EndedInode.{ends_since}
 use Rattle.reclaim.proofs.Zeroed.{stops_freed}
-use Rattle.reclaim.proofs.LogWalk.{log_leads, can_give_log}
+use Rattle.reclaim.proofs.LogWalk.{can_give_log}
 use Rattle.reclaim.proofs.WorkEnds.{sets_at, done_at, moved_agrees, some_work, less_work, end_gives, end_ino, end_there, end_line, end_waits, end_moves, end_breaks}
 use Rattle.reclaim.proofs.end.end_inode.Goals as goal
 

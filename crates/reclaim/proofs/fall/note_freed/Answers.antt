@@ -1,4 +1,4 @@
-use Rattle.std.proofs.Common.{◌+◌, ◌-◌, refl, arith}
+use Rattle.std.proofs.Common.{refl, arith}
 use Rattle.reclaim.proofs.SpaceGained.{gives_one}
 use Rattle.reclaim.proofs.fall.note_freed.Goals as goal
 

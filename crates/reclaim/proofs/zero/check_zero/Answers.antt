@@ -1,4 +1,4 @@
-use Rattle.std.proofs.Common.{◌<◌, refl, arith}
+use Rattle.std.proofs.Common.{refl, arith}
 use Rattle.dn_volume.proofs.Tables.{running_disk}
 use Rattle.reclaim.proofs.WorkEnds.{moved_agrees, some_work, less_work}
 use Rattle.reclaim.proofs.ZeroEnds.{zero_table, zero_slot, zero_waits, zero_units, stays_moves}
