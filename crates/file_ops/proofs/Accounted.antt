@@ -44,7 +44,13 @@ module _ (ino : ℕ) (old new : Disk) (w : Writes ino old new) (ok : WritesWell 
     bytes_are = page_same m.block (inl (record {
       ino = i;
       idx = idx;
-      maps_to = record { in_table = place.in_table; in_file = maps-in_file old ok.valid i idx m place.in_table place.maps; by = m; is = place.maps; block = refl };
+      maps_to = record {
+        in_table = place.in_table;
+        in_file = maps-in_file old ok.valid i idx m place.in_table place.maps;
+        by = m;
+        is = place.maps;
+        block = refl;
+      };
     }));
   }
 
@@ -59,7 +65,8 @@ module _ (ino : ℕ) (old new : Disk) (w : Writes ino old new) (ok : WritesWell 
       | inr out ↦ was_alone i idx m (record {
         in_table = below_old ino old new w i place.in_table;
         live = sym (use_kept ino old new w i) ∙ place.live;
-        maps = ap (λ (j : ℕ). maps old j idx) e ∙ cut_some w.size idx (maps old ino idx) m (sym (w.other idx out) ∙ ap (λ (j : ℕ). maps new j idx) (sym e) ∙ place.maps);
+        maps = ap (λ (j : ℕ). maps old j idx) e ∙ cut_some w.size idx (maps old ino idx) m (sym (w.other idx out) ∙ ap (λ (j : ℕ). maps new j idx)
+            (sym e) ∙ place.maps);
       }) alone
     ]
     | inr ne ↦ was_alone i idx m (record {

@@ -36,9 +36,12 @@ use Rattle.file_ops.proofs.Nodes.{inodes_after, holders_after, let_go}
 use Rattle.file_ops.proofs.Waiting.{queued_after, reclaiming_after}
 use Rattle.file_ops.proofs.Owed.{room_after}
 
-module _ (d e : Disk) (b b' : Parts) (s t : State) (who : ℕ) (f : Flight) (c : DataChange) (from n : ℕ) (v : IsVolume d b s) (flies : Flies b who f) (kind : f.change ≡ Data c)
-    (is : IsDataFlight d who f c s) (all_raised : f.raised ≡ length f.rows.items) (disk : ChangesData d e f c from n) (ends : Ends d e who f c from n b b')
-    (stands : Stands (DiskSays e) t) (appends : AppendsOnly who f.ino d e s t) (settles : SettlesAll who s t) (units : s.spare ≤ t.spare + units_by f (Data c)) where
+module _ (d e : Disk) (b b' : Parts) (s t : State) (who : ℕ) (f : Flight) (c : DataChange) (from n : ℕ) (v : IsVolume d b s) (flies : Flies b who f)
+    (kind : f.change ≡ Data c)
+    (is : IsDataFlight d who f c s) (all_raised : f.raised ≡ length f.rows.items) (disk : ChangesData d e f c from n)
+    (ends : Ends d e who f c from n b b')
+    (stands : Stands (DiskSays e) t) (appends : AppendsOnly who f.ino d e s t) (settles : SettlesAll who s t)
+    (units : s.spare ≤ t.spare + units_by f (Data c)) where
   held : f.held.items ≡ f.ino ∷ []
   held = held_is d f c f.op is.plans
 
@@ -83,7 +86,13 @@ module _ (d e : Disk) (b b' : Parts) (s t : State) (who : ℕ) (f : Flight) (c :
     free = λ k there row has. v.table.free k there row (subst (λ (rs : List Row). Contains rs row) rows_still has);
     taken = λ k lt not.
         let found = v.table.taken k lt not in
-        record { row = found.row; is = record { there = subst (λ (rs : List Row). Contains rs found.row) (sym rows_still) found.is.there; slot_is = found.is.slot_is } };
+        record {
+          row = found.row;
+          is = record {
+            there = subst (λ (rs : List Row). Contains rs found.row) (sym rows_still) found.is.there;
+            slot_is = found.is.slot_is;
+          };
+        };
   })
 
   trace_after : NamesSlots b'
@@ -94,22 +103,29 @@ module _ (d e : Disk) (b b' : Parts) (s t : State) (who : ℕ) (f : Flight) (c :
   volume_after = record {
     fast = subst (λ (g : Geometry). StandsFast e g t) (sym ends.keeps.geometry) fast_after;
     running = ends.keeps.stopped ∙ v.running;
-    names = record { leads = λ name. ap (λ names. get names.map name) ends.keeps.names ∙ v.names.leads name ∙ sym (named_same f.ino d e disk.event disk.well name) };
+    names = record {
+      leads = λ name. ap (λ names. get names.map name) ends.keeps.names ∙ v.names.leads name ∙ sym
+          (named_same f.ino d e disk.event disk.well name);
+    };
     inodes = inodes_after d e b b' f c from n v.inodes disk ends.inode;
     holders = holders_after d e b b' f c from n v.inodes disk ends.inode who v.holders flies v.flights.clients held ends.keeps ends.flight;
     space = space_after d e b b' who f c from n v.space flies kind is.grows.apart disk ends.keeps ends.flight ends.pages;
     table = table_after;
-    counts = counted_after d e b b' who f c from n v.fast.valid v.counts flies v.flights.clients all_raised disk ends.keeps ends.flight ends.releases ends.owed;
+    counts = counted_after d e b b' who f c from n v.fast.valid v.counts flies v.flights.clients all_raised disk ends.keeps ends.flight ends.releases
+        ends.owed;
     flights = record {
       clients = ends.flight.clients ∙ v.flights.clients;
       each = λ q g g_flies. others_after.0 q g (other_flies b b' who f flies ends.keeps ends.flight q g g_flies) g_flies;
     };
     queue = queued_after d e b b' f c from n (length c.runs.items) v.inodes disk ends.keeps ends.inode ends.queue v.queue;
     sharing = others_after.1.sharing (λ him. omega (arith, him, client));
-    reclaiming = reclaiming_after d e b b' f c from n (length c.runs.items) v.inodes disk ends.keeps ends.inode ends.releases (others_after.1.raised (λ him. omega (arith, him, client))) v.reclaiming;
+    reclaiming = reclaiming_after d e b b' f c from n (length c.runs.items) v.inodes disk ends.keeps ends.inode ends.releases
+        (others_after.1.raised (λ him. omega (arith, him, client))) v.reclaiming;
     pointers = none_stale_kept d e disk.event.relogs.geometry disk.event.relogs.pointer
         (λ row has. record { row = row; there = subst (λ (rs : List Row). Contains rs row) (sym rows_still) has; page_is = refl }) v.pointers;
-    room = room_after b b' who f flies v.flights.clients ends.keeps ends.flight ends.owed e c s t kind ends.history.0 from n ends.inode ends.releases ends.queue ends.history.1 units other_file v.room;
+    room = room_after b b' who f flies v.flights.clients ends.keeps ends.flight ends.owed e c s t kind ends.history.0 from n ends.inode ends.releases
+        ends.queue ends.history.1 units other_file v.room;
     trace = trace_after;
-    still = still_settles who b b' s t (record { words = settles.words; kept = settles.kept; own = settles.own }) (same_others b b' who f flies ends.keeps ends.flight) v.still;
+    still = still_settles who b b' s t (record { words = settles.words; kept = settles.kept; own = settles.own })
+        (same_others b b' who f flies ends.keeps ends.flight) v.still;
   }

@@ -53,7 +53,11 @@ module _ (b b' : Parts) (who : ℕ) (f : Flight) (flies : Flies b who f) (keeps 
   other_flies q g g_flies e = flies_not g (subst (λ (p : ℕ). Flies b' p g) e g_flies)
 
   pub flies_before : (q : ℕ) (g : Flight) → Flies b' q g → Flies b q g
-  flies_before q g g_flies = record { client = g_flies.client; is = sym (ended.others (q - 1) (apart q g_flies.client (other_flies q g g_flies))) ∙ g_flies.is }
+  flies_before q g g_flies = record {
+    client = g_flies.client;
+    is = sym (ended.others (q - 1) (apart q g_flies.client (other_flies q g g_flies))) ∙
+        g_flies.is;
+  }
 
   pub flies_after : (q : ℕ) (g : Flight) → q ≢ who → Flies b q g → Flies b' q g
   flies_after q g ne g_flies = record { client = g_flies.client; is = ended.others (q - 1) (apart q g_flies.client ne) ∙ g_flies.is }
@@ -83,7 +87,8 @@ module _ (b b' : Parts) (who : ℕ) (f : Flight) (flies : Flies b who f) (keeps 
 
     -- what this client held was its flight's
     pub held_by_flight : (i : ℕ) → Holds b who i → Contains f.held.items i
-    held_by_flight i (by_client g g_flies has) = subst (λ (h : Flight). Contains h.held.items i) (same_flight (flight_at b.flights.items (who - 1)) g f g_flies.is flies.is) has
+    held_by_flight i (by_client g g_flies has) = subst (λ (h : Flight). Contains h.held.items i) (same_flight (flight_at b.flights.items (who - 1)) g
+        f g_flies.is flies.is) has
     held_by_flight i (by_daemon sharing him is same) = absurd (omega (arith, him, a_client))
 
   -- they have taken what they had
@@ -97,4 +102,5 @@ module _ (b b' : Parts) (who : ℕ) (f : Flight) (flies : Flies b who f) (keeps 
   takes_not page (for_client g g_flies has) = flies_not g g_flies
 
   pub taken_by_flight : (page : ℕ) → Takes b who page → Contains (taken_by f) page
-  taken_by_flight page (for_client g g_flies has) = subst (λ (h : Flight). Contains (taken_by h) page) (same_flight (flight_at b.flights.items (who - 1)) g f g_flies.is flies.is) has
+  taken_by_flight page (for_client g g_flies has) = subst (λ (h : Flight). Contains (taken_by h) page)
+      (same_flight (flight_at b.flights.items (who - 1)) g f g_flies.is flies.is) has

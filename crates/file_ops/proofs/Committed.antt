@@ -44,10 +44,13 @@ use Rattle.file_ops.proofs.After.{volume_after}
 use Rattle.file_ops.proofs.DiskAfter.{after, event, changes, ready, own_after, files_after, granted}
 use Rattle.file_ops.proofs.Ended.{IsOut, all_ends}
 
-module _ {D F : Type 0} (state : D → State) (print : Print) (v v' : Volume D F) (d : Disk) (who : ℕ) (f : Flight) (c : DataChange) (is_v : IsVolume d v.parts (state v.device)) (flies : Flies v.parts who f) (kind : f.change ≡ Data c)
-    (is : IsDataFlight d who f c (state v.device)) (name : List ℕ) (at : ℕ) (text : List ℕ) (op_is : f.op ≡ Write name at text) (all_filled : c.filled ≡ length c.blocks.items) (all_raised : f.raised ≡ length f.rows.items)
+module _ {D F : Type 0} (state : D → State) (print : Print) (v v' : Volume D F) (d : Disk) (who : ℕ) (f : Flight) (c : DataChange)
+    (is_v : IsVolume d v.parts (state v.device)) (flies : Flies v.parts who f) (kind : f.change ≡ Data c)
+    (is : IsDataFlight d who f c (state v.device)) (name : List ℕ) (at : ℕ) (text : List ℕ) (op_is : f.op ≡ Write name at text)
+    (all_filled : c.filled ≡ length c.blocks.items) (all_raised : f.raised ≡ length f.rows.items)
     (between_them : AppendsBetween v.parts.geometry who f.ino f.fresh.items f.slots.items (state v.device) (state v'.device))
-    (there : AppendsThere v.parts.geometry who f.ino f.fresh.items f.slots.items (state v.device) (state v'.device)) (faults : (state v.device).faults ≤ (state v'.device).faults) where
+    (there : AppendsThere v.parts.geometry who f.ino f.fresh.items f.slots.items (state v.device) (state v'.device))
+    (faults : (state v.device).faults ≤ (state v'.device).faults) where
   abbrev e : Disk
   e = after d v.parts (state v.device) who f c is_v flies kind is name at text op_is all_filled all_raised
 
@@ -55,10 +58,12 @@ module _ {D F : Type 0} (state : D → State) (print : Print) (v v' : Volume D F
   w = event d v.parts (state v.device) who f c is_v flies kind is name at text op_is all_filled all_raised
 
   ready_here : IsReadyToAppend v.parts.geometry who f.ino f.fresh.items f.slots.items d e w (state v.device)
-  ready_here = subst (λ (g : Geometry). IsReadyToAppend g who f.ino f.fresh.items f.slots.items d e w (state v.device)) is_v.fast.geometry (ready d v.parts (state v.device) who f c is_v flies kind is name at text op_is all_filled all_raised)
+  ready_here = subst (λ (g : Geometry). IsReadyToAppend g who f.ino f.fresh.items f.slots.items d e w (state v.device)) is_v.fast.geometry
+      (ready d v.parts (state v.device) who f c is_v flies kind is name at text op_is all_filled all_raised)
 
   images : LeavesOnly (state v.device) (state v'.device) (IsBetween print d e)
-  images = old_or_new print d e (state v.device) (state v'.device) (own_after d v.parts (state v.device) who f c is_v flies kind is name at text op_is all_filled all_raised print) (between_them d e w ready_here)
+  images = old_or_new print d e (state v.device) (state v'.device) (own_after d v.parts (state v.device) who f c is_v flies kind is name at text op_is
+      all_filled all_raised print) (between_them d e w ready_here)
 
   -- one event is left of it
   last_left : 1 ≡ left_of f
@@ -68,10 +73,12 @@ module _ {D F : Type 0} (state : D → State) (print : Print) (v v' : Volume D F
       one blocks filled rows raised full all = omega (arith, full, all)
 
   -- it failed
-  pub breaks : (op : Op) → f.op ≡ op → v'.parts.stopped ≡ true → v'.parts.geometry ≡ v.parts.geometry → v'.parts.trace ≡ v.parts.trace → v'.parts.sharing ≡ v.parts.sharing
+  pub breaks : (op : Op) → f.op ≡ op → v'.parts.stopped ≡ true → v'.parts.geometry ≡ v.parts.geometry → v'.parts.trace ≡ v.parts.trace
+      → v'.parts.sharing ≡ v.parts.sharing
       → v'.parts.history ≡ v.parts.history → Counts v.parts v'.parts
       → Rose (state v.device).faults (state v'.device).faults
-      → flight_at v'.parts.flights.items (who - 1) ≡ Some f → ((k : ℕ) → k ≢ who - 1 → flight_at v'.parts.flights.items k ≡ flight_at v.parts.flights.items k) → Breaks state print who (Some op) v v' d
+      → flight_at v'.parts.flights.items (who - 1) ≡ Some f
+      → ((k : ℕ) → k ≢ who - 1 → flight_at v'.parts.flights.items k ≡ flight_at v.parts.flights.items k) → Breaks state print who (Some op) v v' d
   breaks op same stopped geometry trace sharing history counts rose back others = record {
     stopped = record {
       stopped = stopped;
@@ -80,7 +87,8 @@ module _ {D F : Type 0} (state : D → State) (print : Print) (v v' : Volume D F
       head = subst (λ (g : Geometry). HasHead g (state v'.device).now) (sym geometry)
           (head_after d (f.ino ∷ []) (taken_by f) v.parts.geometry (state v.device) (state v'.device) is_v.fast taken_unused
           (leaves_rest d e f c c.first (length c.blocks.items) kind
-          (changes d v.parts (state v.device) who f c is_v flies kind is name at text op_is all_filled all_raised) who (state v.device) (state v'.device) (there d e w ready_here)).only);
+          (changes d v.parts (state v.device) who f c is_v flies kind is name at text op_is all_filled all_raised) who (state v.device)
+          (state v'.device) (there d e w ready_here)).only);
       trace = subst (λ (g : Geometry). All (λ (change : CountChange). change.slot < slots g) v'.parts.trace.items) (sym geometry)
           (subst (λ tr. All (λ (change : CountChange). change.slot < slots v.parts.geometry) tr.items) (sym trace) is_v.trace);
     };
@@ -95,9 +103,15 @@ module _ {D F : Type 0} (state : D → State) (print : Print) (v v' : Volume D F
     answering = λ o is_o own.
         let whole : f.op ≡ o = same ∙ some_op op o is_o in (
           subst (IsGranted (files d)) whole (granted d v.parts (state v.device) who f c is_v flies kind is name at text op_is all_filled all_raised),
-          subst (λ (x : Op). IsSameFiles (files e) (after_op (files d) x)) whole (files_after d v.parts (state v.device) who f c is_v flies kind is name at text op_is all_filled all_raised print own),
+          subst (λ (x : Op). IsSameFiles (files e) (after_op (files d) x)) whole (files_after d v.parts (state v.device) who f c is_v flies kind is
+              name at text op_is all_filled all_raised print own),
         );
-    answered = λ o is_o. record { flight = f; flies = record { client = flies.client; is = back }; op_is = same ∙ some_op op o is_o; left_is = last_left };
+    answered = λ o is_o. record {
+      flight = f;
+      flies = record { client = flies.client; is = back };
+      op_is = same ∙ some_op op o is_o;
+      left_is = last_left;
+    };
     history = ap (λ h. h.items) history;
     counts = counts;
     faults = faults;
@@ -111,20 +125,27 @@ module _ {D F : Type 0} (state : D → State) (print : Print) (v v' : Volume D F
       some_op a b e = cc
 
       all_same : (k : ℕ) → flight_at v'.parts.flights.items k ≡ flight_at v.parts.flights.items k
-      all_same k = ⊎_elim (λ here. subst (λ (j : ℕ). flight_at v'.parts.flights.items j ≡ flight_at v.parts.flights.items j) (sym here) (back ∙ sym flies.is)) (λ away. others k away) (cases_eq k (who - 1))
+      all_same k = ⊎_elim (λ here. subst (λ (j : ℕ). flight_at v'.parts.flights.items j ≡ flight_at v.parts.flights.items j) (sym here)
+          (back ∙ sym flies.is)) (λ away. others k away) (cases_eq k (who - 1))
 
   -- it is done
   module _ (stands : AppendsNew v.parts.geometry who f.ino f.fresh.items f.slots.items (state v.device) (state v'.device))
-      (settles : SettlesAll who (state v.device) (state v'.device)) (spare : (state v.device).spare ≤ (state v'.device).spare + 9 * (length f.slots.items + length f.fresh.items) + 4)
+      (settles : SettlesAll who (state v.device) (state v'.device)) (spare : (state v.device).spare ≤ (state v'.device).spare + 9
+      * (length f.slots.items + length f.fresh.items) + 4)
       (node : InodeState) (node_is : slice_get v.parts.inodes.items f.ino ≡ Some node)
-      (mid : Parts) (tail : ℕ) (tail_is : tail ≡ tail_at (d.inode f.ino).log.pages (count (d.inode f.ino).log)) (out : IsOut v.parts mid) (ended : EndsFlight who v.parts mid)
-      (gives : Gives (IsUnsharedAmong d node.map.map c.first (length c.blocks.items)) v.parts.free mid.free) (finish : FinishesParts who tail f c mid v'.parts) where
+      (mid : Parts) (tail : ℕ) (tail_is : tail ≡ tail_at (d.inode f.ino).log.pages (count (d.inode f.ino).log)) (out : IsOut v.parts mid)
+      (ended : EndsFlight who v.parts mid)
+      (gives : Gives (IsUnsharedAmong d node.map.map c.first (length c.blocks.items)) v.parts.free mid.free)
+      (finish : FinishesParts who tail f c mid v'.parts) where
     ends : Ends d e who f c c.first (length c.blocks.items) v.parts v'.parts
-    ends = all_ends d v.parts (state v.device) who f c is_v flies kind is name at text op_is all_filled all_raised node node_is mid v'.parts tail tail_is out ended gives finish
+    ends = all_ends d v.parts (state v.device) who f c is_v flies kind is name at text op_is all_filled all_raised node node_is mid v'.parts tail
+        tail_is out ended gives finish
 
     pub volume_now : IsVolume e v'.parts (state v'.device)
-    volume_now = volume_after d e v.parts v'.parts (state v.device) (state v'.device) who f c c.first (length c.blocks.items) is_v flies kind is all_raised
-        (changes d v.parts (state v.device) who f c is_v flies kind is name at text op_is all_filled all_raised) ends (stands d e w ready_here) (there d e w ready_here) settles (omega (arith, spare))
+    volume_now = volume_after d e v.parts v'.parts (state v.device) (state v'.device) who f c c.first (length c.blocks.items) is_v flies kind is
+        all_raised
+        (changes d v.parts (state v.device) who f c is_v flies kind is name at text op_is all_filled all_raised) ends (stands d e w ready_here)
+        (there d e w ready_here) settles (omega (arith, spare))
 
     rows_same : rows e ≡ rows d
     rows_same = rows_kept f.ino d e w
@@ -136,7 +157,8 @@ module _ {D F : Type 0} (state : D → State) (print : Print) (v v' : Volume D F
         volume = volume_now;
         images = images;
         own = own_after d v.parts (state v.device) who f c is_v flies kind is name at text op_is all_filled all_raised print;
-        accounts = λ own. write_accounts f.ino d e w (changes d v.parts (state v.device) who f c is_v flies kind is name at text op_is all_filled all_raised).well print;
+        accounts = λ own. write_accounts f.ino d e w (changes d v.parts (state v.device) who f c is_v flies kind is name at text op_is all_filled
+            all_raised).well print;
         traces = record {
           more = [];
           trace = ap (λ tr. tr.items) ends.keeps.trace ∙ sym (append-nil v.parts.trace.items);
@@ -153,9 +175,11 @@ module _ {D F : Type 0} (state : D → State) (print : Print) (v v' : Volume D F
       op_is = same;
       reply_is = refl;
       done = refl;
-      granted = subst (IsGranted (files d)) same (granted d v.parts (state v.device) who f c is_v flies kind is name at text op_is all_filled all_raised);
+      granted = subst (IsGranted (files d)) same (granted d v.parts (state v.device) who f c is_v flies kind is name at text op_is all_filled
+          all_raised);
       grants = subst (λ (o : Op). Grants (files d) o Done) (sym op_is ∙ same) refl;
-      files_after = λ own. subst (λ (x : Op). IsSameFiles (files e) (after_op (files d) x)) same (files_after d v.parts (state v.device) who f c is_v flies kind is name at text op_is all_filled all_raised print own);
+      files_after = λ own. subst (λ (x : Op). IsSameFiles (files e) (after_op (files d) x)) same (files_after d v.parts (state v.device) who f c is_v
+          flies kind is name at text op_is all_filled all_raised print own);
       flew = record { flight = f; flies = flies; op_is = same; left_is = last_left };
       landed = ends.flight.landed;
     }

@@ -44,24 +44,33 @@ module _ (d : Disk) (valid : IsValid d) (row : Row) (has : Contains (rows d) row
       let split = total-front (λ i. hit row.page (maps d ino (from + i))) n in
       let zero_in : from + 0 ≡ from = omega arith in
       let first = ap (λ (i : ℕ). hit row.page (maps d ino i)) zero_in in
-      let rest = total-same (λ i. hit row.page (maps d ino (from + 1 + i))) (λ i. hit row.page (maps d ino (from + suc i))) n (λ j lt. let e : from + suc j ≡ from + 1 + j = omega arith in ap (λ (i : ℕ). hit row.page (maps d ino i)) e) in
+      let rest = total-same (λ i. hit row.page (maps d ino (from + 1 + i))) (λ i. hit row.page (maps d ino (from + suc i))) n
+      (λ j lt. let e : from + suc j ≡ from + 1 + j = omega arith in ap (λ (i : ℕ). hit row.page (maps d ino i)) e) in
       joined _ _ _ _ _ _ _ _ both here later split first rest
     where
       joined : (all head tail a b whole h0 r : ℕ) → all ≡ head + tail → head ≡ a → tail ≡ b → whole ≡ h0 + r → h0 ≡ a → r ≡ b → all ≡ whole
       joined all head tail a b whole h0 r e1 e2 e3 e4 e5 e6 = omega arith
 
-module _ (d e : Disk) (b b' : Parts) (who : ℕ) (f : Flight) (c : DataChange) (from n : ℕ) (valid : IsValid d) (counts : AreCounted d b) (flies : Flies b who f) (clients : length b.flights.items ≡ 14)
-    (all_raised : f.raised ≡ length f.rows.items) (disk : ChangesData d e f c from n) (keeps : KeepsParts b b') (ended : EndsFlight who b b') (releases : Releases f b b') (owed : Repays f b b') where
+module _ (d e : Disk) (b b' : Parts) (who : ℕ) (f : Flight) (c : DataChange) (from n : ℕ) (valid : IsValid d) (counts : AreCounted d b)
+    (flies : Flies b who f) (clients : length b.flights.items ≡ 14)
+    (all_raised : f.raised ≡ length f.rows.items) (disk : ChangesData d e f c from n) (keeps : KeepsParts b b') (ended : EndsFlight who b b')
+    (releases : Releases f b b') (owed : Repays f b b') where
   -- its raises are those of nobody
   pub raised_less : (slot : ℕ) → raised b' slot + times slot f.rows.items ≡ raised b slot
   raised_less slot =
-      let moved = total-change (λ j. times slot (raised_by (flight_at b.flights.items j))) (λ j. times slot (raised_by (flight_at b'.flights.items j))) 14 (who - 1)
-      (omega (arith, clients, flight_within b.flights.items (who - 1) f flies.is)) (λ j ne. ap (λ (r : Option Flight). times slot (raised_by r)) (ended.others j ne)) in
+      let moved = total-change (λ j. times slot (raised_by (flight_at b.flights.items j)))
+      (λ j. times slot (raised_by (flight_at b'.flights.items j))) 14 (who - 1)
+      (omega (arith, clients, flight_within b.flights.items (who - 1) f flies.is)) (λ j ne. ap (λ (r : Option Flight). times slot (raised_by r))
+      (ended.others j ne)) in
       let before : times slot (raised_by (flight_at b.flights.items (who - 1))) ≡ times slot f.rows.items =
-      ap (λ (r : Option Flight). times slot (raised_by r)) flies.is ∙ ap (λ (xs : List ℕ). times slot xs) (take_all f.raised f.rows.items (omega (arith, all_raised))) in
-      let after : times slot (raised_by (flight_at b'.flights.items (who - 1))) ≡ 0 = ap (λ (r : Option Flight). times slot (raised_by r)) ended.landed in
-      let shared : times slot (raised_to_share b'.sharing) ≡ times slot (raised_to_share b.sharing) = ap (λ r. times slot (raised_to_share r)) keeps.sharing in
-      let died : times slot (raised_to_die b'.reclaiming.raised) ≡ times slot (raised_to_die b.reclaiming.raised) = ap (λ r. times slot (raised_to_die r)) keeps.raised in
+      ap (λ (r : Option Flight). times slot (raised_by r)) flies.is ∙ ap (λ (xs : List ℕ). times slot xs)
+      (take_all f.raised f.rows.items (omega (arith, all_raised))) in
+      let after : times slot (raised_by (flight_at b'.flights.items (who - 1))) ≡ 0 = ap (λ (r : Option Flight). times slot (raised_by r))
+      ended.landed in
+      let shared : times slot (raised_to_share b'.sharing) ≡ times slot (raised_to_share b.sharing) = ap (λ r. times slot (raised_to_share r))
+      keeps.sharing in
+      let died : times slot (raised_to_die b'.reclaiming.raised) ≡ times slot (raised_to_die b.reclaiming.raised) = ap
+      (λ r. times slot (raised_to_die r)) keeps.raised in
       omega (arith, moved, before, after, shared, died)
 
   pub added_same : (slot : ℕ) → added b' slot ≡ added b slot
@@ -75,8 +84,10 @@ module _ (d e : Disk) (b b' : Parts) (who : ℕ) (f : Flight) (c : DataChange) (
   pub mappings_fell : (row : Row) → Contains (rows d) row → mappings e row.page + times row.slot f.rows.items ≡ mappings d row.page
   mappings_fell row has =
       let fell = drop_mappings f.ino d e disk.event from n disk.drops row.page
-      (λ i lt same. none_or_some (row_of (rows d) (disk.event.blocks i)) (disk.well.blocks i lt).no_row (subst (λ (p : ℕ). IsSome (row_of (rows d) p)) (sym same) (row_found (rows d) row has))) in
-      let as_often : times row.slot f.rows.items ≡ dropped_from d f.ino from n row.page = ap (times row.slot) disk.rows_are ∙ times-slots d valid row has f.ino from n in
+      (λ i lt same. none_or_some (row_of (rows d) (disk.event.blocks i)) (disk.well.blocks i lt).no_row (subst (λ (p : ℕ). IsSome (row_of (rows d) p))
+      (sym same) (row_found (rows d) row has))) in
+      let as_often : times row.slot f.rows.items ≡ dropped_from d f.ino from n row.page = ap (times row.slot) disk.rows_are ∙ times-slots d valid row
+      has f.ino from n in
       omega (arith, fell, as_often)
 
   pub counted_after : AreCounted e b'

@@ -1,5 +1,33 @@
 -- The disk that the end of a cut leads to.
-use Rattle.std.proofs.Common.{◌≡◌, ◌⊎◌, inl, inr, ⊎_elim, ℕ, ◌+◌, ◌-◌, ◌*◌, ◌/◌, ◌%◌, ◌<◌, ◌≤◌, Bool, true, false, List, [], ◌∷◌, ◌++◌, length, refl, sym, ◌∙◌, ap, subst, arith}
+use Rattle.std.proofs.Common.{
+  ◌≡◌,
+  ◌⊎◌,
+  inl,
+  inr,
+  ⊎_elim,
+  ℕ,
+  ◌+◌,
+  ◌-◌,
+  ◌*◌,
+  ◌/◌,
+  ◌%◌,
+  ◌<◌,
+  ◌≤◌,
+  Bool,
+  true,
+  false,
+  List,
+  [],
+  ◌∷◌,
+  ◌++◌,
+  length,
+  refl,
+  sym,
+  ◌∙◌,
+  ap,
+  subst,
+  arith,
+}
 use Rattle.std.specs.Prelude.{slice_index, if◌then◌else◌, ◌==◌, ◌&&◌, not, nat_lt, is_some, Option, Some, None, IsSome, Contains}
 use Rattle.std.proofs.lemmas.Bool.{cases_eq}
 use Rattle.std.proofs.lemmas.Bool.Decides.{nat_tests}
@@ -64,7 +92,8 @@ refill_of [] = None
 refill_of (block ∷ blocks) = Some block
 
 -- runs of one place at most are that place's
-runs_are : (first : ℕ) (runs : List Run) (blocks : List ℕ) (size : ℕ) → first ≡ last_page size → IsChained first runs → places_in runs ≡ length blocks → length blocks ≤ 1
+runs_are : (first : ℕ) (runs : List Run) (blocks : List ℕ) (size : ℕ) → first ≡ last_page size → IsChained first runs → places_in runs ≡ length blocks
+    → length blocks ≤ 1
     → ((i : ℕ) → i < length blocks → block_at runs i ≡ slice_index blocks i) → runs ≡ refill_runs size (refill_of blocks)
 runs_are first [] [] size e chained covers few at = refl
 runs_are first [] (x ∷ xs) size e chained covers few at = absurd (omega (arith, covers))
@@ -73,7 +102,8 @@ runs_are first (run ∷ runs) (x ∷ xs) size e chained covers few at =
     let one : run.count ≡ 1 = omega (arith, covers, few, chained.1) in
     let none : places_in runs ≡ 0 = omega (arith, covers, few, chained.1) in
     let here : run.block ≡ x = first_block (at 0 (omega arith)) one in
-    ap (λ (rs : List Run). run ∷ rs) (no_runs (first + run.count) runs chained.3 none) ∙ ap (λ (r : Run). r ∷ []) (run_is run (last_page size) x (chained.0 ∙ e) one here)
+    ap (λ (rs : List Run). run ∷ rs) (no_runs (first + run.count) runs chained.3 none) ∙ ap (λ (r : Run). r ∷ [])
+    (run_is run (last_page size) x (chained.0 ∙ e) one here)
   where
     no_runs : (k : ℕ) (rs : List Run) → IsChained k rs → places_in rs ≡ 0 → rs ≡ []
     no_runs k [] ch zr = refl
@@ -123,29 +153,38 @@ unfolding spelling
 slots_of size None = refl
 slots_of size (Some page) = refl
 
-module _ (d e : Disk) (b : Parts) (who : ℕ) (f : Flight) (w : Writes f.ino d e) (from n : ℕ) (drops : Drops f.ino d e w from n) (flies : Flies b who f) (clients : length b.flights.items ≡ 14)
-    (all_raised : f.raised ≡ length f.rows.items) (rows_are : f.rows.items ≡ row_slots d f.ino from n) (unused : (i : ℕ) → i < w.n → IsUnused d (w.blocks i)) (s : State) (v : IsVolume d b s) where
+module _ (d e : Disk) (b : Parts) (who : ℕ) (f : Flight) (w : Writes f.ino d e) (from n : ℕ) (drops : Drops f.ino d e w from n)
+    (flies : Flies b who f) (clients : length b.flights.items ≡ 14)
+    (all_raised : f.raised ≡ length f.rows.items) (rows_are : f.rows.items ≡ row_slots d f.ino from n) (unused : (i : ℕ) → i < w.n
+    → IsUnused d (w.blocks i)) (s : State) (v : IsVolume d b s) where
   -- the counts of rows stay near: as many updates of each row are raised
   near_row : (row : Row) → Contains (rows d) row → IsNear e row
   near_row row has =
       let fell = drop_mappings f.ino d e w from n drops row.page
-      (λ i lt same. none_or_some (row_of (rows d) (w.blocks i)) (unused i lt).no_row (subst (λ (p : ℕ). IsSome (row_of (rows d) p)) (sym same) (row_found (rows d) row has))) in
-      let as_often : times row.slot f.rows.items ≡ dropped_from d f.ino from n row.page = ap (times row.slot) rows_are ∙ times-slots d v.fast.valid row has f.ino from n in
+      (λ i lt same. none_or_some (row_of (rows d) (w.blocks i)) (unused i lt).no_row (subst (λ (p : ℕ). IsSome (row_of (rows d) p)) (sym same)
+      (row_found (rows d) row has))) in
+      let as_often : times row.slot f.rows.items ≡ dropped_from d f.ino from n row.page = ap (times row.slot) rows_are ∙ times-slots d v.fast.valid
+      row has f.ino from n in
       let was = All-contains (λ (r : Row). IsBalanced d r (raised b r.slot) (added b r.slot) (dropped b r.slot)) (rows d) row v.counts.balanced has in
-      let his = term-le (λ j. times row.slot (raised_by (flight_at b.flights.items j))) 14 (who - 1) (omega (arith, clients, flight_within b.flights.items (who - 1) f flies.is)) in
+      let his = term-le (λ j. times row.slot (raised_by (flight_at b.flights.items j))) 14 (who - 1)
+      (omega (arith, clients, flight_within b.flights.items (who - 1) f flies.is)) in
       let mine : times row.slot (raised_by (flight_at b.flights.items (who - 1))) ≡ times row.slot f.rows.items =
-      ap (λ (r : Option Flight). times row.slot (raised_by r)) flies.is ∙ ap (λ (xs : List ℕ). times row.slot xs) (take_all f.raised f.rows.items (omega (arith, all_raised))) in
+      ap (λ (r : Option Flight). times row.slot (raised_by r)) flies.is ∙ ap (λ (xs : List ℕ). times row.slot xs)
+      (take_all f.raised f.rows.items (omega (arith, all_raised))) in
       let some : times row.slot f.rows.items ≤ raised b row.slot = omega (arith, his, mine) in
       both _ _ _ _ _ _ _ _ _ fell as_often was.updates was.references some
     where
-      both : (now fall before t rfc uc up add drop : ℕ) → now + fall ≡ before → t ≡ fall → uc ≡ up + add + drop → before + drop ≡ rfc + add → t ≤ up → (now ≤ rfc + uc) × (rfc ≤ now + uc)
+      both : (now fall before t rfc uc up add drop : ℕ) → now + fall ≡ before → t ≡ fall → uc ≡ up + add + drop → before + drop ≡ rfc + add → t ≤ up
+          → (now ≤ rfc + uc) × (rfc ≤ now + uc)
       both now fall before t rfc uc up add drop e1 e2 e3 e4 le = (omega arith, omega arith)
 
   pub near_after : Near e
   near_after = all_listed (IsNear e) (rows e) (λ row has. near_row row (subst (λ (rs : List Row). Contains rs row) (rows_kept f.ino d e w) has))
 
-module _ (d : Disk) (b : Parts) (s : State) (who : ℕ) (f : Flight) (c : DataChange) (v : IsVolume d b s) (flies : Flies b who f) (kind : f.change ≡ Data c) (is : IsDataFlight d who f c s)
-    (name : List ℕ) (to : ℕ) (op_is : f.op ≡ Cut name to) (all_filled : c.filled ≡ length c.blocks.items) (all_raised : f.raised ≡ length f.rows.items) where
+module _ (d : Disk) (b : Parts) (s : State) (who : ℕ) (f : Flight) (c : DataChange) (v : IsVolume d b s) (flies : Flies b who f)
+    (kind : f.change ≡ Data c) (is : IsDataFlight d who f c s)
+    (name : List ℕ) (to : ℕ) (op_is : f.op ≡ Cut name to) (all_filled : c.filled ≡ length c.blocks.items)
+    (all_raised : f.raised ≡ length f.rows.items) where
   pub plans : PlansCut d f c name to
   plans = subst (PlansData d f c) op_is is.plans
 
@@ -159,12 +198,15 @@ module _ (d : Disk) (b : Parts) (s : State) (who : ℕ) (f : Flight) (c : DataCh
   after = cut_disk d f.ino f.fresh.items to refill word
 
   taken_unused : (page : ℕ) → Contains (taken_by f) page → IsUnused d page
-  taken_unused page has = v.space.unused page (λ none. let his = v.space.takes who page (for_client f flies has) in let some = flies.client in omega (arith, his, none, some))
+  taken_unused page has = v.space.unused page (λ none. let his = v.space.takes who page (for_client f flies has) in let some = flies.client in
+      omega (arith, his, none, some))
 
-  refills_is : length c.blocks.items ≡ (if not (to % 4096 == 0) && nat_lt to (size_of (d.inode f.ino).log) && is_some (maps d f.ino (to / 4096)) then 1 else 0)
+  refills_is : length c.blocks.items ≡ (if not (to % 4096 == 0) && nat_lt to (size_of (d.inode f.ino).log) && is_some (maps d f.ino (to / 4096)) then
+      1 else 0)
   refills_is =
       plans.places
-      ∙ ap (λ (r : Option ℕ). if not (to % 4096 == 0) && nat_lt to (size_of (d.inode (inode_of r)).log) && is_some (maps d (inode_of r) (to / 4096)) then 1 else 0) plans.leads
+      ∙ ap (λ (r : Option ℕ). if not (to % 4096 == 0) && nat_lt to (size_of (d.inode (inode_of r)).log) && is_some (maps d (inode_of r) (to / 4096))
+      then 1 else 0) plans.leads
 
   few_blocks : length c.blocks.items ≤ 1
   few_blocks = few (not (to % 4096 == 0) && nat_lt to (size_of (d.inode f.ino).log) && is_some (maps d f.ino (to / 4096))) refills_is
@@ -177,11 +219,13 @@ module _ (d : Disk) (b : Parts) (s : State) (who : ℕ) (f : Flight) (c : DataCh
   may_refill [] same = ⊎_elim (λ (e : (to % 4096 == 0) ≡ true). inl (whole_page (to % 4096) e))
       (λ rest. inr (⊎_elim (λ (e : nat_lt to (size_of (d.inode f.ino).log) ≡ false). inl (longer to (size_of (d.inode f.ino).log) e))
       (λ (e : is_some (maps d f.ino (to / 4096)) ≡ false). inr (none_mapped (maps d f.ino (to / 4096)) e)) rest))
-      (none_of (to % 4096 == 0) (nat_lt to (size_of (d.inode f.ino).log)) (is_some (maps d f.ino (to / 4096))) (length c.blocks.items) refills_is (sym (ap length same)))
+      (none_of (to % 4096 == 0) (nat_lt to (size_of (d.inode f.ino).log)) (is_some (maps d f.ino (to / 4096))) (length c.blocks.items) refills_is
+      (sym (ap length same)))
   may_refill (block ∷ blocks) same =
       let has : Contains c.blocks.items block = subst (λ (xs : List ℕ). Contains xs block) same (0, omega arith, refl) in
       let some = ap length same in (
-        part_page (to % 4096) (one_of (to % 4096 == 0) (nat_lt to (size_of (d.inode f.ino).log)) (is_some (maps d f.ino (to / 4096))) (length c.blocks.items) refills_is (omega (arith, some))),
+        part_page (to % 4096) (one_of (to % 4096 == 0) (nat_lt to (size_of (d.inode f.ino).log)) (is_some (maps d f.ino (to / 4096)))
+            (length c.blocks.items) refills_is (omega (arith, some))),
         taken_unused block (block_taken f c kind block has),
         (λ fresh. fresh_no_block f c kind is.grows.apart block fresh has),
       )
@@ -197,11 +241,13 @@ module _ (d : Disk) (b : Parts) (s : State) (who : ℕ) (f : Flight) (c : DataCh
 
   not_taken : (page : ℕ) → Contains b.free.free page → Contains (taken_by f) page → ⊥
   not_taken page there has =
-      let none = ((v.space.free page).0 there).1 in let his = v.space.takes who page (for_client f flies has) in let some = flies.client in omega (arith, his, none, some)
+      let none = ((v.space.free page).0 there).1 in let his = v.space.takes who page (for_client f flies has) in let some = flies.client in
+      omega (arith, his, none, some)
 
   not_refill : (blocks : List ℕ) (page : ℕ) → blocks ≡ c.blocks.items → (Contains (taken_by f) page → ⊥) → IsNotRefill (refill_of blocks) page
   not_refill [] page same out = tt
-  not_refill (block ∷ blocks) page same out = λ e. out (block_taken f c kind page (subst (λ (xs : List ℕ). Contains xs page) same (0, omega arith, e)))
+  not_refill (block ∷ blocks) page same out = λ e. out
+      (block_taken f c kind page (subst (λ (xs : List ℕ). Contains xs page) same (0, omega arith, e)))
 
   left_page : (page : ℕ) → Contains b.free.free page → IsLeft d f.fresh.items refill page
   left_page page there = record {
@@ -245,19 +291,22 @@ module _ (d : Disk) (b : Parts) (s : State) (who : ℕ) (f : Flight) (c : DataCh
   from_fits (x ∷ xs) = omega (arith, plans.fits)
 
   -- a place before the first that goes is the old one's
-  kept_by : (blocks : List ℕ) → blocks ≡ c.blocks.items → MayRefill d f.ino f.fresh.items to (refill_of blocks) → (idx : ℕ) → idx < gone_from to blocks → maps after f.ino idx ≡ maps d f.ino idx
+  kept_by : (blocks : List ℕ) → blocks ≡ c.blocks.items → MayRefill d f.ino f.fresh.items to (refill_of blocks) → (idx : ℕ)
+      → idx < gone_from to blocks → maps after f.ino idx ≡ maps d f.ino idx
   kept_by [] same fills idx lt = cut.kept idx lt (inl (ap refill_of (sym same)))
   kept_by (x ∷ xs) same fills idx lt = cut.kept idx (omega (arith, lt)) (inr (omega (arith, lt)))
 
   -- one from there on is filled anew, or nothing is mapped there
-  anew_by : (blocks : List ℕ) → blocks ≡ c.blocks.items → (idx : ℕ) (m : Mapping) → gone_from to blocks ≤ idx → maps after f.ino idx ≡ Some m → (i : ℕ) × (i < event.n) × (m.block ≡ event.blocks i)
+  anew_by : (blocks : List ℕ) → blocks ≡ c.blocks.items → (idx : ℕ) (m : Mapping) → gone_from to blocks ≤ idx → maps after f.ino idx ≡ Some m
+      → (i : ℕ) × (i < event.n) × (m.block ≡ event.blocks i)
   anew_by [] same idx m past mapped = absurd (gone_some (maps after f.ino idx) m (cut.gone idx past) mapped)
   anew_by (x ∷ xs) same idx m past mapped = elim (cases_eq idx (last_page to)) [
     | inl last ↦
         let here = cut.anew x (ap refill_of (sym same)) in (
           0,
           subst (λ (r : Option ℕ). 0 < places_in (refill_runs to r)) (ap refill_of same) (omega arith),
-          same_block (maps after f.ino idx) m here.by mapped (ap (maps after f.ino) last ∙ here.is) ∙ here.page ∙ at_zero x (refill_of c.blocks.items) (ap refill_of (sym same)),
+          same_block (maps after f.ino idx) m here.by mapped (ap (maps after f.ino) last ∙ here.is) ∙ here.page ∙ at_zero x (refill_of c.blocks.items)
+              (ap refill_of (sym same)),
         )
     | inr ne ↦ absurd (gone_some (maps after f.ino idx) m (cut.gone idx (omega (arith, past, ne))) mapped)
   ]
@@ -281,13 +330,15 @@ module _ (d : Disk) (b : Parts) (s : State) (who : ℕ) (f : Flight) (c : DataCh
   pub drops : Drops f.ino d after event from (4096 - from)
   drops = record {
     in_file = omega (arith, from_fits c.blocks.items);
-    kept = λ idx out. ⊎_elim (λ low. kept_by c.blocks.items refl (may_refill c.blocks.items refl) idx low) (λ high. past_file idx (omega (arith, high, from_fits c.blocks.items))) out;
+    kept = λ idx out. ⊎_elim (λ low. kept_by c.blocks.items refl (may_refill c.blocks.items refl) idx low)
+        (λ high. past_file idx (omega (arith, high, from_fits c.blocks.items))) out;
     anew = λ idx m low high mapped. anew_by c.blocks.items refl idx m low mapped;
   }
 
   block_unused : (i : ℕ) → i < event.n → IsUnused d (event.blocks i)
   block_unused i lt = subst (IsUnused d) (ap (λ (rs : List Run). block_at rs i) runs_here)
-      (subst (IsUnused d) (sym (is.blocks i (below i lt))) (taken_unused (slice_index c.blocks.items i) (block_taken f c kind (slice_index c.blocks.items i) (Contains-get_or c.blocks.items i 0 (below i lt)))))
+      (subst (IsUnused d) (sym (is.blocks i (below i lt))) (taken_unused (slice_index c.blocks.items i)
+      (block_taken f c kind (slice_index c.blocks.items i) (Contains-get_or c.blocks.items i 0 (below i lt)))))
     where
       below : (i : ℕ) → i < event.n → i < length c.blocks.items
       below i lt = let same = ap places_in runs_here in omega (arith, lt, same, is.covers)
@@ -304,7 +355,8 @@ module _ (d : Disk) (b : Parts) (s : State) (who : ℕ) (f : Flight) (c : DataCh
     rows_are = plans.rows;
     takes = refl;
     places = let same = ap places_in runs_here in omega (arith, same, is.covers);
-    blocks = λ i lt. ap (λ (rs : List Run). block_at rs i) (sym runs_here) ∙ is.blocks i (let same = ap places_in runs_here in omega (arith, lt, same, is.covers));
+    blocks = λ i lt. ap (λ (rs : List Run). block_at rs i) (sym runs_here) ∙ is.blocks i (let same = ap places_in runs_here in
+        omega (arith, lt, same, is.covers));
     ends = sym plans.size_is;
   }
 
@@ -318,7 +370,14 @@ module _ (d : Disk) (b : Parts) (s : State) (who : ℕ) (f : Flight) (c : DataCh
     well = well;
     stands = v.fast.stands;
     ready = record {
-      within = λ a x told. omega (arith, told.place, told.in_page, (block_unused told.i told.below).free.data_page.high, v.fast.long, ap (λ (g : Geometry). g.pages) v.fast.geometry);
+      within = λ a x told. omega (
+        arith,
+        told.place,
+        told.in_page,
+        (block_unused told.i told.below).free.data_page.high,
+        v.fast.long,
+        ap (λ (g : Geometry). g.pages) v.fast.geometry,
+      );
       reads = λ a x told.
           ap (slice_index s.now) told.place ∙ sym (words-here d s.now (event.blocks told.i) told.k told.in_page)
           ∙ sym (with_log-word d f.ino _ word (event.blocks told.i) told.k) ∙ sym told.value;
@@ -331,7 +390,8 @@ module _ (d : Disk) (b : Parts) (s : State) (who : ℕ) (f : Flight) (c : DataCh
   }
 
   -- the page that is filled anew has the old bytes below the size, and zeros from it on
-  byte_is : (page : ℕ) → refill_of c.blocks.items ≡ Some page → (k : ℕ) → k < 4096 → byte_of after page k ≡ (if nat_lt (4096 * (c.first + 0) + k) to then slice_index (bytes d f.ino) (4096 * (c.first + 0) + k) else 0)
+  byte_is : (page : ℕ) → refill_of c.blocks.items ≡ Some page → (k : ℕ) → k < 4096
+      → byte_of after page k ≡ (if nat_lt (4096 * (c.first + 0) + k) to then slice_index (bytes d f.ino) (4096 * (c.first + 0) + k) else 0)
   byte_is page refilled k small =
       let at = first_of c.blocks.items page refilled in
       ap (λ (w : ℕ). w / 256 ^ (k % 8) % 256) (with_log-word d f.ino _ word page (k / 8) ∙ words-here d s.now page (k / 8) (omega (arith, small)))
@@ -350,9 +410,11 @@ module _ (d : Disk) (b : Parts) (s : State) (who : ℕ) (f : Flight) (c : DataCh
   refills_page None e = tt
   refills_page (Some page) e = record {
     kept = λ k lt.
-        byte_is page (sym e) k (omega (arith, lt)) ∙ below (4096 * (c.first + 0) + k) to (omega (arith, lt, plans.first)) (slice_index (bytes d f.ino) (4096 * (c.first + 0) + k))
+        byte_is page (sym e) k (omega (arith, lt)) ∙ below (4096 * (c.first + 0) + k) to (omega (arith, lt, plans.first))
+        (slice_index (bytes d f.ino) (4096 * (c.first + 0) + k))
         ∙ ap (slice_index (bytes d f.ino)) (omega_place k);
-    zeros = λ k le small. byte_is page (sym e) k small ∙ past (4096 * (c.first + 0) + k) to (omega (arith, le, plans.first)) (slice_index (bytes d f.ino) (4096 * (c.first + 0) + k));
+    zeros = λ k le small. byte_is page (sym e) k small ∙ past (4096 * (c.first + 0) + k) to (omega (arith, le, plans.first))
+        (slice_index (bytes d f.ino) (4096 * (c.first + 0) + k));
   }
     where
       omega_place : (k : ℕ) → 4096 * (c.first + 0) + k ≡ 4096 * last_page to + k
@@ -370,7 +432,8 @@ module _ (d : Disk) (b : Parts) (s : State) (who : ℕ) (f : Flight) (c : DataCh
   pub files_after : (print : Print) → IsOwn print d → IsSameFiles (files after) (after_op (files d) f.op)
   files_after print own = subst (λ (op : Op). IsSameFiles (files after) (after_op (files d) op)) (sym op_is)
       (cut_files d f.ino f.fresh.items to refill word may well (refills_page refill refl)
-      (λ idx k m mapped small past. own.zeros f.ino idx k m (record { in_table = is.grows.in_table; live = is.grows.live; maps = mapped }) past small) name plans.leads)
+      (λ idx k m mapped small past. own.zeros f.ino idx k m (record { in_table = is.grows.in_table; live = is.grows.live; maps = mapped }) past small)
+      name plans.leads)
 
   pub granted : IsGranted (files d) f.op
   granted = subst (IsGranted (files d)) (sym op_is) (record {

@@ -1,5 +1,31 @@
 -- The disk that the end of a write leads to.
-use Rattle.std.proofs.Common.{◌≡◌, inl, inr, ℕ, ◌+◌, ◌-◌, ◌*◌, ◌/◌, ◌%◌, ◌^◌, ◌<◌, ◌≤◌, Bool, true, false, List, [], ◌∷◌, length, refl, sym, ◌∙◌, ap, subst, arith}
+use Rattle.std.proofs.Common.{
+  ◌≡◌,
+  inl,
+  inr,
+  ℕ,
+  ◌+◌,
+  ◌-◌,
+  ◌*◌,
+  ◌/◌,
+  ◌%◌,
+  ◌^◌,
+  ◌<◌,
+  ◌≤◌,
+  Bool,
+  true,
+  false,
+  List,
+  [],
+  ◌∷◌,
+  length,
+  refl,
+  sym,
+  ◌∙◌,
+  ap,
+  subst,
+  arith,
+}
 use Rattle.std.specs.Prelude.{slice_index, if◌then◌else◌, ◌==◌, ◌&&◌, nat_le, nat_lt, max, Option, IsSome, Contains}
 use Rattle.std.proofs.lemmas.Bool.{cases_lt}
 use Rattle.std.proofs.lemmas.Bool.Decides.{nat_tests}
@@ -64,7 +90,8 @@ some_runs (run ∷ runs) some = omega arith
 
 -- the places that some bytes touch
 touched_is : (at count : ℕ) → 1 ≤ count → touched at count ≡ (at + count + 4095) / 4096 - at / 4096
-touched_is at count some = let none : (count == 0) ≡ false = grind (arith, nat_tests) in ap (λ (b : Bool). if b then 0 else (at + count + 4095) / 4096 - at / 4096) none
+touched_is at count some = let none : (count == 0) ≡ false = grind (arith, nat_tests) in
+    ap (λ (b : Bool). if b then 0 else (at + count + 4095) / 4096 - at / 4096) none
 
 merged-in : (old : List ℕ) (at : ℕ) (text : List ℕ) (j : ℕ) → at ≤ j → j < at + length text → merged_byte old at text j ≡ slice_index text (j - at)
 merged-in old at text j low high =
@@ -100,12 +127,15 @@ words-past d now page k le = ap (λ (b : Bool). if b then slice_index now (512 *
 
 pub words-keep : (d : Disk) (s : State) → Stands (DiskSays d) s → (page k : ℕ) → IsReadPage d page → words_now d s.now page k ≡ d.word page k
 words-keep d s stands page k read = elim (cases_lt k 512) [
-  | inl lt ↦ words-here d s.now page k lt ∙ stands.reads (512 * page + k) (d.word page k) (of_pages (record { page = page; k = k; in_page = lt; read = read; place = refl; value = refl }))
+  | inl lt ↦ words-here d s.now page k lt ∙ stands.reads (512 * page + k) (d.word page k)
+      (of_pages (record { page = page; k = k; in_page = lt; read = read; place = refl; value = refl }))
   | inr le ↦ words-past d s.now page k le
 ]
 
-module _ (d : Disk) (b : Parts) (s : State) (who : ℕ) (f : Flight) (c : DataChange) (v : IsVolume d b s) (flies : Flies b who f) (kind : f.change ≡ Data c) (is : IsDataFlight d who f c s)
-    (name : List ℕ) (at : ℕ) (text : List ℕ) (op_is : f.op ≡ Write name at text) (all_filled : c.filled ≡ length c.blocks.items) (all_raised : f.raised ≡ length f.rows.items) where
+module _ (d : Disk) (b : Parts) (s : State) (who : ℕ) (f : Flight) (c : DataChange) (v : IsVolume d b s) (flies : Flies b who f)
+    (kind : f.change ≡ Data c) (is : IsDataFlight d who f c s)
+    (name : List ℕ) (at : ℕ) (text : List ℕ) (op_is : f.op ≡ Write name at text) (all_filled : c.filled ≡ length c.blocks.items)
+    (all_raised : f.raised ≡ length f.rows.items) where
   pub plans : PlansWrite d f c name at text
   plans = subst (PlansData d f c) op_is is.plans
 
@@ -128,7 +158,8 @@ module _ (d : Disk) (b : Parts) (s : State) (who : ℕ) (f : Flight) (c : DataCh
   back i lt = omega (arith, is.covers, lt)
 
   taken_unused : (page : ℕ) → Contains (taken_by f) page → IsUnused d page
-  taken_unused page has = v.space.unused page (λ none. let his = v.space.takes who page (for_client f flies has) in let some = flies.client in omega (arith, his, none, some))
+  taken_unused page has = v.space.unused page (λ none. let his = v.space.takes who page (for_client f flies has) in let some = flies.client in
+      omega (arith, his, none, some))
 
   block_in : (i : ℕ) → i < places_in runs → Contains c.blocks.items (block_at runs i)
   block_in i lt = subst (Contains c.blocks.items) (sym (is.blocks i (back i lt))) (Contains-get_or c.blocks.items i 0 (back i lt))
@@ -163,7 +194,8 @@ module _ (d : Disk) (b : Parts) (s : State) (who : ℕ) (f : Flight) (c : DataCh
     in_size = omega (arith, plans.first, n_is, plans.size_is);
     small = omega (arith, plans.size_is, plans.fits, old_small);
     blocks = λ i lt. taken_unused (block_at runs i) (block_taken f c kind (block_at runs i) (block_in i lt));
-    blocks_apart = λ i j il jl e. blocks_apart f c kind is.grows.apart i j (back i il) (back j jl) (sym (is.blocks i (back i il)) ∙ e ∙ is.blocks j (back j jl));
+    blocks_apart = λ i j il jl e. blocks_apart f c kind is.grows.apart i j (back i il) (back j jl) (sym (is.blocks i (back i il)) ∙ e ∙ is.blocks j
+        (back j jl));
     fresh_unused = λ page has. taken_unused page (fresh_taken f c kind page has);
     fresh_apart = fresh_apart f c kind is.grows.apart;
     apart = λ i lt has. fresh_no_block f c kind is.grows.apart (block_at runs i) has (block_in i lt);
@@ -185,27 +217,33 @@ module _ (d : Disk) (b : Parts) (s : State) (who : ℕ) (f : Flight) (c : DataCh
   old_fits = omega (arith, plans.size_is)
 
   pub drops : Drops f.ino d after event c.first (length c.blocks.items)
-  drops = subst (λ (n : ℕ). Drops f.ino d after event c.first n) is.covers (drop_written f.ino d after event old_fits (omega (arith, may.in_size, may.small)))
+  drops = subst (λ (n : ℕ). Drops f.ino d after event c.first n) is.covers
+      (drop_written f.ino d after event old_fits (omega (arith, may.in_size, may.small)))
 
   -- the counts of rows stay near: as many updates of each row are raised
   near_row : (row : Row) → Contains (rows d) row → IsNear after row
   near_row row has =
       let fell = drop_mappings f.ino d after event c.first (length c.blocks.items) drops row.page
-      (λ i lt same. none_or_some (row_of (rows d) (block_at runs i)) (may.blocks i lt).no_row (subst (λ (p : ℕ). IsSome (row_of (rows d) p)) (sym same) (row_found (rows d) row has))) in
+      (λ i lt same. none_or_some (row_of (rows d) (block_at runs i)) (may.blocks i lt).no_row (subst (λ (p : ℕ). IsSome (row_of (rows d) p))
+      (sym same) (row_found (rows d) row has))) in
       let as_often : times row.slot f.rows.items ≡ dropped_from d f.ino c.first (length c.blocks.items) row.page =
       ap (times row.slot) plans.rows ∙ times-slots d v.fast.valid row has f.ino c.first (length c.blocks.items) in
       let was = All-contains (λ (r : Row). IsBalanced d r (raised b r.slot) (added b r.slot) (dropped b r.slot)) (rows d) row v.counts.balanced has in
-      let his = term-le (λ j. times row.slot (raised_by (flight_at b.flights.items j))) 14 (who - 1) (omega (arith, v.flights.clients, flight_within b.flights.items (who - 1) f flies.is)) in
+      let his = term-le (λ j. times row.slot (raised_by (flight_at b.flights.items j))) 14 (who - 1)
+      (omega (arith, v.flights.clients, flight_within b.flights.items (who - 1) f flies.is)) in
       let mine : times row.slot (raised_by (flight_at b.flights.items (who - 1))) ≡ times row.slot f.rows.items =
-      ap (λ (r : Option Flight). times row.slot (raised_by r)) flies.is ∙ ap (λ (xs : List ℕ). times row.slot xs) (take_all f.raised f.rows.items (omega (arith, all_raised))) in
+      ap (λ (r : Option Flight). times row.slot (raised_by r)) flies.is ∙ ap (λ (xs : List ℕ). times row.slot xs)
+      (take_all f.raised f.rows.items (omega (arith, all_raised))) in
       let some : times row.slot f.rows.items ≤ raised b row.slot = omega (arith, his, mine) in
       both _ _ _ _ _ _ _ _ _ fell as_often was.updates was.references some
     where
-      both : (now fall before t rfc uc up add drop : ℕ) → now + fall ≡ before → t ≡ fall → uc ≡ up + add + drop → before + drop ≡ rfc + add → t ≤ up → (now ≤ rfc + uc) × (rfc ≤ now + uc)
+      both : (now fall before t rfc uc up add drop : ℕ) → now + fall ≡ before → t ≡ fall → uc ≡ up + add + drop → before + drop ≡ rfc + add → t ≤ up
+          → (now ≤ rfc + uc) × (rfc ≤ now + uc)
       both now fall before t rfc uc up add drop e1 e2 e3 e4 le = (omega arith, omega arith)
 
   near : Near after
-  near = all_listed (IsNear after) (rows after) (λ row has. near_row row (subst (λ (rs : List Row). Contains rs row) (rows_kept f.ino d after event) has))
+  near = all_listed (IsNear after) (rows after) (λ row has. near_row row (subst (λ (rs : List Row). Contains rs row) (rows_kept f.ino d after event)
+      has))
 
   pub well : WritesWell f.ino d after event
   well = written-well d f.ino f.fresh.items c.first c.size runs word may near
@@ -232,7 +270,14 @@ module _ (d : Disk) (b : Parts) (s : State) (who : ℕ) (f : Flight) (c : DataCh
     well = well;
     stands = v.fast.stands;
     ready = record {
-      within = λ a x told. omega (arith, told.place, told.in_page, (block_page told.i told.below).free.data_page.high, v.fast.long, ap (λ (g : Geometry). g.pages) v.fast.geometry);
+      within = λ a x told. omega (
+        arith,
+        told.place,
+        told.in_page,
+        (block_page told.i told.below).free.data_page.high,
+        v.fast.long,
+        ap (λ (g : Geometry). g.pages) v.fast.geometry,
+      );
       reads = λ a x told.
           ap (slice_index s.now) told.place ∙ sym (words-here d s.now (block_at runs told.i) told.k told.in_page)
           ∙ sym (with_log-word d f.ino _ word (block_at runs told.i) told.k) ∙ sym told.value;
@@ -245,9 +290,11 @@ module _ (d : Disk) (b : Parts) (s : State) (who : ℕ) (f : Flight) (c : DataCh
   }
 
   -- and are the text's
-  byte_is : (i k : ℕ) → i < places_in runs → k < 4096 → byte_of after (block_at runs i) k ≡ merged_byte (bytes d f.ino) at text (4096 * (c.first + i) + k)
+  byte_is : (i k : ℕ) → i < places_in runs → k < 4096 → byte_of after (block_at runs i) k ≡ merged_byte (bytes d f.ino) at text
+      (4096 * (c.first + i) + k)
   byte_is i k lt small =
-      ap (λ (w : ℕ). w / 256 ^ (k % 8) % 256) (with_log-word d f.ino _ word (block_at runs i) (k / 8) ∙ words-here d s.now (block_at runs i) (k / 8) (omega (arith, small)))
+      ap (λ (w : ℕ). w / 256 ^ (k % 8) % 256) (with_log-word d f.ino _ word (block_at runs i) (k / 8) ∙ words-here d s.now (block_at runs i) (k / 8)
+      (omega (arith, small)))
       ∙ ap (λ (p : ℕ). page_byte s.now p k) (is.blocks i (back i lt))
       ∙ (is.filled i (omega (arith, all_filled, back i lt))).bytes_are k small
       ∙ ap (λ (op : Op). new_byte op (bytes d f.ino) (4096 * (c.first + i) + k)) op_is
@@ -258,14 +305,16 @@ module _ (d : Disk) (b : Parts) (s : State) (who : ℕ) (f : Flight) (c : DataCh
     covers = λ j low high. (omega (arith, plans.first, low), omega (arith, plans.first, n_is, low, high));
     inside = λ k i lt small low high. byte_is k i lt small ∙ merged-in (bytes d f.ino) at text (4096 * (c.first + k) + i) low high;
     outside = λ k i lt small out. byte_is k i lt small ∙ merged-out (bytes d f.ino) at text (4096 * (c.first + k) + i) out;
-    zeros = λ idx k m mapped small past. own.zeros f.ino idx k m (record { in_table = is.grows.in_table; live = is.grows.live; maps = mapped }) past small;
+    zeros = λ idx k m mapped small past. own.zeros f.ino idx k m (record { in_table = is.grows.in_table; live = is.grows.live; maps = mapped }) past
+        small;
   }
 
   pub own_after : (print : Print) → IsOwn print d → IsOwn print after
   own_after print own = own-written print f.ino d after event well at text (writes_bytes print own) own
 
   pub files_after : (print : Print) → IsOwn print d → IsSameFiles (files after) (after_op (files d) f.op)
-  files_after print own = subst (λ (op : Op). IsSameFiles (files after) (after_op (files d) op)) (sym op_is) (by_text text plans.some (writes_bytes print own))
+  files_after print own = subst (λ (op : Op). IsSameFiles (files after) (after_op (files d) op)) (sym op_is)
+      (by_text text plans.some (writes_bytes print own))
     where
       by_text : (t : List ℕ) → 1 ≤ length t → WritesBytes f.ino d after event at t → IsSameFiles (files after) (after_op (files d) (Write name at t))
       by_text [] some w = absurd (omega arith)

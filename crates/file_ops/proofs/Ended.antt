@@ -44,110 +44,125 @@ pub record IsOut (b mid : Parts) : Type 0 where
   pub owed : mid.owed ≡ b.owed
   pub history : mid.history ≡ b.history
 
-module _ (d : Disk) (b : Parts) (s : State) (who : ℕ) (f : Flight) (c : DataChange) (v : IsVolume d b s) (flies : Flies b who f) (kind : f.change ≡ Data c) (is : IsDataFlight d who f c s)
-    (name : List ℕ) (at : ℕ) (text : List ℕ) (op_is : f.op ≡ Write name at text) (all_filled : c.filled ≡ length c.blocks.items) (all_raised : f.raised ≡ length f.rows.items)
+module _ (d : Disk) (b : Parts) (s : State) (who : ℕ) (f : Flight) (c : DataChange) (v : IsVolume d b s) (flies : Flies b who f)
+    (kind : f.change ≡ Data c) (is : IsDataFlight d who f c s)
+    (name : List ℕ) (at : ℕ) (text : List ℕ) (op_is : f.op ≡ Write name at text) (all_filled : c.filled ≡ length c.blocks.items)
+    (all_raised : f.raised ≡ length f.rows.items)
     (node : InodeState) (node_is : slice_get b.inodes.items f.ino ≡ Some node)
-    (mid b' : Parts) (tail : ℕ) (tail_is : tail ≡ tail_at (d.inode f.ino).log.pages (count (d.inode f.ino).log)) (out : IsOut b mid) (ended : EndsFlight who b mid)
-    (gives : Gives (IsUnsharedAmong d node.map.map c.first (length c.blocks.items)) b.free mid.free) (finish : FinishesParts who tail f c mid b') where
-  abbrev e : Disk
-  e = after d b s who f c v flies kind is name at text op_is all_filled all_raised
+    (mid b' : Parts) (tail : ℕ) (tail_is : tail ≡ tail_at (d.inode f.ino).log.pages (count (d.inode f.ino).log)) (out : IsOut b mid)
+    (ended : EndsFlight who b mid)
+    (gives : Gives (IsUnsharedAmong d node.map.map c.first (length c.blocks.items)) b.free mid.free) (finish : FinishesParts who tail f c mid b')
+  where
+    abbrev e : Disk
+    e = after d b s who f c v flies kind is name at text op_is all_filled all_raised
 
-  abbrev disk : ChangesData d e f c c.first (length c.blocks.items)
-  disk = changes d b s who f c v flies kind is name at text op_is all_filled all_raised
+    abbrev disk : ChangesData d e f c c.first (length c.blocks.items)
+    disk = changes d b s who f c v flies kind is name at text op_is all_filled all_raised
 
-  pub pages_given : GivesPages d f c.first (length c.blocks.items) b b'
-  pages_given = record {
-    pages = finish.free.pages ∙ gives.pages;
-    in_order = finish.free.in_order;
-    free = λ page. (
-      (λ there. ⊎_elim
-          (λ (mid_free : Contains mid.free.free page). ⊎_elim (λ was. inl was) (λ a. inr (inr (freed_is d b s who f c v flies kind is node node_is c.first (length c.blocks.items) page a))) ((gives.free page).0 mid_free))
-          (λ spare. inr (inl spare)) ((finish.free.free page).0 there)),
-      (λ h. (finish.free.free page).1 (⊎_elim (λ was. inl ((gives.free page).1 (inl was)))
-          (λ more. ⊎_elim (λ spare. inr spare) (λ freed. inl ((gives.free page).1 (inr (is_freed d b s who f c v flies kind is node node_is c.first (length c.blocks.items) page freed)))) more) h)),
-    );
-    no_less = omega (arith, finish.free.no_less, gives.no_less);
-  }
+    pub pages_given : GivesPages d f c.first (length c.blocks.items) b b'
+    pages_given = record {
+      pages = finish.free.pages ∙ gives.pages;
+      in_order = finish.free.in_order;
+      free = λ page. (
+        (λ there. ⊎_elim
+            (λ (mid_free : Contains mid.free.free page). ⊎_elim (λ was. inl was)
+            (λ a. inr (inr (freed_is d b s who f c v flies kind is node node_is c.first (length c.blocks.items) page a)))
+            ((gives.free page).0 mid_free))
+            (λ spare. inr (inl spare)) ((finish.free.free page).0 there)),
+        (λ h. (finish.free.free page).1 (⊎_elim (λ was. inl ((gives.free page).1 (inl was)))
+            (λ more. ⊎_elim (λ spare. inr spare)
+            (λ freed. inl ((gives.free page).1 (inr (is_freed d b s who f c v flies kind is node node_is c.first (length c.blocks.items) page
+            freed)))) more) h)),
+      );
+      no_less = omega (arith, finish.free.no_less, gives.no_less);
+    }
 
-  grows : node.size ≤ c.size
-  grows = omega (arith, old_fits d b s who f c v flies kind is name at text op_is all_filled all_raised, (file_is d b s who f c v flies kind is node node_is).size_is)
+    grows : node.size ≤ c.size
+    grows = omega (
+      arith,
+      old_fits d b s who f c v flies kind is name at text op_is all_filled all_raised,
+      (file_is d b s who f c v flies kind is node node_is).size_is,
+    )
 
-  mid_state : (x : InodeState) → slice_get b.inodes.items f.ino ≡ Some x → slice_get mid.inodes.items f.ino ≡ Some x
-  mid_state x was = ap (λ (ns : _). slice_get ns.items f.ino) out.inodes ∙ was
+    mid_state : (x : InodeState) → slice_get b.inodes.items f.ino ≡ Some x → slice_get mid.inodes.items f.ino ≡ Some x
+    mid_state x was = ap (λ (ns : _). slice_get ns.items f.ino) out.inodes ∙ was
 
-  -- the slot of a place's item, past the log's tail
-  slot_waits : (idx : ℕ) (m : Mapping) → c.first ≤ idx → idx < c.first + length c.blocks.items → maps e f.ino idx ≡ Some m
-      → (j : ℕ) × (j < length (all_seen c.runs.items)) × (m.slot ≡ slot_name ((d.inode f.ino).log.pages ++ f.fresh.items) (count (d.inode f.ino).log + j))
-  slot_waits idx m low high mapped =
-      let by = disk.drops.anew idx m low high mapped in
-      let found = mapped_slot f.ino d e disk.event disk.well c.size (all_seen c.runs.items) refl idx m mapped by.0 by.1 by.2 in
-      (found.0, found.1, found.2 ∙ ap (λ (ps : List ℕ). slot_name ps (count (d.inode f.ino).log + found.0)) disk.event.grown.pages)
+    -- the slot of a place's item, past the log's tail
+    slot_waits : (idx : ℕ) (m : Mapping) → c.first ≤ idx → idx < c.first + length c.blocks.items → maps e f.ino idx ≡ Some m
+        → (j : ℕ) × (j < length (all_seen c.runs.items)) × (m.slot ≡ slot_name ((d.inode f.ino).log.pages ++ f.fresh.items)
+        (count (d.inode f.ino).log + j))
+    slot_waits idx m low high mapped =
+        let by = disk.drops.anew idx m low high mapped in
+        let found = mapped_slot f.ino d e disk.event disk.well c.size (all_seen c.runs.items) refl idx m mapped by.0 by.1 by.2 in
+        (found.0, found.1, found.2 ∙ ap (λ (ps : List ℕ). slot_name ps (count (d.inode f.ino).log + found.0)) disk.event.grown.pages)
 
-  pub all_ends : Ends d e who f c c.first (length c.blocks.items) b b'
-  all_ends =
-      let q = finish.queue node (mid_state node node_is) in
-      record {
-        keeps = record {
-          geometry = finish.geometry ∙ out.geometry;
-          names = finish.names ∙ out.names;
-          fact = finish.fact ∙ out.fact;
-          trace = finish.trace ∙ out.trace;
-          sharing = finish.sharing ∙ out.sharing;
-          stopped = finish.stopped ∙ out.stopped;
-          raised = finish.raised ∙ ap (λ (r : _). r.raised) out.reclaiming;
-          zero_check = finish.zero_check ∙ ap (λ (r : _). r.zero_check) out.reclaiming;
-        };
-        flight = record {
-          clients = ap (λ (fs : _). length fs.items) finish.flights ∙ ended.clients;
-          landed = ap (λ (fs : _). flight_at fs.items (who - 1)) finish.flights ∙ ended.landed;
-          others = λ k ne. ap (λ (fs : _). flight_at fs.items k) finish.flights ∙ ended.others k ne;
-        };
-        inode = record {
-          all = finish.inodes.all ∙ ap (λ (ns : _). length ns.items) out.inodes;
-          others = λ i ne. finish.inodes.others i ne ∙ ap (λ (ns : _). slice_get ns.items i) out.inodes;
-          here = λ old new was now.
-              let maps_it = finish.inodes.here old new (mid_state old was) now in
-              let held = file_is d b s who f c v flies kind is old was in
-              let same = some_same (slice_get b.inodes.items f.ino) node old node_is was in
-              record {
-                used = maps_it.used;
-                size_is = maps_it.size_is;
-                round = maps_it.round;
-                holder = maps_it.holder;
-                places = (maps_it.file d old.size c.first _ held (may d b s who f c v flies kind is name at text op_is all_filled all_raised) tail_is (subst (λ (x : InodeState). x.size ≤ c.size) same grows)).places;
-              };
-        };
-        pages = pages_given;
-        releases = record {
-          items = finish.releases ∙ ap (λ (r : _). r.releases.items ++ f.rows.items) out.reclaiming;
-          waiting = finish.waiting ∙ ap (λ (r : _). r.waiting + 2 * length f.rows.items) out.reclaiming;
-          room = finish.releases_len ∙ ap (λ (r : _). deque_len r.releases + length f.rows.items) out.reclaiming;
-          capacity = let same = finish.releases_capacity ∙ ap (λ (r : _). deque_capacity r.releases) out.reclaiming in omega (arith, same);
-        };
-        queue = record {
-          more = q.more;
-          items = q.items ∙ ap (λ (w : _). w.items ++ q.more) out.queue;
-          each = λ idx m x low high mapped was.
-              let slot = slot_waits idx m low high mapped in
-              let same = some_same (slice_get b.inodes.items f.ino) node x node_is was in
-              subst (λ (y : InodeState). Contains q.more (record { ino = f.ino; round = y.round; slot = m.slot })) same
-              (subst (λ (k : ℕ). Contains q.more (record { ino = f.ino; round = node.round; slot = k })) (sym slot.2)
-              (q.each d.geometry (d.inode f.ino).log disk.event.paged tail_is slot.0 (omega (arith, slot.1, length-map c.runs.items seen))));
-          room = let same = ap (λ (w : _). w.room) out.queue in omega (arith, q.room, same);
-        };
-        history = (
-          record { who = who; op = f.op; reply = Done },
-          record {
-            items = finish.history ∙ ap (λ (h : _). h.items ++ record { who = who; op = f.op; reply = Done } ∷ []) out.history;
-            room = finish.history_len ∙ ap (λ (h : _). vec_len h + 1) out.history;
-            capacity = let same = finish.history_capacity ∙ ap (λ (h : _). vec_capacity h) out.history in omega (arith, same);
-          },
-        );
-        owed = record {
-          units = ap (λ (x : Change). b'.owed.units + units_by f x) kind ∙ let same = finish.units ∙ ap (λ (o : _). o.units) out.owed in omega (arith, same, all_filled, all_raised);
-          trace = let same = finish.owed_trace ∙ ap (λ (o : _). o.trace) out.owed in omega (arith, same, all_raised);
-          history = finish.owed_history ∙ ap (λ (o : _). o.history) out.owed;
-          queue = ap (λ (x : Change). b'.owed.queue + runs_by x) kind ∙ finish.owed_queue ∙ ap (λ (o : _). o.queue) out.owed;
-          releases = finish.owed_releases ∙ ap (λ (o : _). o.releases) out.owed;
-        };
-      }
+    pub all_ends : Ends d e who f c c.first (length c.blocks.items) b b'
+    all_ends =
+        let q = finish.queue node (mid_state node node_is) in
+        record {
+          keeps = record {
+            geometry = finish.geometry ∙ out.geometry;
+            names = finish.names ∙ out.names;
+            fact = finish.fact ∙ out.fact;
+            trace = finish.trace ∙ out.trace;
+            sharing = finish.sharing ∙ out.sharing;
+            stopped = finish.stopped ∙ out.stopped;
+            raised = finish.raised ∙ ap (λ (r : _). r.raised) out.reclaiming;
+            zero_check = finish.zero_check ∙ ap (λ (r : _). r.zero_check) out.reclaiming;
+          };
+          flight = record {
+            clients = ap (λ (fs : _). length fs.items) finish.flights ∙ ended.clients;
+            landed = ap (λ (fs : _). flight_at fs.items (who - 1)) finish.flights ∙ ended.landed;
+            others = λ k ne. ap (λ (fs : _). flight_at fs.items k) finish.flights ∙ ended.others k ne;
+          };
+          inode = record {
+            all = finish.inodes.all ∙ ap (λ (ns : _). length ns.items) out.inodes;
+            others = λ i ne. finish.inodes.others i ne ∙ ap (λ (ns : _). slice_get ns.items i) out.inodes;
+            here = λ old new was now.
+                let maps_it = finish.inodes.here old new (mid_state old was) now in
+                let held = file_is d b s who f c v flies kind is old was in
+                let same = some_same (slice_get b.inodes.items f.ino) node old node_is was in
+                record {
+                  used = maps_it.used;
+                  size_is = maps_it.size_is;
+                  round = maps_it.round;
+                  holder = maps_it.holder;
+                  places = (maps_it.file d old.size c.first _ held (may d b s who f c v flies kind is name at text op_is all_filled all_raised) tail_is
+                      (subst (λ (x : InodeState). x.size ≤ c.size) same grows)).places;
+                };
+          };
+          pages = pages_given;
+          releases = record {
+            items = finish.releases ∙ ap (λ (r : _). r.releases.items ++ f.rows.items) out.reclaiming;
+            waiting = finish.waiting ∙ ap (λ (r : _). r.waiting + 2 * length f.rows.items) out.reclaiming;
+            room = finish.releases_len ∙ ap (λ (r : _). deque_len r.releases + length f.rows.items) out.reclaiming;
+            capacity = let same = finish.releases_capacity ∙ ap (λ (r : _). deque_capacity r.releases) out.reclaiming in omega (arith, same);
+          };
+          queue = record {
+            more = q.more;
+            items = q.items ∙ ap (λ (w : _). w.items ++ q.more) out.queue;
+            each = λ idx m x low high mapped was.
+                let slot = slot_waits idx m low high mapped in
+                let same = some_same (slice_get b.inodes.items f.ino) node x node_is was in
+                subst (λ (y : InodeState). Contains q.more (record { ino = f.ino; round = y.round; slot = m.slot })) same
+                (subst (λ (k : ℕ). Contains q.more (record { ino = f.ino; round = node.round; slot = k })) (sym slot.2)
+                (q.each d.geometry (d.inode f.ino).log disk.event.paged tail_is slot.0 (omega (arith, slot.1, length-map c.runs.items seen))));
+            room = let same = ap (λ (w : _). w.room) out.queue in omega (arith, q.room, same);
+          };
+          history = (
+            record { who = who; op = f.op; reply = Done },
+            record {
+              items = finish.history ∙ ap (λ (h : _). h.items ++ record { who = who; op = f.op; reply = Done } ∷ []) out.history;
+              room = finish.history_len ∙ ap (λ (h : _). vec_len h + 1) out.history;
+              capacity = let same = finish.history_capacity ∙ ap (λ (h : _). vec_capacity h) out.history in omega (arith, same);
+            },
+          );
+          owed = record {
+            units = ap (λ (x : Change). b'.owed.units + units_by f x) kind ∙ let same = finish.units ∙ ap (λ (o : _). o.units) out.owed in
+                omega (arith, same, all_filled, all_raised);
+            trace = let same = finish.owed_trace ∙ ap (λ (o : _). o.trace) out.owed in omega (arith, same, all_raised);
+            history = finish.owed_history ∙ ap (λ (o : _). o.history) out.owed;
+            queue = ap (λ (x : Change). b'.owed.queue + runs_by x) kind ∙ finish.owed_queue ∙ ap (λ (o : _). o.queue) out.owed;
+            releases = finish.owed_releases ∙ ap (λ (o : _). o.releases) out.owed;
+          };
+        }

@@ -34,12 +34,16 @@ module _ (d e : Disk) (f : Flight) (c : DataChange) (from n : ℕ) (kind : f.cha
   keeps_rest = record {
     geometry = disk.event.relogs.geometry;
     inode = λ i out. disk.event.relogs.others i (not_in i out);
-    named_so = λ i name some out. ((λ leads. sym (named_same f.ino d e disk.event disk.well name) ∙ leads), (λ leads. named_same f.ino d e disk.event disk.well name ∙ leads));
+    named_so = λ i name some out. (
+      (λ leads. sym (named_same f.ino d e disk.event disk.well name) ∙ leads),
+      (λ leads. named_same f.ino d e disk.event disk.well name ∙ leads),
+    );
     word = disk.event.relogs.word;
     unused = λ page out unused. unused_kept f.ino d e disk.event disk.well from n disk.drops page unused
         (λ i lt same. out (block_taken f c kind page (subst (Contains c.blocks.items) same (block_listed i lt))))
         (λ fresh. out (fresh_taken f c kind page (subst (λ (ps : List ℕ). Contains ps page) disk.takes fresh)));
-    slots = λ i idx m in_table out is. ap (λ (rs : List Row). slot_of_row (row_of rs m.block)) (rows_same f.ino d e disk.event disk.well from n disk.drops);
+    slots = λ i idx m in_table out is. ap (λ (rs : List Row). slot_of_row (row_of rs m.block)) (rows_same f.ino d e disk.event disk.well from n
+        disk.drops);
     counting = λ row has some. record {
       still = row;
       there = subst (λ (rs : List Row). Contains rs row) (sym (rows_same f.ino d e disk.event disk.well from n disk.drops)) has;
@@ -52,9 +56,12 @@ module _ (d e : Disk) (f : Flight) (c : DataChange) (from n : ℕ) (kind : f.cha
   -- a log page of the file, or a fresh one
   page_word : (page a : ℕ) → Contains (e.inode f.ino).log.pages page → IsInPage page a → IsWordOf (f.ino ∷ []) (taken_by f) d a
   page_word page a listed here = ⊎_elim
-      (λ (was : Contains (d.inode f.ino).log.pages page). of_log f.ino page (listed_here f.ino []) disk.event.in_table (was_used f.ino d e disk.event) was here)
-      (λ (fresh : Contains disk.event.grown.fresh page). of_page page (fresh_taken f c kind page (subst (λ (ps : List ℕ). Contains ps page) disk.takes fresh)) here)
-      (Contains-append_cases (d.inode f.ino).log.pages disk.event.grown.fresh page (subst (λ (ps : List ℕ). Contains ps page) disk.event.grown.pages listed))
+      (λ (was : Contains (d.inode f.ino).log.pages page). of_log f.ino page (listed_here f.ino []) disk.event.in_table (was_used f.ino d e disk.event)
+      was here)
+      (λ (fresh : Contains disk.event.grown.fresh page). of_page page
+      (fresh_taken f c kind page (subst (λ (ps : List ℕ). Contains ps page) disk.takes fresh)) here)
+      (Contains-append_cases (d.inode f.ino).log.pages disk.event.grown.fresh page (subst (λ (ps : List ℕ). Contains ps page) disk.event.grown.pages
+      listed))
 
   head_word : (field a : ℕ) → field < 16 → a ≡ inode_word f.ino field → IsWordOf (f.ino ∷ []) (taken_by f) d a
   head_word field a small is = of_inode f.ino (listed_here f.ino []) disk.event.in_table (omega (arith, is), omega (arith, is, small))
@@ -62,12 +69,15 @@ module _ (d e : Disk) (f : Flight) (c : DataChange) (from n : ℕ) (kind : f.cha
   prepared_word : (a v : ℕ) → Prepared f.ino (d.inode f.ino).log (e.inode f.ino).log a v → IsWordOf (f.ino ∷ []) (taken_by f) d a
   prepared_word a v (new_head none some is value) = head_word 1 a (omega arith) is
   prepared_word a v (new_footer k past lt is value) =
-      page_word (slice_index (e.inode f.ino).log.pages k) a (Contains-get_or (e.inode f.ino).log.pages k 0 (omega (arith, lt))) (omega (arith, is), omega (arith, is))
+      page_word (slice_index (e.inode f.ino).log.pages k) a (Contains-get_or (e.inode f.ino).log.pages k 0 (omega (arith, lt)))
+      (omega (arith, is), omega (arith, is))
   prepared_word a v (new_slot k j past lt small is value) =
-      page_word (slice_index (e.inode f.ino).log.pages (k / 63)) a (Contains-get_or (e.inode f.ino).log.pages (k / 63) 0 (omega (arith, lt, disk.well.paged'.fits))) (omega (arith, is), omega (arith, is, small))
+      page_word (slice_index (e.inode f.ino).log.pages (k / 63)) a (Contains-get_or (e.inode f.ino).log.pages (k / 63) 0
+      (omega (arith, lt, disk.well.paged'.fits))) (omega (arith, is), omega (arith, is, small))
 
   item_word : (a : ℕ) → IsItemWord f.ino d e a → IsWordOf (f.ino ∷ []) (taken_by f) d a
-  item_word a said = ⊎_elim (λ (p : Said (Prepared f.ino (d.inode f.ino).log (e.inode f.ino).log) a). prepared_word a p.value p.told) (λ (tail : a ≡ inode_word f.ino 2). head_word 2 a (omega arith) tail) said
+  item_word a said = ⊎_elim (λ (p : Said (Prepared f.ino (d.inode f.ino).log (e.inode f.ino).log) a). prepared_word a p.value p.told)
+      (λ (tail : a ≡ inode_word f.ino 2). head_word 2 a (omega arith) tail) said
 
   pub leaves_rest : (who : ℕ) (s t : State) → AppendsOnly who f.ino d e s t → LeavesRest who (f.ino ∷ []) (taken_by f) d e s t
   leaves_rest who s t appends = record {

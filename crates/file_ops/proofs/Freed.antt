@@ -67,7 +67,13 @@ module _ (ino : ℕ) (old new : Disk) (w : Writes ino old new) (ok : WritesWell 
   mapped_at page freed = record {
     ino = ino;
     idx = from + freed.i;
-    maps_to = record { in_table = w.in_table; in_file = maps-in_file old ok.valid ino (from + freed.i) freed.by w.in_table freed.was; by = freed.by; is = freed.was; block = freed.block };
+    maps_to = record {
+      in_table = w.in_table;
+      in_file = maps-in_file old ok.valid ino (from + freed.i) freed.by w.in_table freed.was;
+      by = freed.by;
+      is = freed.was;
+      block = freed.block;
+    };
   }
 
   pub freed_mapped : (page : ℕ) → IsFreed old ino from n page → IsUnused old page → ⊥

@@ -37,7 +37,8 @@ pub record IsLast (b : Parts) (who : ℕ) (f : Flight) (c : DataChange) : Type 0
   pub all_filled : c.filled ≡ length c.blocks.items
   pub all_raised : f.raised ≡ length f.rows.items
 
-pub is_last : (b : Parts) (who : ℕ) (f : Flight) (c : DataChange) → IsLastOfWrite b who → flight_at b.flights.items (who - 1) ≡ Some f → f.change ≡ Data c → IsLast b who f c
+pub is_last : (b : Parts) (who : ℕ) (f : Flight) (c : DataChange) → IsLastOfWrite b who → flight_at b.flights.items (who - 1) ≡ Some f
+    → f.change ≡ Data c → IsLast b who f c
 is_last b who f c last was kind =
     let same = same_flight (flight_at b.flights.items (who - 1)) last.flight f last.flies.is was in
     let datum = data_same f.change last.change c (ap (λ (x : Flight). x.change) (sym same) ∙ last.kind) kind in
@@ -66,10 +67,12 @@ module _ (d : Disk) (b : Parts) (s : State) (who : ℕ) (f : Flight) (c : DataCh
   used = subst IsUsed (sym fact.grows.live) tt
 
   pub tail_within : inode_word f.ino 2 < length s.now
-  tail_within = v.fast.stands.within (inode_word f.ino 2) (tail_at (d.inode f.ino).log.pages (count (d.inode f.ino).log)) (of_logs (record { ino = f.ino; in_table = fact.grows.in_table; used = used; says = at_tail refl refl }))
+  tail_within = v.fast.stands.within (inode_word f.ino 2) (tail_at (d.inode f.ino).log.pages (count (d.inode f.ino).log))
+      (of_logs (record { ino = f.ino; in_table = fact.grows.in_table; used = used; says = at_tail refl refl }))
 
   pub tail_read : slice_index s.now (inode_word f.ino 2) ≡ tail_at (d.inode f.ino).log.pages (count (d.inode f.ino).log)
-  tail_read = v.fast.stands.reads (inode_word f.ino 2) (tail_at (d.inode f.ino).log.pages (count (d.inode f.ino).log)) (of_logs (record { ino = f.ino; in_table = fact.grows.in_table; used = used; says = at_tail refl refl }))
+  tail_read = v.fast.stands.reads (inode_word f.ino 2) (tail_at (d.inode f.ino).log.pages (count (d.inode f.ino).log))
+      (of_logs (record { ino = f.ino; in_table = fact.grows.in_table; used = used; says = at_tail refl refl }))
 
   pub places_in_file : c.first + length c.blocks.items ≤ 4096
   places_in_file =
@@ -89,7 +92,8 @@ module _ (d : Disk) (b : Parts) (s : State) (who : ℕ) (f : Flight) (c : DataCh
 
   pub units_there : 9 * (length f.slots.items + length f.fresh.items) + 4 ≤ s.spare
   units_there =
-      let part : units_by f (Data c) ≤ owed_sum b (λ room. room.units) = subst (λ (x : Change). units_by f x ≤ owed_sum b (λ room. room.units)) last.kind (owed_part d b s who f c v last.flies last.kind fact (node_of).0 (node_of).1 (λ room. room.units)) in
+      let part : units_by f (Data c) ≤ owed_sum b (λ room. room.units) = subst (λ (x : Change). units_by f x ≤ owed_sum b (λ room. room.units))
+      last.kind (owed_part d b s who f c v last.flies last.kind fact (node_of).0 (node_of).1 (λ room. room.units)) in
       omega (arith, part, v.room.owes.units, v.room.units)
     where
       node_of : (n : InodeState) × (slice_get b.inodes.items f.ino ≡ Some n)
@@ -99,10 +103,12 @@ module _ (d : Disk) (b : Parts) (s : State) (who : ℕ) (f : Flight) (c : DataCh
 pub node_read : (nodes : List InodeState) (ino : ℕ) (x : InodeState) → ino < length nodes → x ≡ get_or nodes ino x → slice_get nodes ino ≡ Some x
 node_read nodes ino x lt is = slice_get_read nodes (length nodes) ino x refl lt is
 
-pub both : (P : List ℕ → List (List ℕ) → Type 0) (fresh fresh' : List ℕ) (slots slots' : List (List ℕ)) → fresh' ≡ fresh → slots' ≡ slots → P fresh' slots' → P fresh slots
+pub both : (P : List ℕ → List (List ℕ) → Type 0) (fresh fresh' : List ℕ) (slots slots' : List (List ℕ)) → fresh' ≡ fresh → slots' ≡ slots
+    → P fresh' slots' → P fresh slots
 both P fresh fresh' slots slots' e1 e2 h = subst (λ (xs : List ℕ). P xs slots) e1 (subst (λ (ys : List (List ℕ)). P fresh' ys) e2 h)
 
 -- a count of calls that stops at the greatest number
-pub same_count : (made more then_made : ℕ) → then_made ≡ more → (more ≡ made + 1) ⊎ ((made ≡ 18446744073709551615) × (more ≡ made)) → (then_made ≡ made + 1) ⊎ ((made ≡ 18446744073709551615) × (then_made ≡ made))
+pub same_count : (made more then_made : ℕ) → then_made ≡ more → (more ≡ made + 1) ⊎ ((made ≡ 18446744073709551615) × (more ≡ made))
+    → (then_made ≡ made + 1) ⊎ ((made ≡ 18446744073709551615) × (then_made ≡ made))
 same_count made more then_made same (inl one) = inl (same ∙ one)
 same_count made more then_made same (inr top) = inr (top.0, same ∙ top.1)

@@ -28,7 +28,8 @@ module _ {X : Type 0} where
   state_at xs k lt = by_it (slice_get xs k) refl
     where
       by_it : (r : Option X) → slice_get xs k ≡ r → (x : X) × (slice_get xs k ≡ Some x)
-      by_it None is = absurd (⊎_elim (λ found. not_both (slice_get xs k) found.0 is found.2) (λ past. omega (arith, lt, past.0)) (slice_get_cases xs k).1)
+      by_it None is = absurd (⊎_elim (λ found. not_both (slice_get xs k) found.0 is found.2) (λ past. omega (arith, lt, past.0))
+          (slice_get_cases xs k).1)
       by_it (Some x) is = (x, is)
 
 some_same : (h : Option ℕ) (p q : ℕ) → h ≡ Some p → h ≡ Some q → p ≡ q
@@ -37,7 +38,8 @@ some_same h p q there here = cc
 none_not : (h : Option ℕ) (q : ℕ) → h ≡ None → h ≡ Some q → ⊥
 none_not h q gone there = cc
 
-module _ (d e : Disk) (b b' : Parts) (f : Flight) (c : DataChange) (from n : ℕ) (inodes : AreInodesOf d b.inodes.items) (disk : ChangesData d e f c from n) (change : ChangesInode e f.ino c.size b b') where
+module _ (d e : Disk) (b b' : Parts) (f : Flight) (c : DataChange) (from n : ℕ) (inodes : AreInodesOf d b.inodes.items)
+    (disk : ChangesData d e f c from n) (change : ChangesInode e f.ino c.size b b') where
   pub old_state : (x : InodeState) × (slice_get b.inodes.items f.ino ≡ Some x)
   old_state = state_at b.inodes.items f.ino (omega (arith, disk.event.in_table, inodes.all))
 
@@ -78,7 +80,8 @@ module _ (d e : Disk) (b b' : Parts) (f : Flight) (c : DataChange) (from n : ℕ
     ];
   }
 
-  module _ (who : ℕ) (holders : AreHolders d b) (flies : Flies b who f) (clients : length b.flights.items ≡ 14) (held : f.held.items ≡ f.ino ∷ []) (keeps : KeepsParts b b') (ended : EndsFlight who b b') where
+  module _ (who : ℕ) (holders : AreHolders d b) (flies : Flies b who f) (clients : length b.flights.items ≡ 14) (held : f.held.items ≡ f.ino ∷ [])
+      (keeps : KeepsParts b b') (ended : EndsFlight who b b') where
     mine : Holds b who f.ino
     mine = by_client f flies (subst (λ (xs : List ℕ). Contains xs f.ino) (sym held) (0, omega arith, refl))
 
@@ -90,7 +93,8 @@ module _ (d e : Disk) (b b' : Parts) (f : Flight) (c : DataChange) (from n : ℕ
     pub let_go : (q : ℕ) → Holds b' q f.ino → ⊥
     let_go q holds =
         let was = holds_before b b' who f flies keeps ended q f.ino holds in
-        let same = some_same old_state.0.holder q who ((holders.told f.ino q old_state.0 old_state.1).1 was) ((holders.told f.ino who old_state.0 old_state.1).1 mine) in
+        let same = some_same old_state.0.holder q who ((holders.told f.ino q old_state.0 old_state.1).1 was)
+        ((holders.told f.ino who old_state.0 old_state.1).1 mine) in
         holds_not b b' who f flies keeps ended clients f.ino (subst (λ (p : ℕ). Holds b' p f.ino) same holds)
 
     same_holder : (ino q : ℕ) (x : InodeState) → ino ≡ f.ino → slice_get b'.inodes.items ino ≡ Some x → (x.holder ≡ Some q) ↔ Holds b' q ino
@@ -112,5 +116,6 @@ module _ (d e : Disk) (b b' : Parts) (f : Flight) (c : DataChange) (from n : ℕ
         | inl same ↦ same_holder ino q x same is
         | inr ne ↦ other_holder ino q x ne (sym (change.others ino ne) ∙ is)
       ];
-      in_table = λ ino q holds. subst (λ (k : ℕ). ino < k) (sym (ap (λ g. g.inodes) disk.event.relogs.geometry)) (holders.in_table ino q (holds_before b b' who f flies keeps ended q ino holds));
+      in_table = λ ino q holds. subst (λ (k : ℕ). ino < k) (sym (ap (λ g. g.inodes) disk.event.relogs.geometry))
+          (holders.in_table ino q (holds_before b b' who f flies keeps ended q ino holds));
     }

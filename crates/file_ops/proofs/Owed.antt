@@ -19,13 +19,16 @@ use Rattle.file_ops.specs.Ends.{KeepsParts, EndsFlight, ChangesInode, Releases, 
 use Rattle.file_ops.proofs.Basics.{flight_within, flies_before}
 use Rattle.dn_model.specs.Disk.{Disk}
 
-module _ (b b' : Parts) (who : ℕ) (f : Flight) (flies : Flies b who f) (clients : length b.flights.items ≡ 14) (keeps : KeepsParts b b') (ended : EndsFlight who b b') (owed : Repays f b b') where
+module _ (b b' : Parts) (who : ℕ) (f : Flight) (flies : Flies b who f) (clients : length b.flights.items ≡ 14) (keeps : KeepsParts b b')
+    (ended : EndsFlight who b b') (owed : Repays f b b') where
   -- nothing is owed to it
   pub sum_less : (kind : Room → ℕ) → kind (owed_to None) ≡ 0 → owed_sum b' kind + kind (owed_to (Some f)) ≡ owed_sum b kind
   sum_less kind none =
       let moved = total-change (λ k. kind (owed_to (flight_at b.flights.items k))) (λ k. kind (owed_to (flight_at b'.flights.items k))) 14 (who - 1)
-      (omega (arith, clients, flight_within b.flights.items (who - 1) f flies.is)) (λ j ne. ap (λ (r : Option Flight). kind (owed_to r)) (ended.others j ne)) in
-      let before : kind (owed_to (flight_at b.flights.items (who - 1))) ≡ kind (owed_to (Some f)) = ap (λ (r : Option Flight). kind (owed_to r)) flies.is in
+      (omega (arith, clients, flight_within b.flights.items (who - 1) f flies.is)) (λ j ne. ap (λ (r : Option Flight). kind (owed_to r))
+      (ended.others j ne)) in
+      let before : kind (owed_to (flight_at b.flights.items (who - 1))) ≡ kind (owed_to (Some f)) = ap (λ (r : Option Flight). kind (owed_to r))
+      flies.is in
       let after : kind (owed_to (flight_at b'.flights.items (who - 1))) ≡ 0 = ap (λ (r : Option Flight). kind (owed_to r)) ended.landed ∙ none in
       omega (arith, moved, before, after)
 
@@ -57,12 +60,14 @@ module _ (b b' : Parts) (who : ℕ) (f : Flight) (flies : Flies b who f) (client
       three : (x y z x' z' p p' : ℕ) → x' + y ≡ x → z' + y ≡ z → p' ≡ p → x + p ≤ z → x' + p' ≤ z'
       three x y z x' z' p p' a b c le = omega arith
 
-      four : (x y z x' z' p p' q q' r r' : ℕ) → x' + y ≡ x → z' + y ≡ z → p' ≡ p → q' ≡ q → r' ≡ r → x + p + (FALL_UNITS * q + ZERO_CHECK_UNITS * r) ≤ z
+      four : (x y z x' z' p p' q q' r r' : ℕ) → x' + y ≡ x → z' + y ≡ z → p' ≡ p → q' ≡ q → r' ≡ r → x + p + (FALL_UNITS * q + ZERO_CHECK_UNITS * r) ≤
+          z
           → x' + p' + (FALL_UNITS * q' + ZERO_CHECK_UNITS * r') ≤ z'
       four x y z x' z' p p' q q' r r' a b c e g le = omega arith
 
   -- the flight of another actor is on another inode
-  module _ (e : Disk) (c : DataChange) (s t : State) (kind : f.change ≡ Data c) (entry : Entry) (from n : ℕ) (change : ChangesInode e f.ino c.size b b') (releases : Releases f b b')
+  module _ (e : Disk) (c : DataChange) (s t : State) (kind : f.change ≡ Data c) (entry : Entry) (from n : ℕ)
+      (change : ChangesInode e f.ino c.size b b') (releases : Releases f b b')
       (queues : Queues e f.ino from n (length c.runs.items) b b') (enters : Enters entry b b') (units : s.spare ≤ t.spare + units_by f (Data c))
       (others : (q : ℕ) (g : Flight) → Flies b' q g → g.ino ≢ f.ino) where
     pub room_after : HasRoom b s → HasRoom b' t
@@ -78,5 +83,6 @@ module _ (b b' : Parts) (who : ℕ) (f : Flight) (flies : Flies b who f) (client
           queue = omega (arith, was.queue, owed.queue, runs, queues.room);
           releases = omega (arith, was.releases, owed.releases, releases.room, releases.capacity);
           names = subst (λ names. b'.owed.history ≤ names.room) (sym keeps.names) (omega (arith, was.names, owed.history));
-          places = λ q g h x g_flies kind' is. was.places q g h x (flies_before b b' who f flies keeps ended q g g_flies) kind' (sym (change.others g.ino (others q g g_flies)) ∙ is);
+          places = λ q g h x g_flies kind' is. was.places q g h x (flies_before b b' who f flies keeps ended q g g_flies) kind'
+              (sym (change.others g.ino (others q g g_flies)) ∙ is);
         }

@@ -1,5 +1,32 @@
 -- What the last event of a write stands on.
-use Rattle.std.proofs.Common.{◌≡◌, inl, inr, ⊎_elim, ℕ, zero, suc, ◌+◌, ◌-◌, ◌*◌, ◌/◌, ◌<◌, ◌≤◌, Bool, true, false, List, ◌++◌, length, get_or, refl, sym, ◌∙◌, ap, subst, arith}
+use Rattle.std.proofs.Common.{
+  ◌≡◌,
+  inl,
+  inr,
+  ⊎_elim,
+  ℕ,
+  zero,
+  suc,
+  ◌+◌,
+  ◌-◌,
+  ◌*◌,
+  ◌/◌,
+  ◌<◌,
+  ◌≤◌,
+  Bool,
+  true,
+  false,
+  List,
+  ◌++◌,
+  length,
+  get_or,
+  refl,
+  sym,
+  ◌∙◌,
+  ap,
+  subst,
+  arith,
+}
 use Rattle.std.specs.Prelude.{slice_get, is_some, if◌then◌else◌, Option, Some, None, IsNone, Contains, vec_len, vec_capacity}
 use Rattle.std.specs.Option.{option_map}
 use Rattle.std.specs.FinMap.{get}
@@ -51,12 +78,15 @@ use Rattle.file_ops.proofs.DiskAfter.{may}
 use Rattle.file_ops.proofs.Taken.{fresh_taken, spare_taken, left_apart, right_apart}
 
 -- a place whose page has no row, as it is kept and on the disk
-pub unshared_place : (d : Disk) (o : Option DiskMapping) (page : ℕ) → IsUnshared d (option_map kept o) page → (by : DiskMapping) × (o ≡ Some by) × (by.block ≡ page) × IsNone (row_of (rows d) page)
+pub unshared_place : (d : Disk) (o : Option DiskMapping) (page : ℕ) → IsUnshared d (option_map kept o) page
+    → (by : DiskMapping) × (o ≡ Some by) × (by.block ≡ page) × IsNone (row_of (rows d) page)
 unshared_place d None page h = absurd h
 unshared_place d (Some by) page h = (by, refl, h.0, none_found (rows d) page h.1)
 
-pub place_unshared : (d : Disk) (o : Option DiskMapping) (by : DiskMapping) (page : ℕ) → o ≡ Some by → by.block ≡ page → IsNone (row_of (rows d) page) → IsUnshared d (option_map kept o) page
-place_unshared d o by page is block none = subst (λ (x : Option DiskMapping). IsUnshared d (option_map kept x) page) (sym is) (block, none_listed (rows d) page none)
+pub place_unshared : (d : Disk) (o : Option DiskMapping) (by : DiskMapping) (page : ℕ) → o ≡ Some by → by.block ≡ page → IsNone (row_of (rows d) page)
+    → IsUnshared d (option_map kept o) page
+place_unshared d o by page is block none = subst (λ (x : Option DiskMapping). IsUnshared d (option_map kept x) page) (sym is)
+    (block, none_listed (rows d) page none)
 
 -- a tail lies in the image
 pub tail-bound : (g : Geometry) (log : Log) → IsPaged g log → g.pages ≤ 65536 → tail_at log.pages (count log) < 4194304
@@ -93,7 +123,8 @@ one_at_most : {X : Type 0} (o : Option X) → one_if o ≤ 1
 one_at_most None = omega arith
 one_at_most (Some x) = omega arith
 
-module _ (d : Disk) (b : Parts) (s : State) (who : ℕ) (f : Flight) (c : DataChange) (v : IsVolume d b s) (flies : Flies b who f) (kind : f.change ≡ Data c) (is : IsDataFlight d who f c s)
+module _ (d : Disk) (b : Parts) (s : State) (who : ℕ) (f : Flight) (c : DataChange) (v : IsVolume d b s) (flies : Flies b who f)
+    (kind : f.change ≡ Data c) (is : IsDataFlight d who f c s)
     (node : InodeState) (node_is : slice_get b.inodes.items f.ino ≡ Some node) where
   places_are : (idx : ℕ) → get node.map.map idx ≡ option_map kept (maps d f.ino idx)
   places_are = (v.inodes.each f.ino node node_is).places
@@ -114,21 +145,36 @@ module _ (d : Disk) (b : Parts) (s : State) (who : ℕ) (f : Flight) (c : DataCh
   mapped idx by was = record {
     ino = f.ino;
     idx = idx;
-    maps_to = record { in_table = is.grows.in_table; in_file = maps-in_file d v.fast.valid f.ino idx by is.grows.in_table was; by = by; is = was; block = refl };
+    maps_to = record {
+      in_table = is.grows.in_table;
+      in_file = maps-in_file d v.fast.valid f.ino idx by is.grows.in_table was;
+      by = by;
+      is = was;
+      block = refl;
+    };
   }
 
-  at_disk : (idx page : ℕ) → IsUnshared d (get node.map.map idx) page → (by : DiskMapping) × (maps d f.ino idx ≡ Some by) × (by.block ≡ page) × IsNone (row_of (rows d) page)
+  at_disk : (idx page : ℕ) → IsUnshared d (get node.map.map idx) page → (by : DiskMapping) × (maps d f.ino idx ≡ Some by) × (by.block ≡ page) × IsNone
+      (row_of (rows d) page)
   at_disk idx page h = unshared_place d (maps d f.ino idx) page (subst (λ (o : Option Mapping). IsUnshared d o page) (places_are idx) h)
 
   -- the pages that come free, by what is kept and on the disk
   pub freed_is : (first n page : ℕ) → IsUnsharedAmong d node.map.map first n page → IsFreed d f.ino first n page
-  freed_is first n page a = let at = at_disk (first + a.i) page a.is in record { i = a.i; below = a.below; by = at.0; was = at.1; block = at.2; no_row = at.3 }
+  freed_is first n page a = let at = at_disk (first + a.i) page a.is in record {
+    i = a.i;
+    below = a.below;
+    by = at.0;
+    was = at.1;
+    block = at.2;
+    no_row = at.3;
+  }
 
   pub is_freed : (first n page : ℕ) → IsFreed d f.ino first n page → IsUnsharedAmong d node.map.map first n page
   is_freed first n page a = record {
     i = a.i;
     below = a.below;
-    is = subst (λ (o : Option Mapping). IsUnshared d o page) (sym (places_are (first + a.i))) (place_unshared d (maps d f.ino (first + a.i)) a.by page a.was a.block a.no_row);
+    is = subst (λ (o : Option Mapping). IsUnshared d o page) (sym (places_are (first + a.i))) (place_unshared d (maps d f.ino (first + a.i)) a.by page
+        a.was a.block a.no_row);
   }
 
   pub can_give : (first n : ℕ) → CanGive s.now b.fact node.map.map first n b.free
@@ -155,12 +201,14 @@ module _ (d : Disk) (b : Parts) (s : State) (who : ℕ) (f : Flight) (c : DataCh
   }
 
   taken_unused : (page : ℕ) → Contains (taken_by f) page → IsUnused d page
-  taken_unused page has = v.space.unused page (λ none. let his = v.space.takes who page (for_client f flies has) in let some = flies.client in omega (arith, his, none, some))
+  taken_unused page has = v.space.unused page (λ none. let his = v.space.takes who page (for_client f flies has) in let some = flies.client in
+      omega (arith, his, none, some))
 
   -- what is owed to the flight
   pub owed_part : (room : Room → ℕ) → room (owed_to (Some f)) ≤ owed_sum b room
   owed_part room =
-      let part = term-le (λ k. room (owed_to (flight_at b.flights.items k))) 14 (who - 1) (omega (arith, v.flights.clients, flight_within b.flights.items (who - 1) f flies.is)) in
+      let part = term-le (λ k. room (owed_to (flight_at b.flights.items k))) 14 (who - 1)
+      (omega (arith, v.flights.clients, flight_within b.flights.items (who - 1) f flies.is)) in
       subst (λ (o : Option Flight). room (owed_to o) ≤ owed_sum b room) flies.is part
 
   pub waiting_few : b.reclaiming.waiting + 2 * length f.rows.items < 18446744073709551616
@@ -170,12 +218,16 @@ module _ (d : Disk) (b : Parts) (s : State) (who : ℕ) (f : Flight) (c : DataCh
       let releases = owed_part (λ room. room.releases) in
       bound _ _ _ _ _ _ _ _ v.reclaiming.waiting zc units v.fast.valid.accepted.few_inodes v.counts.few releases
     where
-      bound : (w up zc rel units inodes rs sum : ℕ) → w + up ≡ zc + 2 * rel + units → zc ≤ 1 → units ≤ 16385 * inodes → inodes ≤ 4096 → rel + sum + up ≤ 1105920 → rs ≤ sum → w + 2 * rs < 18446744073709551616
+      bound : (w up zc rel units inodes rs sum : ℕ) → w + up ≡ zc + 2 * rel + units → zc ≤ 1 → units ≤ 16385 * inodes → inodes ≤ 4096
+          → rel + sum + up ≤ 1105920 → rs ≤ sum → w + 2 * rs < 18446744073709551616
       bound w up zc rel units inodes rs sum e1 le1 le2 le3 le4 le5 = omega arith
 
-  module _ (mid : Parts) (tail : ℕ) (name : List ℕ) (at : ℕ) (text : List ℕ) (op_is : f.op ≡ Write name at text) (all_filled : c.filled ≡ length c.blocks.items) (all_raised : f.raised ≡ length f.rows.items)
-      (tail_is : tail ≡ tail_at (d.inode f.ino).log.pages (count (d.inode f.ino).log)) (gives : Gives (IsUnsharedAmong d node.map.map c.first (length c.blocks.items)) b.free mid.free)
-      (inodes : mid.inodes ≡ b.inodes) (queue : mid.queue ≡ b.queue) (reclaiming : mid.reclaiming ≡ b.reclaiming) (owed : mid.owed ≡ b.owed) (history : mid.history ≡ b.history) where
+  module _ (mid : Parts) (tail : ℕ) (name : List ℕ) (at : ℕ) (text : List ℕ) (op_is : f.op ≡ Write name at text)
+      (all_filled : c.filled ≡ length c.blocks.items) (all_raised : f.raised ≡ length f.rows.items)
+      (tail_is : tail ≡ tail_at (d.inode f.ino).log.pages (count (d.inode f.ino).log))
+      (gives : Gives (IsUnsharedAmong d node.map.map c.first (length c.blocks.items)) b.free mid.free)
+      (inodes : mid.inodes ≡ b.inodes) (queue : mid.queue ≡ b.queue) (reclaiming : mid.reclaiming ≡ b.reclaiming) (owed : mid.owed ≡ b.owed)
+      (history : mid.history ≡ b.history) where
     in_file : c.first + places_in (all_seen c.runs.items) ≤ 4096
     in_file = let m = may d b s who f c v flies kind is name at text op_is all_filled all_raised in omega (arith, m.in_size, m.small)
 
@@ -198,26 +250,37 @@ module _ (d : Disk) (b : Parts) (s : State) (who : ℕ) (f : Flight) (c : DataCh
     pub can_finish : CanFinish tail f c mid
     can_finish = record {
       kind = kind;
-      spare_below = λ page spare. omega (arith, (taken_unused page (spare_taken f c kind page spare)).free.data_page.high, v.space.pages, gives.pages);
+      spare_below = λ page spare. omega (
+        arith,
+        (taken_unused page (spare_taken f c kind page spare)).free.data_page.high,
+        v.space.pages,
+        gives.pages,
+      );
       spare_taken = spare_free;
-      spare_apart = right_apart f.fresh.items f.spare.items (left_apart (f.fresh.items ++ f.spare.items) c.blocks.items (subst AreApart (ap (λ (x : Change). f.fresh.items ++ f.spare.items ++ blocks_of x) kind) is.grows.apart));
+      spare_apart = right_apart f.fresh.items f.spare.items (left_apart (f.fresh.items ++ f.spare.items) c.blocks.items
+          (subst AreApart (ap (λ (x : Change). f.fresh.items ++ f.spare.items ++ blocks_of x) kind) is.grows.apart));
       in_order = gives.in_order;
       queue = subst (λ (q : _). length c.runs.items ≤ q.room) (sym queue) queue_room;
       there = subst (λ (ns : _). f.ino < length ns.items) (sym inodes) (omega (arith, is.grows.in_table, v.inodes.all));
       room = λ n n_is.
           let same = some_same (slice_get b.inodes.items f.ino) node n node_is (subst (λ (ns : _). slice_get ns.items f.ino ≡ Some n) inodes n_is) in
-          subst (λ (x : InodeState). places_in (all_seen c.runs.items) ≤ x.map.room) same (omega (arith, is.covers, v.room.places who f c node flies kind node_is));
+          subst (λ (x : InodeState). places_in (all_seen c.runs.items) ≤ x.map.room) same
+          (omega (arith, is.covers, v.room.places who f c node flies kind node_is));
       places = runs_below 4096 c.first c.runs.items is.chained in_file;
       blocks = blocks_below 65536 c.first c.runs.items is.chained block_small;
-      tail_small = subst (λ (t : ℕ). t < 4194304) (sym tail_is) (tail-bound d.geometry (d.inode f.ino).log (v.fast.valid.logs f.ino is.grows.in_table used).paged v.fast.valid.accepted.few_pages);
+      tail_small = subst (λ (t : ℕ). t < 4194304) (sym tail_is)
+          (tail-bound d.geometry (d.inode f.ino).log (v.fast.valid.logs f.ino is.grows.in_table used).paged v.fast.valid.accepted.few_pages);
       fresh = λ k x lt. fresh_small (get_or f.fresh.items k x) (Contains-get_or f.fresh.items k x lt);
-      releases = subst (λ (r : _). deque_len r.releases + length f.rows.items ≤ deque_capacity r.releases) (sym reclaiming) (omega (arith, v.room.releases, v.room.owes.releases, owed_part (λ room. room.releases)));
+      releases = subst (λ (r : _). deque_len r.releases + length f.rows.items ≤ deque_capacity r.releases) (sym reclaiming)
+          (omega (arith, v.room.releases, v.room.owes.releases, owed_part (λ room. room.releases)));
       waiting = subst (λ (r : _). r.waiting + 2 * length f.rows.items < 18446744073709551616) (sym reclaiming) waiting_few;
       units = subst (λ (o : Room). SLOT_UNITS * slots_of f + TAIL_UNITS ≤ o.units) (sym owed) units_there;
       owed_history = subst (λ (o : Room). 1 ≤ o.history) (sym owed) (omega (arith, v.room.owes.history, owed_part (λ room. room.history)));
       owed_queue = subst (λ (o : Room). length c.runs.items ≤ o.queue) (sym owed) (omega (arith, v.room.owes.queue, runs_part));
-      owed_releases = subst (λ (o : Room). length f.rows.items ≤ o.releases) (sym owed) (omega (arith, v.room.owes.releases, owed_part (λ room. room.releases)));
-      history = subst (λ (h : _). vec_len h < vec_capacity h) (sym history) (omega (arith, v.room.history, v.room.owes.history, owed_part (λ room. room.history)));
+      owed_releases = subst (λ (o : Room). length f.rows.items ≤ o.releases) (sym owed)
+          (omega (arith, v.room.owes.releases, owed_part (λ room. room.releases)));
+      history = subst (λ (h : _). vec_len h < vec_capacity h) (sym history)
+          (omega (arith, v.room.history, v.room.owes.history, owed_part (λ room. room.history)));
     }
       where
         runs_part : length c.runs.items ≤ owed_sum b (λ room. room.queue)

@@ -19,7 +19,8 @@ use Rattle.file_ops.proofs.Basics.{takes_before, takes_after, takes_not, taken_b
 use Rattle.file_ops.proofs.Freed.{unused_kept, unused_only, freed_unused, freed_mapped, block_used, fresh_used}
 use Rattle.file_ops.proofs.Taken.{fresh_taken, spare_taken, block_taken, taken_cases, fresh_not_spare, spare_no_block}
 
-module _ (d e : Disk) (b b' : Parts) (who : ℕ) (f : Flight) (c : DataChange) (from n : ℕ) (space : HasSpace d b) (flies : Flies b who f) (kind : f.change ≡ Data c) (apart : AreApart (taken_by f))
+module _ (d e : Disk) (b b' : Parts) (who : ℕ) (f : Flight) (c : DataChange) (from n : ℕ) (space : HasSpace d b) (flies : Flies b who f)
+    (kind : f.change ≡ Data c) (apart : AreApart (taken_by f))
     (disk : ChangesData d e f c from n) (keeps : KeepsParts b b') (ended : EndsFlight who b b') (gives : GivesPages d f from n b b') where
   -- the event's pages are the flight's
   pub block_listed : (i : ℕ) → i < disk.event.n → Contains c.blocks.items (disk.event.blocks i)
@@ -39,10 +40,12 @@ module _ (d e : Disk) (b b' : Parts) (who : ℕ) (f : Flight) (c : DataChange) (
   -- a page that he hasn't taken is unused still
   stays : (page : ℕ) → IsUnused d page → (Contains c.blocks.items page → ⊥) → (Contains f.fresh.items page → ⊥) → IsUnused e page
   stays page unused no_block not_fresh = unused_kept f.ino d e disk.event disk.well from n disk.drops page unused
-      (λ i lt same. no_block (subst (Contains c.blocks.items) same (block_listed i lt))) (λ fresh. not_fresh (subst (λ (ps : List ℕ). Contains ps page) disk.takes fresh))
+      (λ i lt same. no_block (subst (Contains c.blocks.items) same (block_listed i lt)))
+      (λ fresh. not_fresh (subst (λ (ps : List ℕ). Contains ps page) disk.takes fresh))
 
   others_stay : (page : ℕ) → IsUnused d page → space.taker page ≢ who → IsUnused e page
-  others_stay page unused other = stays page unused (λ block. other (taken_his page (block_taken f c kind page block))) (λ fresh. other (taken_his page (fresh_taken f c kind page fresh)))
+  others_stay page unused other = stays page unused (λ block. other (taken_his page (block_taken f c kind page block)))
+      (λ fresh. other (taken_his page (fresh_taken f c kind page fresh)))
 
   taken : ℕ → ℕ
   taken page = if space.taker page == who then 0 else space.taker page
@@ -65,8 +68,10 @@ module _ (d e : Disk) (b b' : Parts) (who : ℕ) (f : Flight) (c : DataChange) (
       let other = not_none page before.1 in (others_stay page before.0 other, taken-other page other ∙ before.1))
       (λ came. ⊎_elim
       (λ (spare : Contains f.spare.items page).
-      let his = spare_taken f c kind page spare in
-      (stays page (taken_unused page his) (spare_no_block f c kind apart page spare) (λ fresh. fresh_not_spare f c kind apart page fresh spare), taken-mine page (taken_his page his)))
+      let his = spare_taken f c kind page spare in (
+        stays page (taken_unused page his) (spare_no_block f c kind apart page spare) (λ fresh. fresh_not_spare f c kind apart page fresh spare),
+        taken-mine page (taken_his page his),
+      ))
       (λ (freed : IsFreed d f.ino from n page). elim (cases_eq (space.taker page) 0) [
         | inl none ↦ (freed_unused f.ino d e disk.event disk.well from n disk.drops page freed, taken-other page (not_none page none) ∙ none)
         | inr some ↦ absurd (freed_mapped f.ino d e disk.event disk.well from n disk.drops page freed (space.unused page some))
@@ -78,7 +83,8 @@ module _ (d e : Disk) (b b' : Parts) (who : ℕ) (f : Flight) (c : DataChange) (
     | inl his ↦
         let takes : Takes b who page = subst (λ (q : ℕ). Takes b q page) his (space.taken page (λ none. not_none page none his)) in
         ⊎_elim
-        (λ (fresh : Contains f.fresh.items page). absurd (fresh_used f.ino d e disk.event disk.well from n disk.drops page (subst (λ (ps : List ℕ). Contains ps page) (sym disk.takes) fresh) is.0))
+        (λ (fresh : Contains f.fresh.items page). absurd (fresh_used f.ino d e disk.event disk.well from n disk.drops page
+        (subst (λ (ps : List ℕ). Contains ps page) (sym disk.takes) fresh) is.0))
         (λ rest. ⊎_elim (λ (spare : Contains f.spare.items page). (gives.free page).1 (inr (inl spare)))
         (λ (block : Contains c.blocks.items page).
         let by = listed_block page block in
@@ -87,7 +93,8 @@ module _ (d e : Disk) (b b' : Parts) (who : ℕ) (f : Flight) (c : DataChange) (
     | inr other ↦
         let none : space.taker page ≡ 0 = sym (taken-other page other) ∙ is.1 in
         ⊎_elim (λ (was : IsUnused d page). (gives.free page).1 (inl ((space.free page).1 (was, none))))
-        (λ (freed : IsFreed d f.ino from n page). (gives.free page).1 (inr (inr freed))) (unused_only f.ino d e disk.event disk.well from n disk.drops page is.0)
+        (λ (freed : IsFreed d f.ino from n page). (gives.free page).1 (inr (inr freed))) (unused_only f.ino d e disk.event disk.well from n disk.drops
+        page is.0)
   ]
 
   other_taken : (page : ℕ) → taken page ≢ 0 → space.taker page ≢ who
@@ -110,7 +117,8 @@ module _ (d e : Disk) (b b' : Parts) (who : ℕ) (f : Flight) (c : DataChange) (
         taken-other page (λ his. not_mine q page takes (sym was ∙ his)) ∙ was;
     taken = λ page some.
         let other = other_taken page some in
-        subst (λ (q : ℕ). Takes b' q page) (sym (taken-other page other)) (takes_after b b' who f flies keeps ended (space.taker page) page other (space.taken page (was_taken page some)));
+        subst (λ (q : ℕ). Takes b' q page) (sym (taken-other page other)) (takes_after b b' who f flies keeps ended (space.taker page) page other
+        (space.taken page (was_taken page some)));
     unused = λ page some. others_stay page (space.unused page (was_taken page some)) (other_taken page some);
     left = omega (arith, space.left, gives.no_less);
   }

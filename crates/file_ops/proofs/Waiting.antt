@@ -25,7 +25,8 @@ use Rattle.file_ops.specs.Ends.{ChangesData, KeepsParts, ChangesInode, Releases,
 use Rattle.file_ops.proofs.Freed.{rows_same}
 use Rattle.file_ops.proofs.Nodes.{old_state, new_state}
 
-module _ (d e : Disk) (b b' : Parts) (f : Flight) (c : DataChange) (from n runs : ℕ) (inodes : AreInodesOf d b.inodes.items) (disk : ChangesData d e f c from n) (keeps : KeepsParts b b')
+module _ (d e : Disk) (b b' : Parts) (f : Flight) (c : DataChange) (from n runs : ℕ) (inodes : AreInodesOf d b.inodes.items)
+    (disk : ChangesData d e f c from n) (keeps : KeepsParts b b')
     (change : ChangesInode e f.ino c.size b b') where
   new_round : (old new : InodeState) → slice_get b.inodes.items f.ino ≡ Some old → slice_get b'.inodes.items f.ino ≡ Some new → new.round ≡ old.round
   new_round old new was is = (change.here old new was is).round
@@ -39,7 +40,8 @@ module _ (d e : Disk) (b b' : Parts) (f : Flight) (c : DataChange) (from n runs 
     | inl same ↦
         let here : slice_get b.inodes.items f.ino ≡ Some x = subst (λ (i : ℕ). slice_get b.inodes.items i ≡ Some x) same is in
         let now = new_state d e b b' f c from n inodes disk change in
-        in_queue work now.0 there ino_is slot_is (subst (λ (i : ℕ). slice_get b'.inodes.items i ≡ Some now.0) (sym same) now.1) (round ∙ sym (new_round x now.0 here now.1))
+        in_queue work now.0 there ino_is slot_is (subst (λ (i : ℕ). slice_get b'.inodes.items i ≡ Some now.0) (sym same) now.1)
+        (round ∙ sym (new_round x now.0 here now.1))
     | inr ne ↦ in_queue work x there ino_is slot_is (change.others ino ne ∙ is) round
   ]
     where
@@ -55,7 +57,8 @@ module _ (d e : Disk) (b b' : Parts) (f : Flight) (c : DataChange) (from n runs 
         let new = new_state d e b b' f c from n inodes disk change in
         in_queue (record { ino = f.ino; round = old.0.round; slot = m.slot }) new.0
         (subst (λ (ws : List Work). Contains ws (record { ino = f.ino; round = old.0.round; slot = m.slot })) (sym queues.items)
-        (Contains-append_right b.queue.items queues.more (record { ino = f.ino; round = old.0.round; slot = m.slot }) (queues.each idx m old.0 low high is old.1)))
+        (Contains-append_right b.queue.items queues.more (record { ino = f.ino; round = old.0.round; slot = m.slot })
+        (queues.each idx m old.0 low high is old.1)))
         refl refl new.1 (sym (new_round old.0 new.0 old.1 new.1))
 
     pub queued_after : IsQueued d b → IsQueued e b'
@@ -72,7 +75,8 @@ module _ (d e : Disk) (b b' : Parts) (f : Flight) (c : DataChange) (from n runs 
       ];
     }
       where
-        old_place : (idx : ℕ) (m : Mapping) → (idx < from) ⊎ (from + n ≤ idx) → LivePlace e f.ino idx m → (m.flag ≡ Complete → ⊥) → IsWaiting b' f.ino m.slot
+        old_place : (idx : ℕ) (m : Mapping) → (idx < from) ⊎ (from + n ≤ idx) → LivePlace e f.ino idx m → (m.flag ≡ Complete → ⊥)
+            → IsWaiting b' f.ino m.slot
         old_place idx m out live ne = waits_still queues.more queues.items f.ino m.slot (queued.waits f.ino idx m (record {
           in_table = disk.event.in_table;
           live = disk.event.live;
@@ -93,7 +97,8 @@ module _ (d e : Disk) (b b' : Parts) (f : Flight) (c : DataChange) (from n runs 
   unfolding mapped_places
   units_same i = elim (cases_eq i f.ino) [
     | inl same ↦
-        ap (λ (u : Use). units_by_use u (mapped_places e i)) (use_kept f.ino d e disk.event i ∙ ap (λ (j : ℕ). (d.inode j).use_of) same ∙ disk.event.live)
+        ap (λ (u : Use). units_by_use u (mapped_places e i)) (use_kept f.ino d e disk.event i ∙ ap (λ (j : ℕ). (d.inode j).use_of)
+        same ∙ disk.event.live)
         ∙ sym (ap (λ (u : Use). units_by_use u (mapped_places d i)) (ap (λ (j : ℕ). (d.inode j).use_of) same ∙ disk.event.live))
     | inr ne ↦
         ap (λ (u : Use). units_by_use u (mapped_places e i)) (use_kept f.ino d e disk.event i)
@@ -106,16 +111,26 @@ module _ (d e : Disk) (b b' : Parts) (f : Flight) (c : DataChange) (from n runs 
   reclaiming_after releases raised was = record {
     waiting =
         let units : total e.geometry.inodes (dying_units e) ≡ total d.geometry.inodes (dying_units d) =
-        ap (λ g. total g.inodes (dying_units e)) disk.event.relogs.geometry ∙ total-same (dying_units d) (dying_units e) d.geometry.inodes (λ i lt. units_same i) in
+        ap (λ g. total g.inodes (dying_units e)) disk.event.relogs.geometry ∙ total-same (dying_units d) (dying_units e) d.geometry.inodes
+        (λ i lt. units_same i) in
         let zero : one_if b'.reclaiming.zero_check ≡ one_if b.reclaiming.zero_check = ap (λ (z : Option ℕ). one_if z) keeps.zero_check in
         let up : one_if b'.reclaiming.raised ≡ one_if b.reclaiming.raised = ap (λ (z : Option DyingPlace). one_if z) keeps.raised in
-        let more : length b'.reclaiming.releases.items ≡ length b.reclaiming.releases.items + length f.rows.items = ap length releases.items ∙ length-append b.reclaiming.releases.items f.rows.items in
+        let more : length b'.reclaiming.releases.items ≡ length b.reclaiming.releases.items + length f.rows.items = ap length releases.items ∙
+        length-append b.reclaiming.releases.items f.rows.items in
         sums _ _ _ _ _ _ _ _ _ _ _ was.waiting releases.waiting up zero more units;
     zero_check = λ slot is.
         let row = was.zero_check slot (sym keeps.zero_check ∙ is) in
-        record { row = row.row; is = record { there = subst (λ (rs : List Row). Contains rs row.row) (sym (rows_same f.ino d e disk.event disk.well from n disk.drops)) row.is.there; slot_is = row.is.slot_is } };
+        record {
+          row = row.row;
+          is = record {
+            there = subst (λ (rs : List Row). Contains rs row.row)
+                (sym (rows_same f.ino d e disk.event disk.well from n disk.drops)) row.is.there;
+            slot_is = row.is.slot_is;
+          };
+        };
     raised = raised;
   }
     where
-      sums : (w w' r r' z z' l l' u u' k : ℕ) → w + r ≡ z + 2 * l + u → w' ≡ w + 2 * k → r' ≡ r → z' ≡ z → l' ≡ l + k → u' ≡ u → w' + r' ≡ z' + 2 * l' + u'
+      sums : (w w' r r' z z' l l' u u' k : ℕ) → w + r ≡ z + 2 * l + u → w' ≡ w + 2 * k → r' ≡ r → z' ≡ z → l' ≡ l + k → u' ≡ u
+          → w' + r' ≡ z' + 2 * l' + u'
       sums w w' r r' z z' l l' u u' k e1 e2 e3 e4 e5 e6 = omega arith

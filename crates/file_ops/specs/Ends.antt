@@ -1,5 +1,29 @@
 -- What the end of a write or a cut makes of the disk, and of what is kept in memory.
-use Rattle.std.specs.Prelude.{◌≡◌, ◌≢◌, ◌⊎◌, ◌↔◌, ℕ, ◌+◌, ◌-◌, ◌*◌, ◌<◌, ◌≤◌, List, [], ◌∷◌, ◌++◌, length, slice_get, slice_index, Some, None, IsNone, Contains, vec_len, vec_capacity}
+use Rattle.std.specs.Prelude.{
+  ◌≡◌,
+  ◌≢◌,
+  ◌⊎◌,
+  ◌↔◌,
+  ℕ,
+  ◌+◌,
+  ◌-◌,
+  ◌*◌,
+  ◌<◌,
+  ◌≤◌,
+  List,
+  [],
+  ◌∷◌,
+  ◌++◌,
+  length,
+  slice_get,
+  slice_index,
+  Some,
+  None,
+  IsNone,
+  Contains,
+  vec_len,
+  vec_capacity,
+}
 use Rattle.std.specs.Option.{option_map}
 use Rattle.std.specs.FinMap.{get}
 use Rattle.std.specs.VecDeque.{deque_len, deque_capacity}
@@ -20,7 +44,8 @@ use Rattle.dn_volume.specs.Parties.{flight_at}
 use Rattle.dn_volume.specs.Planned.{row_slots}
 use Rattle.dn_volume.specs.Reserve.{owed_to}
 
--- The disk of after: the file's places from this one on, n of them, are mapped to the pages of the flight or go.
+-- The disk of after: the file's places from this one on, n of them, are mapped to the pages of the
+-- flight or go.
 pub record ChangesData (d e : Disk) (f : Flight) (c : DataChange) (from n : ℕ) : Type 0 where
   pub event : Writes f.ino d e
   pub well : WritesWell f.ino d e event
@@ -69,27 +94,31 @@ pub record EndsFlight (who : ℕ) (b b' : Parts) : Type 0 where
 pub record ChangesInode (e : Disk) (ino size : ℕ) (b b' : Parts) : Type 0 where
   pub all : length b'.inodes.items ≡ length b.inodes.items
   pub others : (i : ℕ) → i ≢ ino → slice_get b'.inodes.items i ≡ slice_get b.inodes.items i
-  pub here : (old new : InodeState) → slice_get b.inodes.items ino ≡ Some old → slice_get b'.inodes.items ino ≡ Some new → EndsInode e ino size old new
+  pub here : (old new : InodeState) → slice_get b.inodes.items ino ≡ Some old
+      → slice_get b'.inodes.items ino ≡ Some new → EndsInode e ino size old new
 
 -- the spare page and the pages that come free are free
 pub record GivesPages (d : Disk) (f : Flight) (from n : ℕ) (b b' : Parts) : Type 0 where
   pub pages : b'.free.pages ≡ b.free.pages
   pub in_order : IsInOrder b'.free
-  pub free : (page : ℕ) → Contains b'.free.free page ↔ (Contains b.free.free page ⊎ Contains f.spare.items page ⊎ IsFreed d f.ino from n page)
+  pub free : (page : ℕ) → Contains b'.free.free page ↔
+      (Contains b.free.free page ⊎ Contains f.spare.items page ⊎ IsFreed d f.ino from n page)
   pub no_less : length b.free.free ≤ length b'.free.free
 
 -- its rows wait to be released
 pub record Releases (f : Flight) (b b' : Parts) : Type 0 where
   pub items : b'.reclaiming.releases.items ≡ b.reclaiming.releases.items ++ f.rows.items
   pub waiting : b'.reclaiming.waiting ≡ b.reclaiming.waiting + 2 * length f.rows.items
-  pub room : deque_len b'.reclaiming.releases ≡ deque_len b.reclaiming.releases + length f.rows.items
+  pub room : deque_len b'.reclaiming.releases ≡ deque_len b.reclaiming.releases + length
+      f.rows.items
   pub capacity : deque_capacity b.reclaiming.releases ≤ deque_capacity b'.reclaiming.releases
 
 -- its items wait for the daemon
 pub record Queues (e : Disk) (ino from n runs : ℕ) (b b' : Parts) : Type 0 where
   pub more : List Work
   pub items : b'.queue.items ≡ b.queue.items ++ more
-  pub each : (idx : ℕ) (m : Mapping) (node : InodeState) → from ≤ idx → idx < from + n → maps e ino idx ≡ Some m → slice_get b.inodes.items ino ≡ Some node
+  pub each : (idx : ℕ) (m : Mapping) (node : InodeState) → from ≤ idx → idx < from + n
+      → maps e ino idx ≡ Some m → slice_get b.inodes.items ino ≡ Some node
       → Contains more (record { ino = ino; round = node.round; slot = m.slot })
   pub room : b.queue.room ≤ b'.queue.room + runs
 
@@ -108,7 +137,8 @@ pub record Repays (f : Flight) (b b' : Parts) : Type 0 where
   pub releases : b'.owed.releases + (owed_to (Some f)).releases ≡ b.owed.releases
 
 -- all of it
-pub record Ends (d e : Disk) (who : ℕ) (f : Flight) (c : DataChange) (from n : ℕ) (b b' : Parts) : Type 0 where
+pub record Ends (d e : Disk) (who : ℕ) (f : Flight) (c : DataChange) (from n : ℕ) (b b' : Parts) :
+    Type 0 where
   pub keeps : KeepsParts b b'
   pub flight : EndsFlight who b b'
   pub inode : ChangesInode e f.ino c.size b b'

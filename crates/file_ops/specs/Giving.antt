@@ -1,5 +1,22 @@
 -- Pages become free, rows wait to be released, and items wait for the daemon.
-use Rattle.std.specs.Prelude.{◌≡◌, ◌⊎◌, ◌↔◌, ℕ, ◌+◌, ◌<◌, ◌≤◌, List, ◌++◌, length, slice_index, Option, Some, None, IfSome, Contains}
+use Rattle.std.specs.Prelude.{
+  ◌≡◌,
+  ◌⊎◌,
+  ◌↔◌,
+  ℕ,
+  ◌+◌,
+  ◌<◌,
+  ◌≤◌,
+  List,
+  ◌++◌,
+  length,
+  slice_index,
+  Option,
+  Some,
+  None,
+  IfSome,
+  Contains,
+}
 use Rattle.std.specs.Ordering.{nat_cmp}
 use Rattle.std.specs.FinMap.{FinMap, get}
 use Rattle.page_alloc.specs.Free.{FreePages, IsInOrder}
@@ -30,25 +47,37 @@ IsUnshared d None page = ⊥
 IsUnshared d (Some m) page = (m.block ≡ page) × HasNoneOf d page
 
 -- one of the n places from `first` on is
-pub record IsUnsharedAmong (d : Disk) (map : FinMap nat_cmp Mapping) (first n page : ℕ) : Type 0 where
-  pub i : ℕ
-  pub below : i < n
-  pub is : IsUnshared d (get map (first + i)) page
+pub record IsUnsharedAmong (d : Disk) (map : FinMap nat_cmp Mapping) (first n page : ℕ) : Type 0
+  where
+    pub i : ℕ
+    pub below : i < n
+    pub is : IsUnshared d (get map (first + i)) page
 
--- The table is that of a disk; those pages of the n places lie in the image, are not free, and are different ones.
-pub record CanGive (words : List ℕ) (t : Table) (map : FinMap nat_cmp Mapping) (first n : ℕ) (free : FreePages) : Type 0 where
+-- The table is that of a disk; those pages of the n places lie in the image, are not free, and are
+-- different ones.
+pub record CanGive (words : List ℕ) (t : Table) (map : FinMap nat_cmp Mapping) (first n : ℕ)
+    (free : FreePages) : Type 0 where
   pub disk : Disk
   pub table : IsTable disk words t
   pub in_order : IsInOrder free
   pub inside : (i : ℕ) → i < n → IfSome (get map (first + i)) (λ m. m.block < t.geometry.pages)
   pub below : (i page : ℕ) → i < n → IsUnshared disk (get map (first + i)) page → page < free.pages
-  pub taken : (i page : ℕ) → i < n → IsUnshared disk (get map (first + i)) page → ¬ Contains free.free page
-  pub apart : (i j page : ℕ) → i < n → j < n → IsUnshared disk (get map (first + i)) page → IsUnshared disk (get map (first + j)) page → i ≡ j
+  pub taken : (i page : ℕ) → i < n → IsUnshared disk (get map (first + i)) page
+      → ¬ Contains free.free page
+  pub apart : (i j page : ℕ) → i < n → j < n → IsUnshared disk (get map (first + i)) page
+      → IsUnshared disk (get map (first + j)) page → i ≡ j
 
 -- work for each of so many slots past a log's tail waits
-pub record QueuesSlots (ino round tail : ℕ) (fresh : List ℕ) (n : ℕ) (old new : Waiting) : Type 0 where
-  pub more : List Work
-  pub items : new.items ≡ old.items ++ more
-  pub each : (g : Geometry) (log : Log) → IsPaged g log → tail ≡ tail_at log.pages (count log) → (j : ℕ) → j < n
-      → Contains more (record { ino = ino; round = round; slot = slot_name (log.pages ++ fresh) (count log + j) })
-  pub room : old.room ≡ new.room + n
+pub record QueuesSlots (ino round tail : ℕ) (fresh : List ℕ) (n : ℕ) (old new : Waiting) : Type 0
+  where
+    pub more : List Work
+    pub items : new.items ≡ old.items ++ more
+    pub each : (g : Geometry) (log : Log) → IsPaged g log → tail ≡ tail_at log.pages (count log)
+        → (j : ℕ) → j < n
+        → Contains more (record {
+          ino = ino;
+          round = round;
+          slot = slot_name (log.pages ++ fresh)
+              (count log + j);
+        })
+    pub room : old.room ≡ new.room + n

@@ -25,7 +25,8 @@ pub fn commit_write<D: Pm, F: Fingerprint>(v: &mut Volume<D, F>, who: u32) -> Ou
     requires running { v.old.parts.stopped ≡ false }
     requires last { IsLastOfWrite v.old.parts who }
     ensures agrees { Agrees D.state v.new }
-    ensures event { (d : Disk) (op : DiskOp) → IsVolume d v.old.parts (D.state v.old.device) → InFlight v.old.parts who op 1 → Advances D.state F.print who op 1 v.old v.new d result }
+    ensures event { (d : Disk) (op : DiskOp) → IsVolume d v.old.parts (D.state v.old.device)
+        → InFlight v.old.parts who op 1 → Advances D.state F.print who op 1 v.old v.new d result }
 {
     let flight = end_flight(&mut v.parts.flights, who);
     let Change::Data(change) = &flight.change else {

@@ -23,7 +23,8 @@ pub fn end_flight(flights: &mut Vec<Option<Flight>>, who: u32) -> Flight
     ensures was { flight_at flights.old.items (who - 1) ≡ Some result }
     ensures clients { length flights.new.items ≡ length flights.old.items }
     ensures landed { flight_at flights.new.items (who - 1) ≡ None }
-    ensures others { (k : ℕ) → k ≢ who - 1 → flight_at flights.new.items k ≡ flight_at flights.old.items k }
+    ensures others { (k : ℕ) → k ≢ who - 1 → flight_at flights.new.items k ≡ flight_at
+        flights.old.items k }
 {
     flights[who as usize - 1].take().unwrap()
 }
@@ -33,7 +34,8 @@ pub fn put_back(flights: &mut Vec<Option<Flight>>, who: u32, flight: Flight)
     requires client { 1 ≤ who }
     requires there { who - 1 < length flights.old.items }
     ensures here { flight_at flights.new.items (who - 1) ≡ Some flight }
-    ensures others { (k : ℕ) → k ≢ who - 1 → flight_at flights.new.items k ≡ flight_at flights.old.items k }
+    ensures others { (k : ℕ) → k ≢ who - 1 → flight_at flights.new.items k ≡ flight_at
+        flights.old.items k }
 {
     flights[who as usize - 1] = Some(flight);
 }
@@ -62,7 +64,8 @@ pub fn end_inode(
     runs: &[Run],
 )
     requires there { ino < length inodes.old.items }
-    requires room { (n : InodeState) → slice_get inodes.old.items ino ≡ Some n → places_in (all_seen runs.now) ≤ n.map.room }
+    requires room { (n : InodeState) → slice_get inodes.old.items ino ≡ Some n
+        → places_in (all_seen runs.now) ≤ n.map.room }
     requires places { All (λ run. run.first + run.count ≤ 4096) runs.now }
     requires blocks { All (λ run. run.block + run.count ≤ 65536) runs.now }
     requires tail { tail < 4194304 }
@@ -101,7 +104,8 @@ pub fn repay(owed: &mut Room, units: u64, runs: u64, rows: u64)
 /// mapped, its items and rows wait, its inode is let go, and it enters the history.
 pub fn finish_parts(parts: &mut Parts, who: u32, tail: u64, flight: Flight)
     requires can { (c : DataChange) × CanFinish tail flight c parts.old }
-    ensures { (c : DataChange) → CanFinish tail flight c parts.old → FinishesParts who tail flight c parts.old parts.new }
+    ensures { (c : DataChange) → CanFinish tail flight c parts.old → FinishesParts who tail flight c
+        parts.old parts.new }
 {
     let Change::Data(change) = &flight.change else {
         unreachable!()

@@ -45,7 +45,8 @@ pub fn give_back_pages(free: &mut FreeSet, pages: &[u64])
 fn unshared_page<D: Pm>(fact: &Fact, device: &D, map: &PageMap, place: u64) -> Option<u64>
     requires table { HasTable (D.state device.now).now fact.now }
     requires inside { IfSome (get map.now.map place) (λ m. m.block < fact.now.geometry.pages) }
-    ensures { (d : Disk) → IsTable d (D.state device.now).now fact.now → (page : ℕ) → (result ≡ Some page) ↔ IsUnshared d (get map.now.map place) page }
+    ensures { (d : Disk) → IsTable d (D.state device.now).now fact.now → (page : ℕ)
+        → (result ≡ Some page) ↔ IsUnshared d (get map.now.map place) page }
 {
     let mapping = map.get(place)?;
     match fact.by_page(device, mapping.block) {
@@ -66,7 +67,8 @@ pub fn give_back_unshared<D: Pm>(
 )
     requires in_file { first + places ≤ 4096 }
     requires can { CanGive (D.state device.now).now fact.now map.now.map first places free.old }
-    ensures { (d : Disk) → IsTable d (D.state device.now).now fact.now → Gives (IsUnsharedAmong d map.now.map first places) free.old free.new }
+    ensures { (d : Disk) → IsTable d (D.state device.now).now fact.now
+        → Gives (IsUnsharedAmong d map.now.map first places) free.old free.new }
 {
     for i in 0..places {
         let page = unshared_page(fact, device, map, first + i);

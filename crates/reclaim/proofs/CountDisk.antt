@@ -111,8 +111,20 @@ module _ (f : Row → CountWord) (who : ℕ) (d : Disk) (t : Table) (row : Row) 
         record {
           extends = held.extends;
           each = λ m c late left. ⊎_elim
-              (λ (old : HoldsTable c d). record { disk = d; stands_for = image_of_table d fast.valid s u fast.stands table_only d same_next agree long_after m c late left old; own = λ own. own; same = inl (λ name. refl) })
-              (λ (new : HoldsTable c e). record { disk = e; stands_for = image_of_table d fast.valid s u fast.stands table_only e next agree long_after m c late left new; own = recount_own d slot rfc uc print; same = inr (λ name. refl) })
+              (λ (old : HoldsTable c d). record {
+                disk = d;
+                stands_for = image_of_table d fast.valid s u fast.stands table_only d same_next agree
+                    long_after m c late left old;
+                own = λ own. own;
+                same = inl (λ name. refl);
+              })
+              (λ (new : HoldsTable c e). record {
+                disk = e;
+                stands_for = image_of_table d fast.valid s u fast.stands table_only e next agree
+                    long_after m c late left new;
+                own = recount_own d slot rfc uc print;
+                same = inr (λ name. refl);
+              })
               (held.each m c late left);
         }
 
@@ -123,7 +135,8 @@ module _ (f : Row → CountWord) (who : ℕ) (d : Disk) (t : Table) (row : Row) 
   pub unused_after : (page : ℕ) → IsUnused d page → IsUnused e page
   unused_after page unused = record {
     free = free_kept d e.chain e.pointer page unused.free;
-    no_row = none_found (rows e) page (λ r has at. let old = moved.only r has in none_listed (rows d) page unused.no_row old.0 old.1 (ap (λ (x : Row). x.page) old.2 ∙ at));
+    no_row = none_found (rows e) page (λ r has at. let old = moved.only r has in none_listed (rows d) page unused.no_row old.0 old.1
+        (ap (λ (x : Row). x.page) old.2 ∙ at));
   }
 
   pub unused_before : (page : ℕ) → IsUnused e page → IsUnused d page
@@ -170,10 +183,15 @@ pub recount_accounts : (d : Disk) (slot rfc uc : ℕ) (print : Print) → Accoun
 recount_accounts d slot rfc uc print = record {
   alone = λ ino idx m place alone. inl (record {
     mapping = m;
-    place = record { in_table = place.in_table; live = place.live; maps = sym (maps_same d (recounted d slot rfc uc).chain (recounted d slot rfc uc).pointer ino idx) ∙ place.maps };
+    place = record {
+      in_table = place.in_table;
+      live = place.live;
+      maps = sym (maps_same d (recounted d slot rfc uc).chain (recounted d slot rfc uc).pointer ino idx) ∙ place.maps;
+    };
     alone = alone;
     page_is = refl;
     bytes_are = bytes_still d slot rfc uc m.block;
   });
-  row_pages = λ row has. let was = (recounts_rows d slot rfc uc).only row has in inl (record { was = was.0; there = was.1; page_is = ap (λ (r : Row). r.page) was.2; bytes_are = bytes_still d slot rfc uc row.page });
+  row_pages = λ row has. let was = (recounts_rows d slot rfc uc).only row has in
+      inl (record { was = was.0; there = was.1; page_is = ap (λ (r : Row). r.page) was.2; bytes_are = bytes_still d slot rfc uc row.page });
 }

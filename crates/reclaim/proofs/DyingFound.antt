@@ -12,7 +12,8 @@ use Rattle.reclaim.proofs.NextPlace.{inside_list}
 pub read_at : (nodes : List InodeState) (i : ℕ) (x : InodeState) → i < length nodes → x ≡ slice_index_or nodes i x → slice_get nodes i ≡ Some x
 read_at nodes i x lt is = slice_get_read nodes (length nodes) i x refl lt is
 
-module _ (nodes : List InodeState) (i : ℕ) (x : InodeState) (lt : i < length nodes) (is : x ≡ slice_index_or nodes i x) (before : (k : ℕ) → k < i → IsDying nodes k → ⊥) where
+module _ (nodes : List InodeState) (i : ℕ) (x : InodeState) (lt : i < length nodes) (is : x ≡ slice_index_or nodes i x) (before : (k : ℕ) → k < i
+    → IsDying nodes k → ⊥) where
   pub least_here : IsDyingState x → IsLeastDying nodes i
   least_here dies = record { is = record { node = x; there = read_at nodes i x lt is; has = dies }; least = before }
 
@@ -29,8 +30,10 @@ pub none_at_all : (nodes : List InodeState) (i : ℕ) → length nodes ≤ i →
 none_at_all nodes i all before k at = let inside = inside_list nodes k at.node at.there in before k (omega (arith, inside, all)) at
 
 -- what the machine knows of it
-pub state_at : (Is : InodeState → Type 0) (nodes : List InodeState) (i : ℕ) (x : InodeState) → i < length nodes → x ≡ slice_index_or nodes i x → Is x → IsAt Is nodes i
+pub state_at : (Is : InodeState → Type 0) (nodes : List InodeState) (i : ℕ) (x : InodeState) → i < length nodes → x ≡ slice_index_or nodes i x → Is x
+    → IsAt Is nodes i
 state_at Is nodes i x lt is has = record { node = x; there = read_at nodes i x lt is; has = has }
 
-pub node_at : (Is : InodeState → Type 0) (nodes : List InodeState) (i : ℕ) (x : InodeState) → i < length nodes → x ≡ slice_index_or nodes i x → IsAt Is nodes i → Is x
+pub node_at : (Is : InodeState → Type 0) (nodes : List InodeState) (i : ℕ) (x : InodeState) → i < length nodes → x ≡ slice_index_or nodes i x
+    → IsAt Is nodes i → Is x
 node_at Is nodes i x lt is at = subst Is (same_some (slice_get nodes i) at.node x at.there (read_at nodes i x lt is)) at.has

@@ -70,7 +70,8 @@ module _ (d : Disk) (ino : ℕ) (may : MayEnd d ino) where
   -- one unit of work less
   pub end_units : total e.geometry.inodes (dying_units e) + 1 ≡ total d.geometry.inodes (dying_units d)
   end_units =
-      let moved = units_move d e ino may.in_table (ap (λ g. g.inodes) (same_geometry d ino Ends)) (λ i ne. ap (λ (n : Inode). n.use_of) (at_other d ino Ends i ne)) (λ i idx ne. drops.maps_same i idx) in
+      let moved = units_move d e ino may.in_table (ap (λ g. g.inodes) (same_geometry d ino Ends))
+      (λ i ne. ap (λ (n : Inode). n.use_of) (at_other d ino Ends i ne)) (λ i idx ne. drops.maps_same i idx) in
       let before = units_dying d ino may.before may.dying in
       let after = units_free e ino free_now in
       let none = no_places d ino may.unmapped in
@@ -81,14 +82,22 @@ module _ (d : Disk) (ino : ℕ) (may : MayEnd d ino) where
     free = ⊎_elim (λ (was : IsUnused d page). end_living.free_kept page was.free) (λ listed. drops.freed page listed) is;
     no_row = subst (λ (rs : List Row). IsNone (row_of rs page)) (sym end_living.rows_same)
         (⊎_elim (λ (was : IsUnused d page). was.no_row)
-        (λ (listed : Contains (d.inode ino).log.pages page). may.valid.single.log_no_row page (record { ino = ino; in_table = may.in_table; used = subst IsUsed (sym may.dying) tt; listed = listed })) is);
+        (λ (listed : Contains (d.inode ino).log.pages page). may.valid.single.log_no_row page
+        (record { ino = ino; in_table = may.in_table; used = subst IsUsed (sym may.dying) tt; listed = listed })) is);
   }
 
   end_before : (page : ℕ) → IsUnused e page → IsUnused d page ⊎ Contains (d.inode ino).log.pages page
-  end_before page is = ⊎_elim (λ free. inl (record { free = free; no_row = subst (λ (rs : List Row). IsNone (row_of rs page)) end_living.rows_same is.no_row })) (λ listed. inr listed) (drops.free_only page is.free)
+  end_before page is = ⊎_elim
+      (λ free. inl (record { free = free; no_row = subst (λ (rs : List Row). IsNone (row_of rs page)) end_living.rows_same is.no_row }))
+      (λ listed. inr listed) (drops.free_only page is.free)
 
   pub end_used : (page : ℕ) → Contains (d.inode ino).log.pages page → IsUnused d page → ⊥
-  end_used page listed unused = unused.free.in_no_log (record { ino = ino; in_table = may.in_table; used = subst IsUsed (sym may.dying) tt; listed = listed })
+  end_used page listed unused = unused.free.in_no_log (record {
+    ino = ino;
+    in_table = may.in_table;
+    used = subst IsUsed (sym may.dying) tt;
+    listed = listed;
+  })
 
 -- what is kept of the rest, where only free pages came in between
 pub ends_since : (ino : ℕ) (b : Parts) (f : FreePages) (b' : Parts) → EndsInode ino (record b { free = f }) b' → EndsInode ino b b'
@@ -117,7 +126,8 @@ ends_since ino b f b' is = record {
   owed_releases = is.owed_releases;
 }
 
-module _ (d : Disk) (b b' : Parts) (s u : State) (v : IsVolume d b s) (ino : ℕ) (may : MayEnd d ino) (unraised : b.reclaiming.raised ≡ None) (change : EndsInode ino b b')
+module _ (d : Disk) (b b' : Parts) (s u : State) (v : IsVolume d b s) (ino : ℕ) (may : MayEnd d ino) (unraised : b.reclaiming.raised ≡ None)
+    (change : EndsInode ino b b')
     (gives : Gives (Contains (d.inode ino).log.pages) b.free b'.free) where
   abbrev after : Disk
   after = stepped d ino Ends
@@ -133,15 +143,21 @@ module _ (d : Disk) (b b' : Parts) (s u : State) (v : IsVolume d b s) (ino : ℕ
 
   reclaiming : IsReclaiming after b'
   reclaiming = record {
-    waiting = let units = end_units d ino may in let long = ap (λ (r : _). length r.items) change.releases in omega (arith, v.reclaiming.waiting, units, change.waiting, long, none_then, none_now, zero_same);
+    waiting = let units = end_units d ino may in let long = ap (λ (r : _). length r.items) change.releases in
+        omega (arith, v.reclaiming.waiting, units, change.waiting, long, none_then, none_now, zero_same);
     zero_check = λ slot is. same_rows d after (end_living d ino may).rows_same slot (v.reclaiming.zero_check slot (sym change.zero_check ∙ is));
     raised = λ q is. absurd (no_raised q b'.reclaiming.raised (change.raised ∙ unraised) is);
   }
 
   ended : (i : ℕ) → Contains (ino ∷ []) i → (c : ℕ) × ((d.inode i).use_of ≡ Dying c)
-  ended i has = (may.before, subst (λ (j : ℕ). (d.inode j).use_of ≡ Dying may.before) (⊎_elim (λ same. same) (λ later. absurd (omega (arith, later.1))) (listed_cases ino [] i has)) may.dying)
+  ended i has = (
+    may.before,
+    subst (λ (j : ℕ). (d.inode j).use_of ≡ Dying may.before)
+        (⊎_elim (λ same. same) (λ later. absurd (omega (arith, later.1))) (listed_cases ino [] i has)) may.dying,
+  )
 
-  module _ (units : b.owed.units + 3 ≤ s.spare) (spare : s.spare ≤ u.spare + 3) (only : StoresOnly (λ a. a ≡ inode_word ino 0) s u) (others : KeepsFlushed (Others 16) (λ a. a ≡ inode_word ino 0) s u)
+  module _ (units : b.owed.units + 3 ≤ s.spare) (spare : s.spare ≤ u.spare + 3) (only : StoresOnly (λ a. a ≡ inode_word ino 0) s u)
+      (others : KeepsFlushed (Others 16) (λ a. a ≡ inode_word ino 0) s u)
       (done : IsDone 16 (inode_word ino 0) 0 s u) (settles : SettlesAll 16 s u) where
     moves : MovesRoom b b' s u
     moves = record {
@@ -160,11 +176,14 @@ module _ (d : Disk) (b b' : Parts) (s u : State) (v : IsVolume d b s) (ino : ℕ
       names = (end_living d ino may).names;
       live = (end_living d ino may).live_only;
       kept = change.kept;
-      nodes = nodes_kept EndsState ino b.inodes.items b'.inodes.items change.inodes (omega (arith, may.in_table, v.inodes.all)) (λ x y ends. ends.holder) (λ x y ends. ends.round);
+      nodes = nodes_kept EndsState ino b.inodes.items b'.inodes.items change.inodes (omega (arith, may.in_table, v.inodes.all))
+          (λ x y ends. ends.holder) (λ x y ends. ends.round);
       inodes_are = end_nodes d ino may b.inodes.items b'.inodes.items change.inodes v.inodes;
-      space = space_gained d after b b' change.kept (Contains (d.inode ino).log.pages) (same_geometry d ino Ends) gives (end_then d ino may) (end_before d ino may) (end_used d ino may) v.space;
+      space = space_gained d after b b' change.kept (Contains (d.inode ino).log.pages) (same_geometry d ino Ends) gives (end_then d ino may)
+          (end_before d ino may) (end_used d ino may) v.space;
       table = slots_stay d after b.fact b'.fact (same_geometry d ino Ends) (end_living d ino may).rows_same change.fact v.table;
-      counts = counts_stay d after b b' change.kept change.zero_check change.raised change.releases (end_living d ino may).rows_same (λ row has. (end_drops d ino may).mappings_same row.page) v.counts;
+      counts = counts_stay d after b b' change.kept change.zero_check change.raised change.releases (end_living d ino may).rows_same
+          (λ row has. (end_drops d ino may).mappings_same row.page) v.counts;
       reclaiming = reclaiming;
       pointers = step_pointers d ino Ends 0 0 (omega arith) (end_one d ino may) (end_living d ino may) may.in_table v.pointers;
       room = room_worked b b' s u change.kept moves v.room (other_room d b b' s v EndsState ino may.before may.dying change.inodes);

@@ -49,13 +49,15 @@ release_work d b s v some unraised = record {
 
 pub not_begun : (b : Parts) → b.reclaiming.zero_check ≡ None → b.reclaiming.raised ≡ None
     → IsSome b.reclaiming.zero_check ⊎ IsSome b.reclaiming.raised → ⊥
-not_begun b unchecked unraised begun = ⊎_elim (λ some. clash b.reclaiming.zero_check unchecked some) (λ some. clash b.reclaiming.raised unraised some) begun
+not_begun b unchecked unraised begun = ⊎_elim (λ some. clash b.reclaiming.zero_check unchecked some) (λ some. clash b.reclaiming.raised unraised some)
+    begun
   where
     clash : {X : Type 0} (o : Option X) → o ≡ None → IsSome o → ⊥
     clash None none some = cc some
     clash (Some x) none some = cc none
 
-module _ {D F : Type 0} (state : D → State) (w : Volume D F) (slot : ℕ) (some : 0 < deque_len w.parts.reclaiming.releases) (front : slot ≡ slice_index_or w.parts.reclaiming.releases.items 0 slot) where
+module _ {D F : Type 0} (state : D → State) (w : Volume D F) (slot : ℕ) (some : 0 < deque_len w.parts.reclaiming.releases)
+    (front : slot ≡ slice_index_or w.parts.reclaiming.releases.items 0 slot) where
   abbrev rest : List ℕ
   rest = behind w.parts.reclaiming.releases.items
 
@@ -96,32 +98,39 @@ module _ {D F : Type 0} (state : D → State) (w : Volume D F) (slot : ℕ) (som
       falls false is = omega (arith, is)
 
   module _ (w' : Volume D F) (only : StoresOnly (λ a. a ≡ slot_word w.parts.fact.geometry slot 4) (state w.device) (state w'.device))
-      (agree : Agree (state w'.device).now (state w'.device).past) (leaves : LeavesTables down w.parts.fact slot (state w.device) (state w'.device)) (faults : (state w.device).faults ≤ (state w'.device).faults) where
+      (agree : Agree (state w'.device).now (state w'.device).past) (leaves : LeavesTables down w.parts.fact slot (state w.device) (state w'.device))
+      (faults : (state w.device).faults ≤ (state w'.device).faults) where
     -- it failed
     module _ (stops : Stops w.parts w'.parts) where
-      pub fails : (print : Print) (d : Disk) → IsVolume d w.parts (state w.device) → Rose (state w.device).faults (state w'.device).faults → Breaks state print 16 None w w' d
+      pub fails : (print : Print) (d : Disk) → IsVolume d w.parts (state w.device) → Rose (state w.device).faults (state w'.device).faults
+          → Breaks state print 16 None w w' d
       fails print d v rose =
           let row = front_row d w.parts (state w.device) v slot rest split in
-          event_breaks state print down 16 w w' d slot 0 row.row v row.is (front_down d w.parts (state w.device) v slot rest split).may stops only agree leaves faults rose
+          event_breaks state print down 16 w w' d slot 0 row.row v row.is (front_down d w.parts (state w.device) v slot rest split).may stops only
+          agree leaves faults rose
 
       pub stopped_agrees : (print : Print) → Agrees state w → w.parts.stopped ≡ false → Agrees state w'
       stopped_agrees print agrees running =
           let found = running_disk state w running agrees in
           let row = front_row found.0 w.parts (state w.device) found.1 slot rest split in
-          is_stopped (event_stopped state print down 16 w w' found.0 slot 0 row.row found.1 row.is (front_down found.0 w.parts (state w.device) found.1 slot rest split).may stops only)
+          is_stopped (event_stopped state print down 16 w w' found.0 slot 0 row.row found.1 row.is (front_down found.0 w.parts (state w.device)
+          found.1 slot rest split).may stops only)
 
     -- it succeeded
-    module _ (word : ℕ) (change : SettlesRelease slot word w.parts w'.parts) (unchecked : w.parts.reclaiming.zero_check ≡ None) (unraised : w.parts.reclaiming.raised ≡ None)
+    module _ (word : ℕ) (change : SettlesRelease slot word w.parts w'.parts) (unchecked : w.parts.reclaiming.zero_check ≡ None)
+        (unraised : w.parts.reclaiming.raised ≡ None)
         (settles : SettlesTable down w.parts.fact slot (state w.device) (state w'.device)) (own : SettlesAll 16 (state w.device) (state w'.device))
         (others : KeepsFlushed (Others 16) (λ a. a ≡ slot_word w.parts.fact.geometry slot 4) (state w.device) (state w'.device))
-        (is_word : IsWordAfter down (state w.device).now w.parts.fact slot word) (units : w.parts.owed.units + RELEASE_UNITS ≤ (state w.device).spare) (spare : (state w.device).spare ≤ (state w'.device).spare + 3)
+        (is_word : IsWordAfter down (state w.device).now w.parts.fact slot word) (units : w.parts.owed.units + RELEASE_UNITS ≤ (state w.device).spare)
+        (spare : (state w.device).spare ≤ (state w'.device).spare + 3)
         (trace_room : vec_len w.parts.trace + w.parts.owed.trace + 1 ≤ vec_capacity w.parts.trace) where
       pub succeeds : (print : Print) (d : Disk) → IsVolume d w.parts (state w.device) → MovesOn state print 16 w w' d
       succeeds print d v =
           let row = front_row d w.parts (state w.device) v slot w'.parts.reclaiming.releases.items change.releases in
           event_moves state print down 16 w w' d slot word row.row v agree
           (release_event d w.parts w'.parts (state w.device) (state w'.device) v slot word change unchecked unraised
-          (record { at_slot = row.is; only = only; leaves = leaves; settles = settles; own = own; others = others; faults = faults }) is_word units spare trace_room)
+          (record { at_slot = row.is; only = only; leaves = leaves; settles = settles; own = own; others = others; faults = faults }) is_word units
+          spare trace_room)
 
       pub agrees_after : (print : Print) → Agrees state w → w.parts.stopped ≡ false → Agrees state w'
       agrees_after print agrees running =

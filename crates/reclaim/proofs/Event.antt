@@ -48,7 +48,17 @@ use Rattle.dn_volume.proofs.Kept.{ops_same}
 use Rattle.reclaim.specs.Released.{KeepsParts, Stops}
 use Rattle.dn_volume.proofs.CountsMoved.{MovesCounts, counts_move}
 use Rattle.dn_volume.proofs.TraceWords.{words_follow}
-use Rattle.reclaim.proofs.CountDisk.{recount_accounts, fast_after, table_after, between, quiet, unused_after, unused_before, leaves_after, no_stale_after}
+use Rattle.reclaim.proofs.CountDisk.{
+  recount_accounts,
+  fast_after,
+  table_after,
+  between,
+  quiet,
+  unused_after,
+  unused_before,
+  leaves_after,
+  no_stale_after,
+}
 use Rattle.dn_volume.proofs.Hands.{SameHands, names_stay, inodes_stay, holders_stay, space_stays, queue_stays, dying_same, table_stays}
 
 -- the row at the slot gets the counts that f makes of it, by a call of the table that succeeded
@@ -75,7 +85,8 @@ pub record CountEvent (f : Row → CountWord) (who : ℕ) (d : Disk) (b b' : Par
   pub shares : who ≡ 15 → Shares (count_changed f d slot row) b'
   pub dying : who ≢ 16 → b'.reclaiming.raised ≡ b.reclaiming.raised
   pub raised : who ≡ 16 → (p : DyingPlace) → b'.reclaiming.raised ≡ Some p → IsRaised (count_changed f d slot row) p
-  pub waiting : b'.reclaiming.waiting + one_if b'.reclaiming.raised ≡ one_if b'.reclaiming.zero_check + 2 * length b'.reclaiming.releases.items + total d.geometry.inodes (dying_units d)
+  pub waiting : b'.reclaiming.waiting + one_if b'.reclaiming.raised ≡ one_if b'.reclaiming.zero_check + 2 * length b'.reclaiming.releases.items +
+      total d.geometry.inodes (dying_units d)
   pub checked : (x : ℕ) → b'.reclaiming.zero_check ≡ Some x → HasRow d x
   pub room : HasRoom b' u
   pub trace : b'.trace.items ≡ b.trace.items ++ record { slot = slot; word = word } ∷ []
@@ -83,17 +94,22 @@ pub record CountEvent (f : Row → CountWord) (who : ℕ) (d : Disk) (b b' : Par
   pub made : Counts b b'
 
 -- the trace names slots, and one more
-names_more : (b b' : Parts) (change : CountChange) → b'.geometry ≡ b.geometry → b'.trace.items ≡ b.trace.items ++ change ∷ [] → change.slot < slots b.geometry → NamesSlots b → NamesSlots b'
+names_more : (b b' : Parts) (change : CountChange) → b'.geometry ≡ b.geometry → b'.trace.items ≡ b.trace.items ++ change ∷ []
+    → change.slot < slots b.geometry → NamesSlots b → NamesSlots b'
 names_more b b' change same is lt names =
     subst (λ (g : Geometry). All (λ (c : CountChange). c.slot < slots g) b'.trace.items) (sym same)
-    (subst (All (λ (c : CountChange). c.slot < slots b.geometry)) (sym is) (All-push (λ (c : CountChange). c.slot < slots b.geometry) b.trace.items change names lt))
+    (subst (All (λ (c : CountChange). c.slot < slots b.geometry)) (sym is) (All-push (λ (c : CountChange). c.slot < slots b.geometry) b.trace.items
+    change names lt))
 
-module _ (f : Row → CountWord) (who : ℕ) (d : Disk) (b : Parts) (s u : State) (slot : ℕ) (row : Row) (v : IsVolume d b s) (may : MayRecount d row (f row).rfc (f row).uc)
+module _ (f : Row → CountWord) (who : ℕ) (d : Disk) (b : Parts) (s u : State) (slot : ℕ) (row : Row) (v : IsVolume d b s)
+    (may : MayRecount d row (f row).rfc (f row).uc)
     (at_slot : IsAtSlot d slot row) where
   slot_small : slot < slots b.geometry
-  slot_small = subst (λ (g : Geometry). slot < slots g) (sym v.table.geometry ∙ v.fast.geometry) (row_small d s.now b.fact (is_table d b s v) slot row at_slot)
+  slot_small = subst (λ (g : Geometry). slot < slots g) (sym v.table.geometry ∙ v.fast.geometry) (row_small d s.now b.fact (is_table d b s v) slot row
+      at_slot)
 
-module _ (f : Row → CountWord) (who : ℕ) (d : Disk) (b b' : Parts) (s u : State) (slot word : ℕ) (row : Row) (v : IsVolume d b s) (is : CountEvent f who d b b' s u slot word row) where
+module _ (f : Row → CountWord) (who : ℕ) (d : Disk) (b b' : Parts) (s u : State) (slot word : ℕ) (row : Row) (v : IsVolume d b s)
+    (is : CountEvent f who d b b' s u slot word row) where
   abbrev e : Disk
   e = count_changed f d slot row
 
@@ -107,7 +123,8 @@ module _ (f : Row → CountWord) (who : ℕ) (d : Disk) (b b' : Parts) (s u : St
   fast = fast_after f who d t row slot s u b.geometry is.counted.at_slot v.fast (is_table d b s v) may is.counted.only is.counted.settles
 
   counts : AreCounted e b'
-  counts = subst (λ (x : ℕ). AreCounted (recounted d x (f row).rfc (f row).uc) b') is.counted.at_slot.slot_is (counts_move d b b' row (f row).rfc (f row).uc is.moves v.counts)
+  counts = subst (λ (x : ℕ). AreCounted (recounted d x (f row).rfc (f row).uc) b') is.counted.at_slot.slot_is
+      (counts_move d b b' row (f row).rfc (f row).uc is.moves v.counts)
 
   leaves_rest : LeavesRest who [] [] d e s u
   leaves_rest = leaves_after f who d t row slot s u b.geometry is.counted.at_slot v.fast (is_table d b s v) may is.counted.only is.counted.others
@@ -144,19 +161,22 @@ module _ (f : Row → CountWord) (who : ℕ) (d : Disk) (b b' : Parts) (s u : St
         (unused_after f who d t row slot s u b.geometry is.counted.at_slot v.fast (is_table d b s v) may is.counted.only)
         (unused_before f who d t row slot s u b.geometry is.counted.at_slot v.fast (is_table d b s v) may is.counted.only) v.space;
     table = subst (λ (x : Table). AreSlotsOf e x) (sym is.kept.fact)
-        (table_stays e u.now t (table_after f who d t row slot s u b.geometry is.counted.at_slot v.fast (is_table d b s v) may is.counted.only is.counted.settles));
+        (table_stays e u.now t (table_after f who d t row slot s u b.geometry is.counted.at_slot v.fast (is_table d b s v) may is.counted.only
+        is.counted.settles));
     counts = counts;
     flights = flights_after;
     queue = queue_stays d e.chain e.pointer b b' is.hands v.queue;
     sharing = shares_after;
     reclaiming = record {
-      waiting = is.waiting ∙ ap (λ (n : ℕ). one_if b'.reclaiming.zero_check + 2 * length b'.reclaiming.releases.items + n) (sym (dying_same d e.chain e.pointer));
+      waiting = is.waiting ∙ ap (λ (n : ℕ). one_if b'.reclaiming.zero_check + 2 * length b'.reclaiming.releases.items + n)
+          (sym (dying_same d e.chain e.pointer));
       zero_check = λ x at. row_kept d slot (f row).rfc (f row).uc x (is.checked x at);
       raised = raised_after;
     };
     pointers = no_stale_after f who d t row slot s u b.geometry is.counted.at_slot v.fast (is_table d b s v) may is.counted.only v.pointers;
     room = is.room;
-    trace = names_more b b' (record { slot = slot; word = word }) is.kept.geometry is.trace (slot_small f who d b s u slot row v may is.counted.at_slot) v.trace;
+    trace = names_more b b' (record { slot = slot; word = word }) is.kept.geometry is.trace
+        (slot_small f who d b s u slot row v may is.counted.at_slot) v.trace;
     still = still_settles who b b' s u is.counted.own is.same v.still;
   }
 
@@ -172,13 +192,16 @@ slot_high : (g : Geometry) (slot a : ℕ) → a < 4 → a ≡ slot_word g slot 4
 slot_high g slot a low is = omega (arith, low, is)
 
 -- so the event keeps its promise
-module _ {D F : Type 0} (state : D → State) (print : Print) (f : Row → CountWord) (who : ℕ) (w w' : Volume D F) (d : Disk) (slot word : ℕ) (row : Row) (v : IsVolume d w.parts (state w.device)) where
-  pub event_moves : Agree (state w'.device).now (state w'.device).past → CountEvent f who d w.parts w'.parts (state w.device) (state w'.device) slot word row → MovesOn state print who w w' d
+module _ {D F : Type 0} (state : D → State) (print : Print) (f : Row → CountWord) (who : ℕ) (w w' : Volume D F) (d : Disk) (slot word : ℕ) (row : Row)
+    (v : IsVolume d w.parts (state w.device)) where
+  pub event_moves : Agree (state w'.device).now (state w'.device).past → CountEvent f who d w.parts w'.parts (state w.device) (state w'.device) slot
+      word row → MovesOn state print who w w' d
   event_moves agree is = record {
     after = count_changed f d slot row;
     moves = record {
       volume = volume_after f who d w.parts w'.parts (state w.device) (state w'.device) slot word row v is;
-      images = between f who d w.parts.fact row slot (state w.device) (state w'.device) w.parts.geometry is.counted.at_slot v.fast (is_table d w.parts (state w.device) v) is.moves.here.may is.counted.only print agree is.counted.leaves;
+      images = between f who d w.parts.fact row slot (state w.device) (state w'.device) w.parts.geometry is.counted.at_slot v.fast
+          (is_table d w.parts (state w.device) v) is.moves.here.may is.counted.only print agree is.counted.leaves;
       own = recount_own d slot (f row).rfc (f row).uc print;
       accounts = λ own. recount_accounts d slot (f row).rfc (f row).uc print;
       traces = traces_after f who d w.parts w'.parts (state w.device) (state w'.device) slot word row v is;
@@ -187,7 +210,8 @@ module _ {D F : Type 0} (state : D → State) (print : Print) (f : Row → Count
       geometry = is.kept.geometry;
       faults = is.counted.faults;
     };
-    quiet = quiet f who d w.parts.fact row slot (state w.device) (state w'.device) w.parts.geometry is.counted.at_slot v.fast (is_table d w.parts (state w.device) v) is.moves.here.may is.counted.only;
+    quiet = quiet f who d w.parts.fact row slot (state w.device) (state w'.device) w.parts.geometry is.counted.at_slot v.fast
+        (is_table d w.parts (state w.device) v) is.moves.here.may is.counted.only;
     ops = is.ops;
     history = is.kept.history;
   }
@@ -208,13 +232,16 @@ module _ {D F : Type 0} (state : D → State) (print : Print) (f : Row → Count
     }
 
     pub event_breaks : Agree (state w'.device).now (state w'.device).past → LeavesTables f w.parts.fact slot (state w.device) (state w'.device)
-        → (state w.device).faults ≤ (state w'.device).faults → Rose (state w.device).faults (state w'.device).faults → Breaks state print who None w w' d
+        → (state w.device).faults ≤ (state w'.device).faults → Rose (state w.device).faults (state w'.device).faults → Breaks state print who None w
+        w' d
     event_breaks agree leaves faults rose = record {
       stopped = event_stopped;
       after = count_changed f d slot row;
-      images = between f who d w.parts.fact row slot (state w.device) (state w'.device) w.parts.geometry at_slot v.fast (is_table d w.parts (state w.device) v) may only print agree leaves;
+      images = between f who d w.parts.fact row slot (state w.device) (state w'.device) w.parts.geometry at_slot v.fast
+          (is_table d w.parts (state w.device) v) may only print agree leaves;
       rose = rose;
-      quiet = λ none. quiet f who d w.parts.fact row slot (state w.device) (state w'.device) w.parts.geometry at_slot v.fast (is_table d w.parts (state w.device) v) may only;
+      quiet = λ none. quiet f who d w.parts.fact row slot (state w.device) (state w'.device) w.parts.geometry at_slot v.fast
+          (is_table d w.parts (state w.device) v) may only;
       ops = ops_same w.parts w'.parts stops.flights;
       others = record {
         flights = λ q some other. ap (λ (fs : List (Option Flight)). flight_at fs (q - 1)) stops.flights;

@@ -50,7 +50,8 @@ module _ (d : Disk) (ino cut : ℕ) (may : MayFall d ino cut) where
   -- its places
   pub place_here : (idx : ℕ) (x y : InodeState) → IsInodeOf d ino x → FallsTo cut x y → get y.map.map idx ≡ option_map kept (maps e ino idx)
   place_here idx x y is falls = elim (cases_lt idx cut) [
-    | inl low ↦ falls.map.below idx low ∙ is.places idx ∙ ap (option_map kept) (sym (unmaps.remaps.other_places idx (λ same. omega (arith, low, same))))
+    | inl low ↦ falls.map.below idx low ∙ is.places idx ∙ ap (option_map kept)
+        (sym (unmaps.remaps.other_places idx (λ same. omega (arith, low, same))))
     | inr high ↦ falls.map.gone idx high ∙ ap (option_map kept) (sym (past idx high))
   ]
     where
@@ -69,14 +70,16 @@ module _ (d : Disk) (ino cut : ℕ) (may : MayFall d ino cut) where
   }
 
   pub fall_nodes : (old new : List InodeState) → ChangesOne (FallsTo cut) ino old new → AreInodesOf d old → AreInodesOf e new
-  fall_nodes old new change are = nodes_are (FallsTo cut) ino old new change (omega (arith, may.in_table, are.all)) d e are (same_geometry d ino (Falls cut))
+  fall_nodes old new change are = nodes_are (FallsTo cut) ino old new change (omega (arith, may.in_table, are.all)) d e are
+      (same_geometry d ino (Falls cut))
       (at_other d ino (Falls cut)) fall_living.maps_others here
 
   -- four units of work less
   pub fall_units : total e.geometry.inodes (dying_units e) + 4 ≡ total d.geometry.inodes (dying_units d)
   fall_units =
       let less = places_less d e ino cut may.by lowers.in_file may.mapped unmaps.gone unmaps.remaps.other_places in
-      let moved = units_move d e ino may.in_table lowers.inodes (λ i ne. ap (λ (n : Inode). n.use_of) (at_other d ino (Falls cut) i ne)) fall_living.maps_others in
+      let moved = units_move d e ino may.in_table lowers.inodes (λ i ne. ap (λ (n : Inode). n.use_of) (at_other d ino (Falls cut) i ne))
+      fall_living.maps_others in
       let before = units_dying d ino may.before may.dying in
       let after = units_dying e ino cut lowers.now in
       omega (arith, less, moved, before, after)
@@ -84,13 +87,28 @@ module _ (d : Disk) (ino cut : ℕ) (may : MayFall d ino cut) where
   -- the page, once it has no row
   pub fall_freed : IsNone (row_of (rows d) may.by.block) → (page : ℕ) → IsUnused d page ⊎ (page ≡ may.by.block) → IsUnused e page
   fall_freed none page is = record {
-    free = ⊎_elim (λ (was : IsUnused d page). fall_living.free_kept page was.free) (λ (same : page ≡ may.by.block). subst (IsFree e) (sym same) (drops.freed none)) is;
+    free = ⊎_elim (λ (was : IsUnused d page). fall_living.free_kept page was.free) (λ (same : page ≡ may.by.block). subst (IsFree e) (sym same)
+        (drops.freed none)) is;
     no_row = subst (λ (rs : List Row). IsNone (row_of rs page)) (sym fall_living.rows_same)
-        (⊎_elim (λ (was : IsUnused d page). was.no_row) (λ (same : page ≡ may.by.block). subst (λ (p : ℕ). IsNone (row_of (rows d) p)) (sym same) none) is);
+        (⊎_elim (λ (was : IsUnused d page). was.no_row) (λ (same : page ≡ may.by.block). subst (λ (p : ℕ). IsNone (row_of (rows d) p)) (sym same)
+        none) is);
   }
 
   pub fall_before : (page : ℕ) → IsUnused e page → IsUnused d page ⊎ (page ≡ may.by.block)
-  fall_before page is = ⊎_elim (λ free. inl (record { free = free; no_row = subst (λ (rs : List Row). IsNone (row_of rs page)) fall_living.rows_same is.no_row })) (λ same. inr same) (drops.free_only page is.free)
+  fall_before page is = ⊎_elim
+      (λ free. inl (record { free = free; no_row = subst (λ (rs : List Row). IsNone (row_of rs page)) fall_living.rows_same is.no_row }))
+      (λ same. inr same) (drops.free_only page is.free)
 
   pub fall_used : (page : ℕ) → page ≡ may.by.block → IsUnused d page → ⊥
-  fall_used page same unused = not_mapped d page unused (record { ino = ino; idx = cut; maps_to = record { in_table = may.in_table; in_file = lowers.in_file; by = may.by; is = may.mapped; block = sym same } })
+  fall_used page same unused = not_mapped d page unused
+      (record {
+        ino = ino;
+        idx = cut;
+        maps_to = record {
+          in_table = may.in_table;
+          in_file = lowers.in_file;
+          by = may.by;
+          is = may.mapped;
+          block = sym same;
+        };
+      })

@@ -22,7 +22,8 @@ one_more f = record f { raised = f.raised + 1 }
 
 pub in_range : (b : Parts) (who : ℕ) (f : Flight) → Flies b who f → who - 1 < length b.flights.items
 in_range b who f flies = ⊎_elim (λ found. found.1)
-    (λ past. absurd (none_some f (flight_at b.flights.items (who - 1)) (ap (λ (x : Option (Option Flight)). opened x) past.1) flies.is)) (slice_get_cases b.flights.items (who - 1)).1
+    (λ past. absurd (none_some f (flight_at b.flights.items (who - 1)) (ap (λ (x : Option (Option Flight)). opened x) past.1) flies.is))
+    (slice_get_cases b.flights.items (who - 1)).1
   where
     none_some : (x : Flight) (r : Option Flight) → r ≡ None → r ≡ Some x → ⊥
     none_some x r none some = cc
@@ -47,13 +48,41 @@ same_flight b who f g one other = same (flight_at b.flights.items (who - 1)) one
 
 module _ (d : Disk) (who : ℕ) (f : Flight) (c : DataChange) (s : State) where
   grows_more : GrowsBy d f → GrowsBy d (one_more f)
-  grows_more is = record { in_table = is.in_table; live = is.live; holds = is.holds; room = is.room; apart = is.apart; takes = is.takes; undying = is.undying }
+  grows_more is = record {
+    in_table = is.in_table;
+    live = is.live;
+    holds = is.holds;
+    room = is.room;
+    apart = is.apart;
+    takes = is.takes;
+    undying = is.undying;
+  }
 
   plans_more : (op : Op) → PlansData d f c op → PlansData d (one_more f) c op
   plans_more (Create name) is = absurd is
-  plans_more (Write name at text) is = record { held = is.held; legal = is.legal; leads = is.leads; some = is.some; short = is.short; fits = is.fits; first = is.first; places = is.places; size_is = is.size_is; rows = is.rows }
+  plans_more (Write name at text) is = record {
+    held = is.held;
+    legal = is.legal;
+    leads = is.leads;
+    some = is.some;
+    short = is.short;
+    fits = is.fits;
+    first = is.first;
+    places = is.places;
+    size_is = is.size_is;
+    rows = is.rows;
+  }
   plans_more (Read name at count) is = absurd is
-  plans_more (Cut name to) is = record { held = is.held; legal = is.legal; leads = is.leads; fits = is.fits; first = is.first; places = is.places; size_is = is.size_is; rows = is.rows }
+  plans_more (Cut name to) is = record {
+    held = is.held;
+    legal = is.legal;
+    leads = is.leads;
+    fits = is.fits;
+    first = is.first;
+    places = is.places;
+    size_is = is.size_is;
+    rows = is.rows;
+  }
   plans_more (Remove name) is = absurd is
   plans_more (Rename from to) is = absurd is
   plans_more (Size name) is = absurd is
@@ -75,9 +104,11 @@ module _ (d : Disk) (who : ℕ) (f : Flight) (c : DataChange) (s : State) where
     in_turn = λ any. full;
   }
 
-  pub flight_more : f.change ≡ Data c → c.filled ≡ length c.blocks.items → f.raised < length f.rows.items → IsFlight d who f s → IsFlight d who (one_more f) s
+  pub flight_more : f.change ≡ Data c → c.filled ≡ length c.blocks.items → f.raised < length f.rows.items → IsFlight d who f s
+      → IsFlight d who (one_more f) s
   flight_more data_is full some is =
-      subst (λ (x : Change). IsFlightOf d who (one_more f) s x) (sym data_is) (data_more full some (subst (λ (x : Change). IsFlightOf d who f s x) data_is is))
+      subst (λ (x : Change). IsFlightOf d who (one_more f) s x) (sym data_is)
+      (data_more full some (subst (λ (x : Change). IsFlightOf d who f s x) data_is is))
 
 pub set_long : (xs : List (Option Flight)) (k : ℕ) (x : Option Flight) → length (slice_set xs k x) ≡ length xs
 set_long xs k x = length-set xs k x

@@ -29,8 +29,10 @@ use Rattle.reclaim.proofs.FallEvent.{fall_event, same_rows}
 use Rattle.reclaim.proofs.Dropped.{no_raised}
 
 -- Where the rows, the raised place and the releases stay, and mappings of rows' pages too, the counts stay.
-module _ (d e : Disk) (b b' : Parts) (kept : KeepsWork b b') (zero_same : b'.reclaiming.zero_check ≡ b.reclaiming.zero_check) (raised_still : b'.reclaiming.raised ≡ b.reclaiming.raised)
-    (releases : b'.reclaiming.releases ≡ b.reclaiming.releases) (rows_same : rows e ≡ rows d) (mappings_same : (row : Row) → Contains (rows d) row → mappings e row.page ≡ mappings d row.page) where
+module _ (d e : Disk) (b b' : Parts) (kept : KeepsWork b b') (zero_same : b'.reclaiming.zero_check ≡ b.reclaiming.zero_check)
+    (raised_still : b'.reclaiming.raised ≡ b.reclaiming.raised)
+    (releases : b'.reclaiming.releases ≡ b.reclaiming.releases) (rows_same : rows e ≡ rows d) (mappings_same : (row : Row) → Contains (rows d) row
+    → mappings e row.page ≡ mappings d row.page) where
   pub counts_stay : AreCounted d b → AreCounted e b'
   counts_stay was = mappings_counted d e b b' (λ slot. 0) (λ slot. 0) (record {
     rows_same = rows_same;
@@ -45,7 +47,8 @@ module _ (d e : Disk) (b b' : Parts) (kept : KeepsWork b b') (zero_same : b'.rec
         omega (arith, was.few, sum, long, one);
   }) was
 
-module _ (d : Disk) (b b' : Parts) (s u : State) (v : IsVolume d b s) (ino place page : ℕ) (last : IsLastPlace d ino place page) (none : HasNoneOf d page) (unraised : b.reclaiming.raised ≡ None)
+module _ (d : Disk) (b b' : Parts) (s u : State) (v : IsVolume d b s) (ino place page : ℕ) (last : IsLastPlace d ino place page)
+    (none : HasNoneOf d page) (unraised : b.reclaiming.raised ≡ None)
     (change : FreesPlace ino place page b b') where
   abbrev e : Disk
   e = stepped d ino (Falls place)
@@ -67,12 +70,14 @@ module _ (d : Disk) (b b' : Parts) (s u : State) (v : IsVolume d b s) (ino place
 
   reclaiming : IsReclaiming e b'
   reclaiming = record {
-    waiting = let units = fall_units d ino place may in let long = ap (λ (r : _). length r.items) change.releases in omega (arith, v.reclaiming.waiting, units, change.waiting, long, none_then, none_now, zero_same);
+    waiting = let units = fall_units d ino place may in let long = ap (λ (r : _). length r.items) change.releases in
+        omega (arith, v.reclaiming.waiting, units, change.waiting, long, none_then, none_now, zero_same);
     zero_check = λ slot is. same_rows d e (fall_living d ino place may).rows_same slot (v.reclaiming.zero_check slot (sym change.zero_check ∙ is));
     raised = λ q is. absurd (no_raised q b'.reclaiming.raised (change.raised ∙ unraised) is);
   }
 
-  module _ (units : b.owed.units + 3 ≤ s.spare) (spare : s.spare ≤ u.spare + 3) (only : StoresOnly (λ a. a ≡ inode_word ino 3) s u) (others : KeepsFlushed (Others 16) (λ a. a ≡ inode_word ino 3) s u)
+  module _ (units : b.owed.units + 3 ≤ s.spare) (spare : s.spare ≤ u.spare + 3) (only : StoresOnly (λ a. a ≡ inode_word ino 3) s u)
+      (others : KeepsFlushed (Others 16) (λ a. a ≡ inode_word ino 3) s u)
       (done : IsDone 16 (inode_word ino 3) place s u) (settles : SettlesAll 16 s u) where
     moves : MovesRoom b b' s u
     moves = record {

@@ -28,7 +28,8 @@ module _ (d : Disk) (b : Parts) (s : State) (v : IsVolume d b s) where
   module _ (slot : ℕ) (row : Row) (is : IsAtSlot d slot row) where
     settle_maps : (sharing : Sharing) → b.sharing ≡ Some sharing → IsToSettle d sharing slot → 1 ≤ mappings d row.page
     settle_maps sharing begun to =
-        let same : to.row ≡ row = distinct_same (λ (x : Row). x.slot) (rows d) v.fast.valid.rows_apart.slot to.row row to.at_slot.there is.there (to.at_slot.slot_is ∙ sym is.slot_is) in
+        let same : to.row ≡ row = distinct_same (λ (x : Row). x.slot) (rows d) v.fast.valid.rows_apart.slot to.row row to.at_slot.there is.there
+        (to.at_slot.slot_is ∙ sym is.slot_is) in
         let item = (v.sharing sharing begun).begun in
         mapped_counts d row.page (record {
           ino = sharing.work.ino;
@@ -45,7 +46,8 @@ module _ (d : Disk) (b : Parts) (s : State) (v : IsVolume d b s) where
     pub added_maps : added b slot ≤ mappings d row.page
     added_maps = by_sharing b.sharing refl
       where
-        by_step : (sharing : Sharing) → b.sharing ≡ Some sharing → (step : SharingStep) → IsAtStep d sharing step → times slot (added_at step) ≤ mappings d row.page
+        by_step : (sharing : Sharing) → b.sharing ≡ Some sharing → (step : SharingStep) → IsAtStep d sharing step
+            → times slot (added_at step) ≤ mappings d row.page
         by_step sharing begun Look at = omega arith
         by_step sharing begun (Remap other) at = omega arith
         by_step sharing begun (Settle other) at = elim (cases_eq other slot) [
@@ -53,13 +55,16 @@ module _ (d : Disk) (b : Parts) (s : State) (v : IsVolume d b s) where
               let some = settle_maps sharing begun (subst (IsToSettle d sharing) here at) in
               let one : times slot (other ∷ []) ≡ 1 = ap (λ (t : Bool). (if t then 1 else 0) + 0) (same_test other slot here) in
               omega (arith, one, some)
-          | inr there ↦ let none : times slot (other ∷ []) ≡ 0 = ap (λ (t : Bool). (if t then 1 else 0) + 0) (other_test other slot there) in omega (arith, none)
+          | inr there ↦ let none : times slot (other ∷ []) ≡ 0 = ap (λ (t : Bool). (if t then 1 else 0) + 0) (other_test other slot there) in
+              omega (arith, none)
         ]
 
         by_sharing : (x : Option Sharing) → b.sharing ≡ x → times slot (added_to_share b.sharing) ≤ mappings d row.page
-        by_sharing None none = let zero : times slot (added_to_share b.sharing) ≡ 0 = ap (λ (x : Option Sharing). times slot (added_to_share x)) none in omega (arith, zero)
+        by_sharing None none = let zero : times slot (added_to_share b.sharing) ≡ 0 = ap (λ (x : Option Sharing). times slot (added_to_share x))
+            none in omega (arith, zero)
         by_sharing (Some sharing) begun =
-            let there : times slot (added_to_share b.sharing) ≡ times slot (added_at sharing.step) = ap (λ (x : Option Sharing). times slot (added_to_share x)) begun in
+            let there : times slot (added_to_share b.sharing) ≡ times slot (added_at sharing.step) = ap
+            (λ (x : Option Sharing). times slot (added_to_share x)) begun in
             omega (arith, there, by_step sharing begun sharing.step (v.sharing sharing begun).step)
 
   -- the first release

@@ -1,5 +1,34 @@
 -- The pages of a log are given back one after another.
-use Rattle.std.proofs.Common.{◌≡◌, ◌≢◌, ◌⊎◌, inl, inr, ⊎_elim, ℕ, zero, suc, ◌+◌, ◌-◌, ◌*◌, ◌/◌, ◌%◌, ◌<◌, ◌≤◌, true, false, eqb, get_or, List, length, refl, sym, ◌∙◌, ap, subst, arith}
+use Rattle.std.proofs.Common.{
+  ◌≡◌,
+  ◌≢◌,
+  ◌⊎◌,
+  inl,
+  inr,
+  ⊎_elim,
+  ℕ,
+  zero,
+  suc,
+  ◌+◌,
+  ◌-◌,
+  ◌*◌,
+  ◌/◌,
+  ◌%◌,
+  ◌<◌,
+  ◌≤◌,
+  true,
+  false,
+  eqb,
+  get_or,
+  List,
+  length,
+  refl,
+  sym,
+  ◌∙◌,
+  ap,
+  subst,
+  arith,
+}
 use Rattle.std.specs.Prelude.{slice_index, Contains}
 use Rattle.std.proofs.lemmas.Bool.{cases_eq, cases_lt, false≢true}
 use Rattle.std.proofs.lemmas.Bool.Decides.{nat_tests}
@@ -25,7 +54,8 @@ use Rattle.reclaim.proofs.SpaceGained.{gives_one}
 use Rattle.reclaim.proofs.EndedInode.{end_used}
 
 -- one page more
-pub among_next : (pages : List ℕ) (k : ℕ) (old now new : FreePages) → Gives (IsAmong pages k) old now → GivesBack (slice_index pages k) now new → IsInOrder new → Gives (IsAmong pages (k + 1)) old new
+pub among_next : (pages : List ℕ) (k : ℕ) (old now new : FreePages) → Gives (IsAmong pages k) old now → GivesBack (slice_index pages k) now new
+    → IsInOrder new → Gives (IsAmong pages (k + 1)) old new
 among_next pages k old now new so_far back order = record {
   pages = back.pages ∙ so_far.pages;
   free = λ p. (to p, from p);
@@ -38,7 +68,8 @@ among_next pages k old now new so_far back order = record {
 
     to : (p : ℕ) → Contains new.free p → Contains old.free p ⊎ IsAmong pages (k + 1) p
     to p there = ⊎_elim
-        (λ (before : Contains now.free p). ⊎_elim (λ (was : Contains old.free p). inl was) (λ (a : IsAmong pages k p). inr (record { i = a.i; below = omega (arith, a.below); is = a.is })) ((so_far.free p).0 before))
+        (λ (before : Contains now.free p). ⊎_elim (λ (was : Contains old.free p). inl was)
+        (λ (a : IsAmong pages k p). inr (record { i = a.i; below = omega (arith, a.below); is = a.is })) ((so_far.free p).0 before))
         (λ (e : p ≡ slice_index pages k). inr (record { i = k; below = omega arith; is = sym e })) ((one.free p).0 there)
 
     at_last : (p : ℕ) (a : IsAmong pages (k + 1) p) → k ≤ a.i → p ≡ slice_index pages k
@@ -65,15 +96,18 @@ pub among_all : (pages : List ℕ) (k : ℕ) (old now : FreePages) → k ≡ len
 among_all pages k old now all gives = record {
   pages = gives.pages;
   free = λ p. (
-    (λ there. ⊎_elim (λ was. inl was) (λ a. inr (subst (Contains pages) a.is (Contains-get_or pages a.i 0 (omega (arith, a.below, all))))) ((gives.free p).0 there)),
-    (λ h. (gives.free p).1 (⊎_elim (λ was. inl was) (λ has. inr (record { i = has.0; below = omega (arith, has.1, all); is = get_or_default pages has.0 0 p has.1 ∙ has.2 })) h)),
+    (λ there. ⊎_elim (λ was. inl was) (λ a. inr (subst (Contains pages) a.is (Contains-get_or pages a.i 0 (omega (arith, a.below, all)))))
+        ((gives.free p).0 there)),
+    (λ h. (gives.free p).1 (⊎_elim (λ was. inl was)
+        (λ has. inr (record { i = has.0; below = omega (arith, has.1, all); is = get_or_default pages has.0 0 p has.1 ∙ has.2 })) h)),
   );
   no_less = gives.no_less;
   in_order = gives.in_order;
 }
 
 -- the next one isn't free
-pub among_taken : (pages : List ℕ) (k : ℕ) (old now : FreePages) → k < length pages → AreApart pages → ((p : ℕ) → Contains pages p → Contains old.free p → ⊥) → Gives (IsAmong pages k) old now
+pub among_taken : (pages : List ℕ) (k : ℕ) (old now : FreePages) → k < length pages → AreApart pages
+    → ((p : ℕ) → Contains pages p → Contains old.free p → ⊥) → Gives (IsAmong pages k) old now
     → Contains now.free (slice_index pages k) → ⊥
 among_taken pages k old now lt apart taken gives there = ⊎_elim (taken (slice_index pages k) (Contains-get_or pages k 0 lt))
     (λ a. let same = apart a.i k (omega (arith, a.below, lt)) lt a.is in omega (arith, same, a.below)) ((gives.free (slice_index pages k)).0 there)
@@ -81,7 +115,8 @@ among_taken pages k old now lt apart taken gives there = ⊎_elim (taken (slice_
 -- the last page, and only that one, is the tail's
 module _ (words : List ℕ) (g : Geometry) (ino : ℕ) (pages : List ℕ) (leads : LeadsThrough words g ino pages) where
   pub is_last : (k : ℕ) → k < length pages → slice_index pages k ≡ slice_index words (inode_word ino 2) / 64 → k + 1 ≡ length pages
-  is_last k lt same = let at = leads.apart k (length pages - 1) lt (omega (arith, lt)) (same ∙ leads.last (omega (arith, lt))) in omega (arith, at, lt)
+  is_last k lt same = let at = leads.apart k (length pages - 1) lt (omega (arith, lt)) (same ∙ leads.last (omega (arith, lt))) in
+      omega (arith, at, lt)
 
   pub not_last : (k : ℕ) → k < length pages → slice_index pages k ≢ slice_index words (inode_word ino 2) / 64 → k + 1 < length pages
   not_last k lt ne = elim (cases_eq (k + 1) (length pages)) [
@@ -121,12 +156,14 @@ few_pages pages n apart below = length-le_from_distinct_below pages n (IsDistinc
     unequal a b ne = grind (arith, nat_tests)
 
     differ : (i j d : ℕ) → i < j → j < length pages → eqb (get_or pages i d) (get_or pages j d) ≡ false
-    differ i j d lt jl = unequal _ _ (λ e. let same : i ≡ j = apart i j (omega arith) jl (sym (value i d (omega arith)) ∙ e ∙ value j d jl) in omega arith)
+    differ i j d lt jl = unequal _ _ (λ e. let same : i ≡ j = apart i j (omega arith) jl (sym (value i d (omega arith)) ∙ e ∙ value j d jl) in
+        omega arith)
 
     within : (q : ℕ) → list_any (eqb q) pages ≡ true → q < n
     within q any = elim (cases_lt q n) [
       | inl low ↦ low
-      | inr high ↦ absurd (false≢true (sym (list_any_none (eqb q) pages (λ k d lt. unequal q _ (λ e. omega (arith, high, e, value k d lt, below k lt)))) ∙ any))
+      | inr high ↦ absurd (false≢true
+          (sym (list_any_none (eqb q) pages (λ k d lt. unequal q _ (λ e. omega (arith, high, e, value k d lt, below k lt)))) ∙ any))
     ]
 
 module _ (d : Disk) (b : Parts) (s : State) (v : IsVolume d b s) (ino : ℕ) (may : MayEnd d ino) where
@@ -159,7 +196,8 @@ module _ (d : Disk) (b : Parts) (s : State) (v : IsVolume d b s) (ino : ℕ) (ma
     none = λ none. tail_reads ∙ tail_none log.pages (count log) (none_of none);
     some = λ some zero. tail_some log.pages (count log) (many some) (sym tail_reads ∙ zero);
     last = λ some. ap (λ (t : ℕ). t / 64) tail_reads ∙ tail_page log.pages (count log) (many some) ∙ ap (slice_index log.pages) (last_of some);
-    head = λ some. v.fast.stands.reads _ _ (of_logs (record { ino = ino; in_table = may.in_table; used = used; says = at_head (many some) refl refl }));
+    head = λ some. v.fast.stands.reads _ _
+        (of_logs (record { ino = ino; in_table = may.in_table; used = used; says = at_head (many some) refl refl }));
     footer = λ k lt. v.fast.stands.reads _ _ (of_logs (record { ino = ino; in_table = may.in_table; used = used; says = at_footer k lt refl refl }));
     apart = λ i j il jl same. paged.apart i j il jl same;
     inside = inside;
@@ -179,7 +217,8 @@ module _ (d : Disk) (b : Parts) (s : State) (v : IsVolume d b s) (ino : ℕ) (ma
   }
 
 -- the steps of the walk
-module _ (words : List ℕ) (g : Geometry) (ino : ℕ) (tail : ℕ) (tail_is : tail ≡ slice_index words (inode_word ino 2)) (pages : List ℕ) (leads : LeadsThrough words g ino pages) (i page : ℕ) (old now : FreePages)
+module _ (words : List ℕ) (g : Geometry) (ino : ℕ) (tail : ℕ) (tail_is : tail ≡ slice_index words (inode_word ino 2)) (pages : List ℕ)
+    (leads : LeadsThrough words g ino pages) (i page : ℕ) (old now : FreePages)
     (at : IsWalking pages i page old now) where
   pub walk_taken : ((p : ℕ) → Contains pages p → Contains old.free p → ⊥) → Contains now.free page → ⊥
   walk_taken taken there = among_taken pages i old now at.inside leads.apart taken at.given (subst (Contains now.free) at.at there)
@@ -189,7 +228,8 @@ module _ (words : List ℕ) (g : Geometry) (ino : ℕ) (tail : ℕ) (tail_is : t
     gave = among_next pages i old now new at.given (subst (λ (p : ℕ). GivesBack p now new) at.at back) order
 
     pub walk_last : page ≡ tail / 64 → Gives (Contains pages) old new
-    walk_last same = among_all pages (i + 1) old new (is_last words g ino pages leads i at.inside (sym at.at ∙ same ∙ ap (λ (t : ℕ). t / 64) tail_is)) gave
+    walk_last same = among_all pages (i + 1) old new (is_last words g ino pages leads i at.inside (sym at.at ∙ same ∙ ap (λ (t : ℕ). t / 64) tail_is))
+        gave
 
     pub walk_on : (next : ℕ) → (page ≡ tail / 64 → ⊥) → next ≡ slice_index words (512 * page + 504) → IsWalking pages (i + 1) next old new
     walk_on next other is =

@@ -52,7 +52,8 @@ inside_list xs k x is = ⊎_elim (λ found. found.1) (λ past. absurd (no_node x
 -- from the cut on nothing is mapped
 past_cut : (d : Disk) (ino cut idx : ℕ) → (d.inode ino).use_of ≡ Dying cut → cut ≤ idx → maps d ino idx ≡ None
 unfolding maps
-past_cut d ino cut idx dying le = ap (λ (u : Use). maps_by_use u (d.inode ino).log idx) dying ∙ ap (λ (b : Bool). if b then mapping (d.inode ino).log idx else None) (test idx cut le)
+past_cut d ino cut idx dying le = ap (λ (u : Use). maps_by_use u (d.inode ino).log idx) dying ∙ ap (λ (b : Bool). if b then mapping (d.inode ino).log
+    idx else None) (test idx cut le)
   where
     test : (a b : ℕ) → b ≤ a → nat_lt a b ≡ false
     test a b le = grind (arith, nat_tests)
@@ -108,15 +109,42 @@ module _ (d : Disk) (b : Parts) (s : State) (v : IsVolume d b s) (ino : ℕ) whe
 
     -- its page lies in the image, and isn't free
     pub page_inside : page < d.geometry.pages
-    page_inside = (read_in_data d v.fast.valid page (inl (record { ino = ino; idx = place; maps_to = record { in_table = last.in_table; in_file = in_file; by = last.by; is = last.mapped; block = last.block } }))).high
+    page_inside = (read_in_data d v.fast.valid page
+        (inl (record {
+          ino = ino;
+          idx = place;
+          maps_to = record {
+            in_table = last.in_table;
+            in_file = in_file;
+            by = last.by;
+            is = last.mapped;
+            block = last.block;
+          };
+        }))).high
 
     pub page_used : Contains b.free.free page → ⊥
     page_used free = not_mapped d page ((v.space.free page).0 free).0
-        (record { ino = ino; idx = place; maps_to = record { in_table = last.in_table; in_file = in_file; by = last.by; is = last.mapped; block = last.block } })
+        (record {
+          ino = ino;
+          idx = place;
+          maps_to = record {
+            in_table = last.in_table;
+            in_file = in_file;
+            by = last.by;
+            is = last.mapped;
+            block = last.block;
+          };
+        })
 
     -- five units of work are for it
     pub five_wait : 5 ≤ total d.geometry.inodes (dying_units d)
-    five_wait = let some = places_some d ino place last.by in_file last.mapped in omega (arith, units_some d ino last.in_table, units_dying d ino last.before last.dying, some)
+    five_wait = let some = places_some d ino place last.by in_file last.mapped in omega (
+      arith,
+      units_some d ino last.in_table,
+      units_dying d ino
+          last.before last.dying,
+      some,
+    )
 
     abbrev pub may_fall : HasNoneOf d page → MayFall d ino place
     may_fall none = record {
@@ -145,7 +173,8 @@ module _ (d : Disk) (b : Parts) (s : State) (v : IsVolume d b s) (ino : ℕ) whe
 
 -- where no inode is dying, no work is for any
 module _ (d : Disk) (b : Parts) (s : State) (v : IsVolume d b s) (none : (i : ℕ) → IsDying b.inodes.items i → ⊥) where
-  by_use : (i : ℕ) (x : InodeState) → slice_get b.inodes.items i ≡ Some x → (u : InodeUse) → x.used ≡ u → units_by_use (as_use u) (mapped_places d i) ≡ 0
+  by_use : (i : ℕ) (x : InodeState) → slice_get b.inodes.items i ≡ Some x → (u : InodeUse) → x.used ≡ u → units_by_use (as_use u) (mapped_places d i)
+      ≡ 0
   by_use i x there used.Free is = refl
   by_use i x there used.Live is = refl
   by_use i x there (used.Dying cut) is = absurd (none i (record { node = x; there = there; has = record { cut = cut; dying = is } }))

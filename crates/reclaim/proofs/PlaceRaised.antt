@@ -51,7 +51,8 @@ use Rattle.reclaim.proofs.UnitsLost.{units_dying, units_some}
 same_place : (p q : DyingPlace) (r : Option DyingPlace) → r ≡ Some p → r ≡ Some q → p ≡ q
 same_place p q r a b = cc
 
-module _ (d : Disk) (b b' : Parts) (s u : State) (v : IsVolume d b s) (p : DyingPlace) (word : ℕ) (at : IsRaised d p) (change : RaisesPlace p word b b') (unraised : b.reclaiming.raised ≡ None)
+module _ (d : Disk) (b b' : Parts) (s u : State) (v : IsVolume d b s) (p : DyingPlace) (word : ℕ) (at : IsRaised d p)
+    (change : RaisesPlace p word b b') (unraised : b.reclaiming.raised ≡ None)
     (none_wait : b.reclaiming.releases.items ≡ []) where
   abbrev row : Row
   row = at.row
@@ -63,8 +64,10 @@ module _ (d : Disk) (b b' : Parts) (s u : State) (v : IsVolume d b s) (p : Dying
   raised_more slot =
       let flown : total 14 (λ k. times slot (raised_by (flight_at b'.flights.items k))) ≡ total 14 (λ k. times slot (raised_by (flight_at b.flights.items k))) =
       ap (λ (fs : List (Option Flight)). total 14 (λ k. times slot (raised_by (flight_at fs k)))) change.flights in
-      let shared : times slot (raised_to_share b'.sharing) ≡ times slot (raised_to_share b.sharing) = ap (λ (x : Option Sharing). times slot (raised_to_share x)) change.sharing in
-      let now : times slot (raised_to_die b'.reclaiming.raised) ≡ times slot (p.slot ∷ []) = ap (λ (r : Option DyingPlace). times slot (raised_to_die r)) change.raised in
+      let shared : times slot (raised_to_share b'.sharing) ≡ times slot (raised_to_share b.sharing) = ap
+      (λ (x : Option Sharing). times slot (raised_to_share x)) change.sharing in
+      let now : times slot (raised_to_die b'.reclaiming.raised) ≡ times slot (p.slot ∷ []) = ap
+      (λ (r : Option DyingPlace). times slot (raised_to_die r)) change.raised in
       let was : times slot (raised_to_die b.reclaiming.raised) ≡ 0 = ap (λ (r : Option DyingPlace). times slot (raised_to_die r)) unraised in
       omega (arith, flown, shared, now, was)
 
@@ -77,7 +80,8 @@ module _ (d : Disk) (b b' : Parts) (s u : State) (v : IsVolume d b s) (p : Dying
   here : RecountsBalanced d row row.rfc (row.uc + 1) (raised b' p.slot) (added b' p.slot) (dropped b' p.slot)
   here =
       let balance = balance_at d b s v p.slot row at.at_slot in
-      let was = raise_balance d row v.fast.valid at.at_slot.there (raised b p.slot) (added b p.slot) (dropped b p.slot) balance (may_raise d b s v p.slot row at.at_slot) in
+      let was = raise_balance d row v.fast.valid at.at_slot.there (raised b p.slot) (added b p.slot) (dropped b p.slot) balance
+      (may_raise d b s v p.slot row at.at_slot) in
       record {
         may = was.may;
         balanced = record {
@@ -128,8 +132,10 @@ module _ (d : Disk) (b b' : Parts) (s u : State) (v : IsVolume d b s) (p : Dying
     page = at.page;
   }
 
-  module _ (counted : CountsOne raised_counts 16 d b s u p.slot row) (is_word : IsWordAfter raised_counts s.now b.fact p.slot word) (units : b.owed.units + RELEASE_UNITS ≤ s.spare) (spare : s.spare ≤ u.spare + 3)
-      (trace_room : vec_len b.trace + b.owed.trace + 1 ≤ vec_capacity b.trace) (release_room : deque_len b.reclaiming.releases + b.owed.releases + 1 ≤ deque_capacity b.reclaiming.releases) where
+  module _ (counted : CountsOne raised_counts 16 d b s u p.slot row) (is_word : IsWordAfter raised_counts s.now b.fact p.slot word)
+      (units : b.owed.units + RELEASE_UNITS ≤ s.spare) (spare : s.spare ≤ u.spare + 3)
+      (trace_room : vec_len b.trace + b.owed.trace + 1 ≤ vec_capacity b.trace) (release_room : deque_len b.reclaiming.releases + b.owed.releases + 1 ≤
+      deque_capacity b.reclaiming.releases) where
     owed_units : b'.owed.units ≡ b.owed.units + FALL_UNITS
     owed_units = ap (λ (r : Room). r.units) change.owed
 
@@ -164,9 +170,11 @@ module _ (d : Disk) (b b' : Parts) (s u : State) (v : IsVolume d b s) (p : Dying
       trace = omega (arith, trace_room, change.trace_len, change.trace_capacity, owed_trace);
       history = omega (arith, v.room.history, change.kept.history_len, change.kept.history_capacity, owed_history);
       queue = omega (arith, v.room.queue, change.kept.queue_room, owed_queue);
-      releases = let len = ap (λ (r : _). deque_len r) change.releases in let capacity = ap (λ (r : _). deque_capacity r) change.releases in omega (arith, release_room, len, capacity, owed_releases);
+      releases = let len = ap (λ (r : _). deque_len r) change.releases in let capacity = ap (λ (r : _). deque_capacity r) change.releases in
+          omega (arith, release_room, len, capacity, owed_releases);
       names = omega (arith, v.room.names, change.kept.names_room, owed_history);
-      places = λ who f c n flies is there. v.room.places who f c n (flies_before b b' change.flights who f flies) is (ap (λ (ns : List InodeState). slice_get ns f.ino) (sym change.kept.inodes) ∙ there);
+      places = λ who f c n flies is there. v.room.places who f c n (flies_before b b' change.flights who f flies) is
+          (ap (λ (ns : List InodeState). slice_get ns f.ino) (sym change.kept.inodes) ∙ there);
     }
 
     pub place_event : CountEvent raised_counts 16 d b b' s u p.slot word row
@@ -192,12 +200,20 @@ module _ (d : Disk) (b b' : Parts) (s u : State) (v : IsVolume d b s) (p : Dying
     }
 
 -- from what the calls give
-module _ {D F : Type 0} (state : D → State) (w : Volume D F) (p : DyingPlace) (place : (d : Disk) → IsVolume d w.parts (state w.device) → IsRaised d p) where
+module _ {D F : Type 0} (state : D → State) (w : Volume D F) (p : DyingPlace) (place : (d : Disk) → IsVolume d w.parts (state w.device)
+    → IsRaised d p) where
   pub place_row : Agrees state w → w.parts.stopped ≡ false → HasRowWith (state w.device).now w.parts.fact p.slot MayRaise
   place_row agrees running =
       let found = running_disk state w running agrees in
       let at = place found.0 found.1 in
-      record { disk = found.0; table = is_table found.0 w.parts (state w.device) found.1; row = at.row; at_slot = at.at_slot; has = may_raise found.0 w.parts (state w.device) found.1 p.slot at.row at.at_slot }
+      record {
+        disk = found.0;
+        table = is_table found.0 w.parts (state w.device) found.1;
+        row = at.row;
+        at_slot = at.at_slot;
+        has = may_raise found.0
+            w.parts (state w.device) found.1 p.slot at.row at.at_slot;
+      }
 
   pub place_waits : Agrees state w → w.parts.stopped ≡ false → w.parts.reclaiming.raised ≡ None → 1 ≤ w.parts.reclaiming.waiting
   place_waits agrees running unraised =
@@ -206,18 +222,25 @@ module _ {D F : Type 0} (state : D → State) (w : Volume D F) (p : DyingPlace) 
       let none : one_if w.parts.reclaiming.raised ≡ 0 = ap (λ (r : Option DyingPlace). one_if r) unraised in
       omega (arith, found.1.reclaiming.waiting, none, units_some found.0 p.ino at.in_table, units_dying found.0 p.ino at.before at.dying)
 
-  module _ (w' : Volume D F) (only : StoresOnly (λ a. a ≡ slot_word w.parts.fact.geometry p.slot 4) (state w.device) (state w'.device)) (agree : Agree (state w'.device).now (state w'.device).past)
-      (leaves : LeavesTables raised_counts w.parts.fact p.slot (state w.device) (state w'.device)) (faults : (state w.device).faults ≤ (state w'.device).faults) where
-    pub place_fails : Stops w.parts w'.parts → (print : Print) (d : Disk) → IsVolume d w.parts (state w.device) → Rose (state w.device).faults (state w'.device).faults → Breaks state print 16 None w w' d
+  module _ (w' : Volume D F) (only : StoresOnly (λ a. a ≡ slot_word w.parts.fact.geometry p.slot 4) (state w.device) (state w'.device))
+      (agree : Agree (state w'.device).now (state w'.device).past)
+      (leaves : LeavesTables raised_counts w.parts.fact p.slot (state w.device) (state w'.device))
+      (faults : (state w.device).faults ≤ (state w'.device).faults) where
+    pub place_fails : Stops w.parts w'.parts → (print : Print) (d : Disk) → IsVolume d w.parts (state w.device) → Rose (state w.device).faults
+        (state w'.device).faults → Breaks state print 16 None w w' d
     place_fails stops print d v rose =
         let at = place d v in
         let balance = balance_at d w.parts (state w.device) v p.slot at.row at.at_slot in
-        let may = (raise_balance d at.row v.fast.valid at.at_slot.there (raised w.parts p.slot) (added w.parts p.slot) (dropped w.parts p.slot) balance (may_raise d w.parts (state w.device) v p.slot at.row at.at_slot)).may in
+        let may = (raise_balance d at.row v.fast.valid at.at_slot.there (raised w.parts p.slot) (added w.parts p.slot) (dropped w.parts p.slot)
+        balance (may_raise d w.parts (state w.device) v p.slot at.row at.at_slot)).may in
         event_breaks state print raised_counts 16 w w' d p.slot 0 at.row v at.at_slot may stops only agree leaves faults rose
 
-    module _ (word : ℕ) (change : RaisesPlace p word w.parts w'.parts) (unraised : w.parts.reclaiming.raised ≡ None) (none_wait : deque_len w.parts.reclaiming.releases ≡ 0)
-        (settles : SettlesTable raised_counts w.parts.fact p.slot (state w.device) (state w'.device)) (own : SettlesAll 16 (state w.device) (state w'.device))
-        (others : KeepsFlushed (Others 16) (λ a. a ≡ slot_word w.parts.fact.geometry p.slot 4) (state w.device) (state w'.device)) (is_word : IsWordAfter raised_counts (state w.device).now w.parts.fact p.slot word)
+    module _ (word : ℕ) (change : RaisesPlace p word w.parts w'.parts) (unraised : w.parts.reclaiming.raised ≡ None)
+        (none_wait : deque_len w.parts.reclaiming.releases ≡ 0)
+        (settles : SettlesTable raised_counts w.parts.fact p.slot (state w.device) (state w'.device))
+        (own : SettlesAll 16 (state w.device) (state w'.device))
+        (others : KeepsFlushed (Others 16) (λ a. a ≡ slot_word w.parts.fact.geometry p.slot 4) (state w.device) (state w'.device))
+        (is_word : IsWordAfter raised_counts (state w.device).now w.parts.fact p.slot word)
         (room : HasRoomFor state w) (spare : (state w.device).spare ≤ (state w'.device).spare + 3) where
       no_items : w.parts.reclaiming.releases.items ≡ []
       no_items = empty w.parts.reclaiming.releases.items (omega (arith, none_wait, w.parts.reclaiming.releases.ok.0))
@@ -231,7 +254,8 @@ module _ {D F : Type 0} (state : D → State) (w : Volume D F) (p : DyingPlace) 
           let at = place d v in
           event_moves state print raised_counts 16 w w' d p.slot word at.row v agree
           (place_event d w.parts w'.parts (state w.device) (state w'.device) v p word at change unraised no_items
-          (record { at_slot = at.at_slot; only = only; leaves = leaves; settles = settles; own = own; others = others; faults = faults }) is_word room.units spare room.trace room.releases)
+          (record { at_slot = at.at_slot; only = only; leaves = leaves; settles = settles; own = own; others = others; faults = faults }) is_word
+          room.units spare room.trace room.releases)
 
 -- less work is left
 pub place_lowers : (b b' : Parts) (p : DyingPlace) (word : ℕ) → RaisesPlace p word b b' → ReclaimLowers b b' b'.reclaiming.waiting

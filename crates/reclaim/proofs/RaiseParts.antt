@@ -55,13 +55,15 @@ module _ (d : Disk) (b : Parts) (s : State) (v : IsVolume d b s) (who : ℕ) (to
   units_go : units_by (one_more to.flight) to.flight.change + 3 ≡ units_by to.flight to.flight.change
   units_go =
       let was : units_by to.flight to.flight.change ≡ units_by to.flight (Data to.data_change) = ap (units_by to.flight) to.is_data in
-      let is : units_by (one_more to.flight) to.flight.change ≡ units_by (one_more to.flight) (Data to.data_change) = ap (units_by (one_more to.flight)) to.is_data in
+      let is : units_by (one_more to.flight) to.flight.change ≡ units_by (one_more to.flight) (Data to.data_change) = ap
+      (units_by (one_more to.flight)) to.is_data in
       omega (arith, was, is, to.some)
 
   owed_here : (kind : Room → ℕ) → kind (owed_to (Some to.flight)) ≤ owed_sum b kind
   owed_here kind =
       let most = term-le (λ k. kind (owed_to (flight_at b.flights.items k))) 14 (who - 1) client_in in
-      let was : kind (owed_to (flight_at b.flights.items (who - 1))) ≡ kind (owed_to (Some to.flight)) = ap (λ (r : Option Flight). kind (owed_to r)) to.flies.is in
+      let was : kind (owed_to (flight_at b.flights.items (who - 1))) ≡ kind (owed_to (Some to.flight)) = ap (λ (r : Option Flight). kind (owed_to r))
+      to.flies.is in
       omega (arith, most, was)
 
   pub owes_3_units : 3 ≤ b.owed.units
@@ -78,18 +80,22 @@ module _ (d : Disk) (b : Parts) (s : State) (v : IsVolume d b s) (who : ℕ) (to
 
   -- how many events are left
   pub left_falls : left_of to.flight ≡ ((length to.flight.rows.items - (to.flight.raised + 1)) + 1) + 1
-  left_falls = ap (left_by to.flight) to.is_data ∙ ends (length to.data_change.blocks.items) to.data_change.filled (length to.flight.rows.items) to.flight.raised to.filled to.some
+  left_falls = ap (left_by to.flight) to.is_data ∙ ends (length to.data_change.blocks.items) to.data_change.filled (length to.flight.rows.items)
+      to.flight.raised to.filled to.some
     where
-      ends : (blocks filled rows raised : ℕ) → filled ≡ blocks → raised < rows → (blocks - filled) + (rows - raised) + 1 ≡ ((rows - (raised + 1)) + 1) + 1
+      ends : (blocks filled rows raised : ℕ) → filled ≡ blocks → raised < rows → (blocks - filled) + (rows - raised) + 1 ≡ ((rows - (raised + 1)) + 1)
+          + 1
       ends blocks filled rows raised is some = omega (arith, is, some)
 
   pub left_now : left_of (one_more to.flight) ≡ (length to.flight.rows.items - (to.flight.raised + 1)) + 1
-  left_now = ap (left_by (one_more to.flight)) to.is_data ∙ ends (length to.data_change.blocks.items) to.data_change.filled (length to.flight.rows.items) (to.flight.raised + 1) to.filled
+  left_now = ap (left_by (one_more to.flight)) to.is_data ∙ ends (length to.data_change.blocks.items) to.data_change.filled
+      (length to.flight.rows.items) (to.flight.raised + 1) to.filled
     where
       ends : (blocks filled rows raised : ℕ) → filled ≡ blocks → (blocks - filled) + (rows - raised) + 1 ≡ (rows - raised) + 1
       ends blocks filled rows raised is = omega (arith, is)
 
-module _ (d : Disk) (b b' : Parts) (s u : State) (v : IsVolume d b s) (who slot word : ℕ) (to : IsToRaise b who) (change : RaisesOne who slot word b b')
+module _ (d : Disk) (b b' : Parts) (s u : State) (v : IsVolume d b s) (who slot word : ℕ) (to : IsToRaise b who)
+    (change : RaisesOne who slot word b b')
     (slot_is : slot ≡ slice_index to.flight.rows.items to.flight.raised) where
   abbrev f : Flight
   f = to.flight
@@ -145,22 +151,27 @@ module _ (d : Disk) (b b' : Parts) (s u : State) (v : IsVolume d b s) (who slot 
     ]
 
   holds_still : (q ino : ℕ) → Holds b q ino → Holds b' q ino
-  holds_still q ino (by_client g flies has) = let found = still (λ (h : Flight). Contains h.held.items ino) (λ h is. is) (λ h is. is) q g flies has in by_client found.0 found.1.0 found.1.1
+  holds_still q ino (by_client g flies has) = let found = still (λ (h : Flight). Contains h.held.items ino) (λ h is. is) (λ h is. is) q g flies has in
+      by_client found.0 found.1.0 found.1.1
   holds_still q ino (by_daemon item him is same) = by_daemon item him (change.sharing ∙ is) same
 
   holds_before : (q ino : ℕ) → Holds b' q ino → Holds b q ino
-  holds_before q ino (by_client g flies has) = let found = before (λ (h : Flight). Contains h.held.items ino) (λ h is. is) (λ h is. is) q g flies has in by_client found.0 found.1.0 found.1.1
+  holds_before q ino (by_client g flies has) = let found = before (λ (h : Flight). Contains h.held.items ino) (λ h is. is) (λ h is. is) q g flies
+      has in by_client found.0 found.1.0 found.1.1
   holds_before q ino (by_daemon item him is same) = by_daemon item him (sym change.sharing ∙ is) same
 
   takes_still : (q page : ℕ) → Takes b q page → Takes b' q page
-  takes_still q page (for_client g flies has) = let found = still (λ (h : Flight). Contains (taken_by h) page) (λ h is. is) (λ h is. is) q g flies has in for_client found.0 found.1.0 found.1.1
+  takes_still q page (for_client g flies has) = let found = still (λ (h : Flight). Contains (taken_by h) page) (λ h is. is) (λ h is. is) q g flies
+      has in for_client found.0 found.1.0 found.1.1
 
   takes_before : (q page : ℕ) → Takes b' q page → Takes b q page
-  takes_before q page (for_client g flies has) = let found = before (λ (h : Flight). Contains (taken_by h) page) (λ h is. is) (λ h is. is) q g flies has in for_client found.0 found.1.0 found.1.1
+  takes_before q page (for_client g flies has) = let found = before (λ (h : Flight). Contains (taken_by h) page) (λ h is. is) (λ h is. is) q g flies
+      has in for_client found.0 found.1.0 found.1.1
 
   waits_still : (ino at : ℕ) → IsWaiting b ino at → IsWaiting b' ino at
   waits_still ino at (in_queue work n has of_ino of_slot is round) =
-      in_queue work n (subst (λ (ws : List Work). Contains ws work) (sym change.kept.queue) has) of_ino of_slot (ap (λ (ns : List InodeState). slice_get ns ino) change.kept.inodes ∙ is) round
+      in_queue work n (subst (λ (ws : List Work). Contains ws work) (sym change.kept.queue) has) of_ino of_slot
+      (ap (λ (ns : List InodeState). slice_get ns ino) change.kept.inodes ∙ is) round
   waits_still ino at (is_begun item is of_ino of_slot) = is_begun item (change.sharing ∙ is) of_ino of_slot
 
   hands : SameHands b b'
@@ -197,7 +208,8 @@ module _ (d : Disk) (b b' : Parts) (s u : State) (v : IsVolume d b s) (who slot 
 
   balanced_after : RecountsBalanced d row row.rfc (row.uc + 1) (raised b' slot) (added b' slot) (dropped b' slot)
   balanced_after =
-      let may = raise_balance d row v.fast.valid its.is.there (raised b slot) (added b slot) (dropped b slot) (balance_at d b s v slot row its.is) (may_raise d b s v slot row its.is) in
+      let may = raise_balance d row v.fast.valid its.is.there (raised b slot) (added b slot) (dropped b slot) (balance_at d b s v slot row its.is)
+      (may_raise d b s v slot row its.is) in
       record {
         may = may.may;
         balanced = record {
@@ -209,9 +221,12 @@ module _ (d : Disk) (b b' : Parts) (s u : State) (v : IsVolume d b s) (who slot 
   -- the room
   owed_moves : (kind : Room → ℕ) → owed_sum b' kind + kind (owed_to (Some f)) ≡ owed_sum b kind + kind (owed_to (Some (one_more f)))
   owed_moves kind =
-      let moved = total-change (λ k. kind (owed_to (flight_at b.flights.items k))) (λ k. kind (owed_to (flight_at b'.flights.items k))) 14 (who - 1) client (λ j ne. ap (λ (r : Option Flight). kind (owed_to r)) (change.others j ne)) in
-      let was : kind (owed_to (flight_at b.flights.items (who - 1))) ≡ kind (owed_to (Some f)) = ap (λ (r : Option Flight). kind (owed_to r)) to.flies.is in
-      let is : kind (owed_to (flight_at b'.flights.items (who - 1))) ≡ kind (owed_to (Some (one_more f))) = ap (λ (r : Option Flight). kind (owed_to r)) flies_after.is in
+      let moved = total-change (λ k. kind (owed_to (flight_at b.flights.items k))) (λ k. kind (owed_to (flight_at b'.flights.items k))) 14 (who - 1)
+      client (λ j ne. ap (λ (r : Option Flight). kind (owed_to r)) (change.others j ne)) in
+      let was : kind (owed_to (flight_at b.flights.items (who - 1))) ≡ kind (owed_to (Some f)) = ap (λ (r : Option Flight). kind (owed_to r))
+      to.flies.is in
+      let is : kind (owed_to (flight_at b'.flights.items (who - 1))) ≡ kind (owed_to (Some (one_more f))) = ap
+      (λ (r : Option Flight). kind (owed_to r)) flies_after.is in
       omega (arith, moved, was, is)
 
   units_still : units_to_share b'.sharing ≡ units_to_share b.sharing
@@ -231,8 +246,13 @@ module _ (d : Disk) (b b' : Parts) (s u : State) (v : IsVolume d b s) (who slot 
 
   moves : MovesCounts d b b' row row.rfc (row.uc + 1)
   moves = record {
-    here = subst (λ (x : ℕ). RecountsBalanced d row row.rfc (row.uc + 1) (raised b' x) (added b' x) (dropped b' x)) (sym its.is.slot_is) balanced_after;
-    others = λ x ne. record { raised_same = raised_other x (λ is. ne (is ∙ sym its.is.slot_is)); added_same = added_still x; dropped_same = dropped_still x };
+    here = subst (λ (x : ℕ). RecountsBalanced d row row.rfc (row.uc + 1) (raised b' x) (added b' x) (dropped b' x)) (sym its.is.slot_is)
+        balanced_after;
+    others = λ x ne. record {
+      raised_same = raised_other x (λ is. ne (is ∙ sym its.is.slot_is));
+      added_same = added_still x;
+      dropped_same = dropped_still x;
+    };
     zero = λ none no_update. absurd (omega (arith, no_update));
     zero_kept = λ x ne checked. change.zero_check ∙ checked;
     few = omega (arith, v.counts.few, long_still, owed_moves (λ room. room.releases), one_raised);
@@ -262,9 +282,11 @@ module _ (d : Disk) (b b' : Parts) (s u : State) (v : IsVolume d b s) (who slot 
     releases = omega (arith, v.room.owes.releases, owed_moves (λ room. room.releases), one_raised, owed_releases);
   }
 
-  places_still : (q : ℕ) (g : Flight) (c : DataChange) (n : InodeState) → Flies b' q g → g.change ≡ Data c → slice_get b'.inodes.items g.ino ≡ Some n → length c.blocks.items ≤ n.map.room
+  places_still : (q : ℕ) (g : Flight) (c : DataChange) (n : InodeState) → Flies b' q g → g.change ≡ Data c → slice_get b'.inodes.items g.ino ≡ Some n
+      → length c.blocks.items ≤ n.map.room
   places_still q g c n flies is at =
-      let found = before (λ (h : Flight). (h.change ≡ Data c) × (slice_get b.inodes.items h.ino ≡ Some n)) (λ h has. has) (λ h has. has) q g flies (is, ap (λ (ns : List InodeState). slice_get ns g.ino) (sym change.kept.inodes) ∙ at) in
+      let found = before (λ (h : Flight). (h.change ≡ Data c) × (slice_get b.inodes.items h.ino ≡ Some n)) (λ h has. has) (λ h has. has) q g flies
+      (is, ap (λ (ns : List InodeState). slice_get ns g.ino) (sym change.kept.inodes) ∙ at) in
       v.room.places q found.0 c n found.1.0 found.1.1.0 found.1.1.1
 
   module _ (spare : s.spare ≤ u.spare + 3) where
@@ -288,7 +310,8 @@ module _ (d : Disk) (b b' : Parts) (s u : State) (v : IsVolume d b s) (who slot 
       may = balanced_after
 
       leaves_rest : LeavesRest who [] [] d e s u
-      leaves_rest = leaves_after raised_row who d b.fact row slot s u b.geometry counted.at_slot v.fast (is_table d b s v) may.may counted.only counted.others
+      leaves_rest = leaves_after raised_row who d b.fact row slot s u b.geometry counted.at_slot v.fast (is_table d b s v) may.may counted.only
+          counted.others
 
       -- what the actor itself had flushed is flushed still
       leaves_all : LeavesRest (who + 1) [] [] d e s u
@@ -302,14 +325,17 @@ module _ (d : Disk) (b b' : Parts) (s u : State) (v : IsVolume d b s) (who slot 
       }
 
       taken_unused : (page : ℕ) → Contains (taken_by f) page → IsUnused d page
-      taken_unused page has = v.space.unused page (λ none. let is = v.space.takes who page (for_client f to.flies has) in let some = to.flies.client in omega (arith, is, some, none))
+      taken_unused page has = v.space.unused page (λ none. let is = v.space.takes who page (for_client f to.flies has) in
+          let some = to.flies.client in omega (arith, is, some, none))
 
       flight_still : IsFlight e who f u
-      flight_still = flights_stay (who + 1) who [] [] d e s u f (λ is. omega (arith, is)) v.fast.valid v.fast.long leaves_all (λ page has. absurd (omega (arith, has.1)))
+      flight_still = flights_stay (who + 1) who [] [] d e s u f (λ is. omega (arith, is)) v.fast.valid v.fast.long leaves_all
+          (λ page has. absurd (omega (arith, has.1)))
           (λ i held has. absurd (omega (arith, has.1))) (λ page taken has. absurd (omega (arith, has.1))) taken_unused (v.flights.each who f to.flies)
 
       mine : (g : Flight) → Flies b' who g → IsFlight e who g u
-      mine g flies = subst (λ (h : Flight). IsFlight e who h u) (sym (own_after who g refl flies)) (flight_more e who f to.data_change u to.is_data to.filled to.some flight_still)
+      mine g flies = subst (λ (h : Flight). IsFlight e who h u) (sym (own_after who g refl flies)) (flight_more e who f to.data_change u to.is_data
+          to.filled to.some flight_still)
 
       pub raise_event : CountEvent raised_row who d b b' s u slot word row
       raise_event = record {
@@ -319,8 +345,10 @@ module _ (d : Disk) (b b' : Parts) (s u : State) (v : IsVolume d b s) (who slot 
         hands = hands;
         same = record { flights = λ q some ne. change.others (q - 1) (apart q some ne); sharing = λ ne. change.sharing };
         ops = record {
-          kept = λ q g flies. let found = still (λ (h : Flight). h.op ≡ g.op) (λ h is. is) (λ h is. is) q g flies refl in (found.0, found.1.0, found.1.1);
-          only = λ q g flies. let found = before (λ (h : Flight). h.op ≡ g.op) (λ h is. is) (λ h is. is) q g flies refl in (found.0, found.1.0, sym found.1.1);
+          kept = λ q g flies. let found = still (λ (h : Flight). h.op ≡ g.op) (λ h is. is) (λ h is. is) q g flies refl in
+              (found.0, found.1.0, found.1.1);
+          only = λ q g flies. let found = before (λ (h : Flight). h.op ≡ g.op) (λ h is. is) (λ h is. is) q g flies refl in
+              (found.0, found.1.0, sym found.1.1);
         };
         running = change.stopped;
         clients = change.clients;

@@ -22,10 +22,14 @@ use Rattle.reclaim.specs.RoomMade.{MakesRoom}
 use Rattle.reclaim.proofs.Roomy.{leaves_since, rose_since, room_volume}
 
 module _ {D F : Type 0} (state : D → State) (w w1 : Volume D F) (made : MakesRoom state w w1) where
-  pub room_is : Agree (state w.device).now (state w.device).past → (d : Disk) → IsVolume d w.parts (state w.device) → IsVolume d w1.parts (state w1.device)
-  room_is agree d v = room_volume d w.parts w1.parts (state w.device) (state w1.device) v made.same agree made.parts made.trace made.len made.capacity made.releases made.releases_len made.releases_capacity made.spare
+  pub room_is : Agree (state w.device).now (state w.device).past → (d : Disk) → IsVolume d w.parts (state w.device)
+      → IsVolume d w1.parts (state w1.device)
+  room_is agree d v = room_volume d w.parts w1.parts (state w.device) (state w1.device) v made.same agree made.parts made.trace made.len made.capacity
+      made.releases made.releases_len made.releases_capacity made.spare
 
-  same_part : {X : Type 0} (f : Parts → X) → f (record w.parts { trace = w1.parts.trace; reclaiming = record w.parts.reclaiming { releases = w1.parts.reclaiming.releases } }) ≡ f w.parts → f w1.parts ≡ f w.parts
+  same_part : {X : Type 0} (f : Parts → X)
+      → f (record w.parts { trace = w1.parts.trace; reclaiming = record w.parts.reclaiming { releases = w1.parts.reclaiming.releases } }) ≡ f w.parts
+      → f w1.parts ≡ f w.parts
   same_part f same = ap f made.parts ∙ same
 
   same_room : SameButRoom w.parts w1.parts
@@ -44,7 +48,8 @@ module _ {D F : Type 0} (state : D → State) (w w1 : Volume D F) (made : MakesR
       stopped = same_part (λ p. p.stopped) refl;
     };
     free = same_part (λ p. p.free) refl;
-    inodes = subst (λ (ns : List InodeState). OfInodes IsSameInode w.parts.inodes.items ns) (sym (same_part (λ p. p.inodes.items) refl)) (inodes_same w.parts.inodes.items);
+    inodes = subst (λ (ns : List InodeState). OfInodes IsSameInode w.parts.inodes.items ns) (sym (same_part (λ p. p.inodes.items) refl))
+        (inodes_same w.parts.inodes.items);
     flights = same_part (λ p. p.flights.items) refl;
   }
 
@@ -70,7 +75,8 @@ module _ {D F : Type 0} (state : D → State) (w w1 : Volume D F) (made : MakesR
     ops_since : KeepsOps w1.parts w2.parts → KeepsOps w.parts w2.parts
     ops_since is = record {
       kept = λ q f flies. is.kept q f (record { client = flies.client; is = same_part (λ p. flight_at p.flights.items (q - 1)) refl ∙ flies.is });
-      only = λ q f flies. let was = is.only q f flies in (was.0, record { client = was.1.client; is = sym (same_part (λ p. flight_at p.flights.items (q - 1)) refl) ∙ was.1.is }, was.2);
+      only = λ q f flies. let was = is.only q f flies in
+          (was.0, record { client = was.1.client; is = sym (same_part (λ p. flight_at p.flights.items (q - 1)) refl) ∙ was.1.is }, was.2);
     }
 
     faults_since : (n : ℕ) → (state w1.device).faults ≤ n → (state w.device).faults ≤ n
@@ -82,7 +88,11 @@ module _ {D F : Type 0} (state : D → State) (w w1 : Volume D F) (made : MakesR
       images = leaves_since (state w.device) (state w1.device) made.same (state w2.device) _ is.images;
       own = is.own;
       accounts = is.accounts;
-      traces = record { more = is.traces.more; trace = is.traces.trace ∙ ap (λ (xs : List CountChange). xs ++ is.traces.more) made.trace; words = is.traces.words };
+      traces = record {
+        more = is.traces.more;
+        trace = is.traces.trace ∙ ap (λ (xs : List CountChange). xs ++ is.traces.more) made.trace;
+        words = is.traces.words;
+      };
       others = others_since is.others;
       counts = counts_since is.counts;
       geometry = is.geometry ∙ same_part (λ p. p.geometry) refl;
@@ -90,7 +100,13 @@ module _ {D F : Type 0} (state : D → State) (w w1 : Volume D F) (made : MakesR
     }
 
     pub moves_on_since : MovesOn state print who w1 w2 d → MovesOn state print who w w2 d
-    moves_on_since is = record { after = is.after; moves = moves_since is.after is.moves; quiet = is.quiet; ops = ops_since is.ops; history = is.history ∙ same_part (λ p. p.history.items) refl }
+    moves_on_since is = record {
+      after = is.after;
+      moves = moves_since is.after is.moves;
+      quiet = is.quiet;
+      ops = ops_since is.ops;
+      history = is.history ∙ same_part (λ p. p.history.items) refl;
+    }
 
     pub breaks_since : (answers : Option Op) → Breaks state print who answers w1 w2 d → Breaks state print who answers w w2 d
     breaks_since answers is = record {
@@ -131,7 +147,8 @@ module _ {D F : Type 0} (state : D → State) (w w1 : Volume D F) (made : MakesR
     works_since stand lowers on NoMemory is = (untouched_since is.0, is.1, is.2)
     works_since stand lowers on Stopped is = (breaks_since None is.0, is.1)
 
-  pub reclaim_since : (w2 : Volume D F) (print : Print) (d : Disk) (outcome : Outcome) → ReclaimWorks state print w1 w2 d outcome → ReclaimWorks state print w w2 d outcome
+  pub reclaim_since : (w2 : Volume D F) (print : Print) (d : Disk) (outcome : Outcome) → ReclaimWorks state print w1 w2 d outcome
+      → ReclaimWorks state print w w2 d outcome
   reclaim_since w2 print d outcome is =
       works_since w2 print 16 d (reclaim_stand w.parts) ReclaimLowers
       (λ n less. record {

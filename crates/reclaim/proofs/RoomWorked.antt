@@ -25,7 +25,8 @@ pub record MovesRoom (b b' : Parts) (s u : State) : Type 0 where
   pub capacity : deque_capacity b.reclaiming.releases ≤ deque_capacity b'.reclaiming.releases
 
 module _ (b b' : Parts) (s u : State) (kept : KeepsWork b b') (moves : MovesRoom b b' s u) (was : HasRoom b s)
-    (nodes : (who : ℕ) (f : Flight) (c : DataChange) (y : InodeState) → Flies b who f → f.change ≡ Data c → slice_get b'.inodes.items f.ino ≡ Some y → length c.blocks.items ≤ y.map.room) where
+    (nodes : (who : ℕ) (f : Flight) (c : DataChange) (y : InodeState) → Flies b who f → f.change ≡ Data c → slice_get b'.inodes.items f.ino ≡ Some y
+    → length c.blocks.items ≤ y.map.room) where
   sum_same : (kind : Room → ℕ) → owed_sum b' kind ≡ owed_sum b kind
   sum_same = owed_same b b' (ap (λ (fs : _). fs.items) kept.flights)
 
@@ -48,8 +49,10 @@ module _ (b b' : Parts) (s u : State) (kept : KeepsWork b b') (moves : MovesRoom
   room_worked = record {
     owes = owes;
     units = moves.spare;
-    trace = let len = ap (λ (t : _). vec_len t) kept.trace in let capacity = ap (λ (t : _). vec_capacity t) kept.trace in omega (arith, was.trace, len, capacity, kept.owed_trace);
-    history = let len = ap (λ (t : _). vec_len t) kept.history in let capacity = ap (λ (t : _). vec_capacity t) kept.history in omega (arith, was.history, len, capacity, kept.owed_history);
+    trace = let len = ap (λ (t : _). vec_len t) kept.trace in let capacity = ap (λ (t : _). vec_capacity t) kept.trace in
+        omega (arith, was.trace, len, capacity, kept.owed_trace);
+    history = let len = ap (λ (t : _). vec_len t) kept.history in let capacity = ap (λ (t : _). vec_capacity t) kept.history in
+        omega (arith, was.history, len, capacity, kept.owed_history);
     queue = let room = ap (λ (q : _). q.room) kept.queue in omega (arith, was.queue, room, kept.owed_queue);
     releases = omega (arith, was.releases, moves.room, moves.capacity);
     names = let room = ap (λ (n : _). n.room) kept.names in omega (arith, was.names, room, kept.owed_history);

@@ -47,10 +47,13 @@ module _ (s t : State) (same : IsSame s t) where
   pub rose_since : (n : ℕ) → Rose t.faults n → Rose s.faults n
   rose_since n = subst (λ (k : ℕ). Rose k n) same.faults
 
-module _ (d : Disk) (b c : Parts) (s t : State) (v : IsVolume d b s) (same : IsSame s t) (agree : Agree s.now s.past) (is : c ≡ record b { trace = c.trace; reclaiming = record b.reclaiming { releases = c.reclaiming.releases } })
+module _ (d : Disk) (b c : Parts) (s t : State) (v : IsVolume d b s) (same : IsSame s t) (agree : Agree s.now s.past)
+    (is : c ≡ record b { trace = c.trace; reclaiming = record b.reclaiming { releases = c.reclaiming.releases } })
     (items : c.trace.items ≡ b.trace.items) (len : vec_len c.trace ≡ vec_len b.trace) (capacity : vec_capacity b.trace ≤ vec_capacity c.trace)
-    (releases : c.reclaiming.releases.items ≡ b.reclaiming.releases.items) (releases_len : deque_len c.reclaiming.releases ≡ deque_len b.reclaiming.releases)
-    (releases_capacity : deque_capacity b.reclaiming.releases ≤ deque_capacity c.reclaiming.releases) (spare : (t.spare ≡ s.spare) ⊎ (b.owed.units ≤ t.spare)) where
+    (releases : c.reclaiming.releases.items ≡ b.reclaiming.releases.items) (releases_len : deque_len c.reclaiming.releases ≡ deque_len
+    b.reclaiming.releases)
+    (releases_capacity : deque_capacity b.reclaiming.releases ≤ deque_capacity c.reclaiming.releases)
+    (spare : (t.spare ≡ s.spare) ⊎ (b.owed.units ≤ t.spare)) where
   abbrev b' : Parts
   b' = record b { trace = c.trace; reclaiming = record b.reclaiming { releases = c.reclaiming.releases } }
 
@@ -73,7 +76,12 @@ module _ (d : Disk) (b c : Parts) (s t : State) (v : IsVolume d b s) (same : IsS
   waits_still ino slot (is_begun item at of_ino of_slot) = is_begun item at of_ino of_slot
 
   fast : StandsFast d b.geometry t
-  fast = record { geometry = v.fast.geometry; long = ap (λ (now : List ℕ). length now) same.now ∙ v.fast.long; valid = v.fast.valid; stands = stands_same s t same (DiskSays d) v.fast.stands }
+  fast = record {
+    geometry = v.fast.geometry;
+    long = ap (λ (now : List ℕ). length now) same.now ∙ v.fast.long;
+    valid = v.fast.valid;
+    stands = stands_same s t same (DiskSays d) v.fast.stands;
+  }
 
   leaves : LeavesRest 16 [] [] d d s t
   leaves = record {
@@ -101,7 +109,13 @@ module _ (d : Disk) (b c : Parts) (s t : State) (v : IsVolume d b s) (same : IsS
 
   room : HasRoom b' t
   room = record {
-    owes = record { units = v.room.owes.units; trace = v.room.owes.trace; history = v.room.owes.history; queue = v.room.owes.queue; releases = v.room.owes.releases };
+    owes = record {
+      units = v.room.owes.units;
+      trace = v.room.owes.trace;
+      history = v.room.owes.history;
+      queue = v.room.owes.queue;
+      releases = v.room.owes.releases;
+    };
     units = ⊎_elim (λ (e : t.spare ≡ s.spare). omega (arith, e, v.room.units)) (λ (le : b.owed.units ≤ t.spare). le) spare;
     trace = omega (arith, v.room.trace, len, capacity);
     history = v.room.history;
@@ -150,7 +164,11 @@ module _ (d : Disk) (b c : Parts) (s t : State) (v : IsVolume d b s) (same : IsS
     flights = record { clients = v.flights.clients; each = λ q f flies. stay q f (below q f flies) flies };
     queue = record { waits = λ ino idx m place undone. waits_still ino m.slot (v.queue.waits ino idx m place undone) };
     sharing = v.sharing;
-    reclaiming = record { waiting = omega (arith, v.reclaiming.waiting, same_length); zero_check = v.reclaiming.zero_check; raised = v.reclaiming.raised };
+    reclaiming = record {
+      waiting = omega (arith, v.reclaiming.waiting, same_length);
+      zero_check = v.reclaiming.zero_check;
+      raised = v.reclaiming.raised;
+    };
     pointers = v.pointers;
     room = room;
     trace = subst (All (λ (change : CountChange). change.slot < slots b.geometry)) (sym items) v.trace;

@@ -53,18 +53,23 @@ module _ (d : Disk) (b : Parts) (s : State) (v : IsVolume d b s) where
   may_raise slot row is =
       let balance = balance_at d b s v slot row is in
       let flown : total 14 (λ k. times slot (raised_by (flight_at b.flights.items k))) ≤ owed_sum b (λ room. room.releases) =
-      total-le (λ k. (owed_to (flight_at b.flights.items k)).releases) (λ k. times slot (raised_by (flight_at b.flights.items k))) 14 (λ k lt. raised_few slot (flight_at b.flights.items k)) in
+      total-le (λ k. (owed_to (flight_at b.flights.items k)).releases) (λ k. times slot (raised_by (flight_at b.flights.items k))) 14
+      (λ k lt. raised_few slot (flight_at b.flights.items k)) in
       let shared = shared_few slot b.sharing in
       let died = died_few slot b.reclaiming.raised in
       let fell = times-le slot b.reclaiming.releases.items in
-      few row.uc (total 14 (λ k. times slot (raised_by (flight_at b.flights.items k)))) (times slot (raised_to_share b.sharing)) (times slot (raised_to_die b.reclaiming.raised)) (times slot (added_to_share b.sharing))
-      (times slot b.reclaiming.releases.items) (owed_sum b (λ room. room.releases)) (one_if b.reclaiming.raised) (length b.reclaiming.releases.items) balance.updates flown shared died fell v.counts.few
+      few row.uc (total 14 (λ k. times slot (raised_by (flight_at b.flights.items k)))) (times slot (raised_to_share b.sharing))
+      (times slot (raised_to_die b.reclaiming.raised)) (times slot (added_to_share b.sharing))
+      (times slot b.reclaiming.releases.items) (owed_sum b (λ room. room.releases)) (one_if b.reclaiming.raised) (length b.reclaiming.releases.items)
+      balance.updates flown shared died fell v.counts.few
     where
-      few : (uc p q r a z sum one len : ℕ) → uc ≡ p + q + r + a + z → p ≤ sum → q + a ≤ 1 → r ≤ one → z ≤ len → len + sum + one ≤ 1105920 → uc + 1 < 2 ^ 32
+      few : (uc p q r a z sum one len : ℕ) → uc ≡ p + q + r + a + z → p ≤ sum → q + a ≤ 1 → r ≤ one → z ≤ len → len + sum + one ≤ 1105920
+          → uc + 1 < 2 ^ 32
       few uc p q r a z sum one len is first second third fourth most = omega (arith, is, first, second, third, fourth, most)
 
   -- the next row of an operation is there
-  pub next_row : (who : ℕ) (f : Flight) (c : DataChange) → Flies b who f → f.change ≡ Data c → f.raised < length f.rows.items → HasRow d (slice_index f.rows.items f.raised)
+  pub next_row : (who : ℕ) (f : Flight) (c : DataChange) → Flies b who f → f.change ≡ Data c → f.raised < length f.rows.items
+      → HasRow d (slice_index f.rows.items f.raised)
   next_row who f c flies data_is some =
       let is = subst (λ (x : Change). IsFlightOf d who f s x) data_is (v.flights.each who f flies) in
       All-get_or (HasRow d) f.rows.items f.raised 0 some (planned f.op is.plans)

@@ -43,7 +43,8 @@ past_none xs k le = ⊎_elim (λ found. absurd (omega (arith, found.1, le))) (λ
 
 -- there is no client past the last
 pub no_client : (b : Parts) (who : ℕ) (f : Flight) → length b.flights.items ≡ 14 → 15 ≤ who → Flies b who f → ⊥
-no_client b who f clients high flies = some_none f (flight_at b.flights.items (who - 1)) (ap (λ (x : Option (Option Flight)). opened x) (past_none b.flights.items (who - 1) (omega (arith, clients, high)))) flies.is
+no_client b who f clients high flies = some_none f (flight_at b.flights.items (who - 1)) (ap (λ (x : Option (Option Flight)). opened x)
+    (past_none b.flights.items (who - 1) (omega (arith, clients, high)))) flies.is
 
 module _ (d : Disk) (b : Parts) (s : State) (v : IsVolume d b s) (slot : ℕ) (rest : List ℕ) (front : b.reclaiming.releases.items ≡ slot ∷ rest) where
   abbrev has : HasRow d slot
@@ -57,7 +58,8 @@ module _ (d : Disk) (b : Parts) (s : State) (v : IsVolume d b s) (slot : ℕ) (r
       let balance = balance_at d b s v slot row has.is in
       let here = dropped_here d b s v slot rest front in
       settle_down_balance d row v.fast.valid has.is.there (raised b slot) (added b slot) (times slot rest)
-      (record { updates = omega (arith, balance.updates, here); references = omega (arith, balance.references, here) }) (front_may d b s v slot rest front).1
+      (record { updates = omega (arith, balance.updates, here); references = omega (arith, balance.references, here) })
+      (front_may d b s v slot rest front).1
 
 module _ (d : Disk) (b b' : Parts) (s u : State) (v : IsVolume d b s) (slot word : ℕ) (change : SettlesRelease slot word b b')
     (unchecked : b.reclaiming.zero_check ≡ None) (unraised : b.reclaiming.raised ≡ None) where
@@ -70,7 +72,8 @@ module _ (d : Disk) (b b' : Parts) (s u : State) (v : IsVolume d b s) (slot word
   abbrev its : Row
   its = found.row
 
-  module _ (counted : CountsOne down 16 d b s u slot its) (is_word : IsWordAfter down s.now b.fact slot word) (units : b.owed.units + RELEASE_UNITS ≤ s.spare) (spare : s.spare ≤ u.spare + 3)
+  module _ (counted : CountsOne down 16 d b s u slot its) (is_word : IsWordAfter down s.now b.fact slot word)
+      (units : b.owed.units + RELEASE_UNITS ≤ s.spare) (spare : s.spare ≤ u.spare + 3)
       (trace_room : vec_len b.trace + b.owed.trace + 1 ≤ vec_capacity b.trace) where
     word_is : word ≡ (its.rfc - 1) * 2 ^ 32 + (its.uc - 1)
     word_is = is_word d its (is_table d b s v) found.is
@@ -128,7 +131,8 @@ module _ (d : Disk) (b b' : Parts) (s u : State) (v : IsVolume d b s) (slot word
         }
 
     zero_now : its.rfc - 1 ≡ 0 → its.uc - 1 ≡ 0 → b'.reclaiming.zero_check ≡ Some slot
-    zero_now none no_update = ⊎_elim (λ (zero : IsZero). zero.checked) (λ (some : IsSome). absurd (some.is (omega (arith, word_is, none, no_update)))) cases
+    zero_now none no_update = ⊎_elim (λ (zero : IsZero). zero.checked) (λ (some : IsSome). absurd (some.is (omega (arith, word_is, none, no_update))))
+        cases
 
     rest_len : length b.reclaiming.releases.items ≡ 1 + length b'.reclaiming.releases.items
     rest_len = ap (λ (xs : List ℕ). length xs) change.releases ∙ omega arith
@@ -150,8 +154,14 @@ module _ (d : Disk) (b b' : Parts) (s u : State) (v : IsVolume d b s) (slot word
 
     moves : MovesCounts d b b' its (its.rfc - 1) (its.uc - 1)
     moves = record {
-      here = subst (λ (x : ℕ). RecountsBalanced d its (its.rfc - 1) (its.uc - 1) (raised b' x) (added b' x) (dropped b' x)) (sym found.is.slot_is) balanced_after;
-      others = λ x ne. record { raised_same = raised_still x; added_same = added_still x; dropped_same = dropped_other x (λ is. ne (is ∙ sym found.is.slot_is)) };
+      here = subst (λ (x : ℕ). RecountsBalanced d its (its.rfc - 1) (its.uc - 1) (raised b' x) (added b' x) (dropped b' x)) (sym found.is.slot_is)
+          balanced_after;
+      others = λ x ne. record {
+        raised_same = raised_still x;
+        added_same = added_still x;
+        dropped_same = dropped_other x
+            (λ is. ne (is ∙ sym found.is.slot_is));
+      };
       zero = λ none no_update. zero_now none no_update ∙ ap (λ (n : ℕ). Some n) (sym found.is.slot_is);
       zero_kept = λ x ne checked. absurd (some_none x b.reclaiming.zero_check unchecked checked);
       few = omega (arith, v.counts.few, rest_len, owed_still (λ room. room.releases), one_raised, no_raised);
@@ -164,7 +174,8 @@ module _ (d : Disk) (b b' : Parts) (s u : State) (v : IsVolume d b s) (slot word
     zero_none : IsSome → one_if b'.reclaiming.zero_check ≡ 0
     zero_none some = ap (λ (x : Option ℕ). one_if x) some.checked
 
-    waits : b'.reclaiming.waiting + one_if b'.reclaiming.raised ≡ one_if b'.reclaiming.zero_check + 2 * length b'.reclaiming.releases.items + total d.geometry.inodes (dying_units d)
+    waits : b'.reclaiming.waiting + one_if b'.reclaiming.raised ≡ one_if b'.reclaiming.zero_check + 2 * length b'.reclaiming.releases.items + total
+        d.geometry.inodes (dying_units d)
     waits = ⊎_elim
         (λ (zero : IsZero). omega (arith, v.reclaiming.waiting, zero.fell, one_zero zero, rest_len, one_raised, no_raised, no_zero))
         (λ (some : IsSome). omega (arith, v.reclaiming.waiting, some.fell, zero_none some, rest_len, one_raised, no_raised, no_zero)) cases
@@ -199,8 +210,28 @@ module _ (d : Disk) (b b' : Parts) (s u : State) (v : IsVolume d b s) (slot word
     owes : Owes b'
     owes = record {
       units = ⊎_elim
-          (λ (zero : IsZero). omega (arith, v.room.owes.units, owed_still (λ room. room.units), units_still, one_raised, no_raised, no_zero, one_zero zero, zero.owed))
-          (λ (some : IsSome). omega (arith, v.room.owes.units, owed_still (λ room. room.units), units_still, one_raised, no_raised, no_zero, zero_none some, some.owed)) cases;
+          (λ (zero : IsZero). omega (
+            arith,
+            v.room.owes.units,
+            owed_still (λ room. room.units),
+            units_still,
+            one_raised,
+            no_raised,
+            no_zero,
+            one_zero zero,
+            zero.owed,
+          ))
+          (λ (some : IsSome). omega (
+            arith,
+            v.room.owes.units,
+            owed_still (λ room. room.units),
+            units_still,
+            one_raised,
+            no_raised,
+            no_zero,
+            zero_none some,
+            some.owed,
+          )) cases;
       trace = omega (arith, v.room.owes.trace, owed_still (λ room. room.trace), changes_still, owed_trace);
       history = omega (arith, v.room.owes.history, owed_still (λ room. room.history), owed_history);
       queue = omega (arith, v.room.owes.queue, owed_still (λ room. room.queue), owed_queue);
@@ -216,7 +247,8 @@ module _ (d : Disk) (b b' : Parts) (s u : State) (v : IsVolume d b s) (slot word
       queue = omega (arith, v.room.queue, change.kept.queue_room, owed_queue);
       releases = omega (arith, v.room.releases, change.len, change.capacity, owed_releases);
       names = omega (arith, v.room.names, change.kept.names_room, owed_history);
-      places = λ who f c n flies is at. v.room.places who f c n (flies_before b b' change.flights who f flies) is (ap (λ (ns : List InodeState). slice_get ns f.ino) (sym change.kept.inodes) ∙ at);
+      places = λ who f c n flies is at. v.room.places who f c n (flies_before b b' change.flights who f flies) is
+          (ap (λ (ns : List InodeState). slice_get ns f.ino) (sym change.kept.inodes) ∙ at);
     }
 
     pub release_event : CountEvent down 16 d b b' s u slot word its

@@ -22,7 +22,18 @@ use Rattle.dn_volume.proofs.Tables.{running_disk}
 use Rattle.reclaim.specs.Released.{Stops, IsWordAfter}
 use Rattle.reclaim.specs.Shared.{IsAtSettle, SettlesShare}
 use Rattle.reclaim.proofs.Event.{event_moves, event_stopped, event_breaks}
-use Rattle.reclaim.proofs.ShareParts.{same_sharing, to_settle, settle_some, settle_with, settle_recounts, share_owes_units, share_owes_change, share_has_trace, share_has_units, share_event}
+use Rattle.reclaim.proofs.ShareParts.{
+  same_sharing,
+  to_settle,
+  settle_some,
+  settle_with,
+  settle_recounts,
+  share_owes_units,
+  share_owes_change,
+  share_has_trace,
+  share_has_units,
+  share_event,
+}
 
 less_test : (a b : ℕ) → a < b → nat_lt a b ≡ true
 less_test a b lt = grind (arith, nat_tests, lt)
@@ -60,7 +71,8 @@ module _ {D F : Type 0} (state : D → State) (w : Volume D F) (slot : ℕ) (to 
     pub share_some : (sharing : Sharing) → w.parts.sharing ≡ Some sharing → sharing.done < sharing.count
     share_some sharing is =
         let found = running_disk state w running agrees in
-        subst (λ (x : Sharing). x.done < x.count) (same_sharing w.parts to.sharing sharing to.begun is) (settle_some found.0 w.parts (state w.device) found.1 slot to)
+        subst (λ (x : Sharing). x.done < x.count) (same_sharing w.parts to.sharing sharing to.begun is) (settle_some found.0 w.parts (state w.device)
+        found.1 slot to)
 
   pub share_lowers : (b' : Parts) (word : ℕ) → SettlesShare slot word w.parts b'
       → Agrees state w → w.parts.stopped ≡ false → DaemonLowers w.parts b' (sharing_events b'.sharing)
@@ -95,19 +107,23 @@ module _ {D F : Type 0} (state : D → State) (w : Volume D F) (slot : ℕ) (to 
               omega (arith, now, was)
 
   module _ (w' : Volume D F) (only : StoresOnly (λ a. a ≡ slot_word w.parts.fact.geometry slot 4) (state w.device) (state w'.device))
-      (agree : Agree (state w'.device).now (state w'.device).past) (leaves : LeavesTables up w.parts.fact slot (state w.device) (state w'.device)) (faults : (state w.device).faults ≤ (state w'.device).faults) where
+      (agree : Agree (state w'.device).now (state w'.device).past) (leaves : LeavesTables up w.parts.fact slot (state w.device) (state w'.device))
+      (faults : (state w.device).faults ≤ (state w'.device).faults) where
     module _ (stops : Stops w.parts w'.parts) (print : Print) (d : Disk) (v : IsVolume d w.parts (state w.device)) where
       pub share_stops : Agrees state w'
       share_stops =
           let has = to_settle d w.parts (state w.device) v slot to in
-          is_stopped (event_stopped state print up 15 w w' d slot 0 has.row v has.at_slot (settle_recounts d w.parts (state w.device) v slot to) stops only)
+          is_stopped (event_stopped state print up 15 w w' d slot 0 has.row v has.at_slot (settle_recounts d w.parts (state w.device) v slot to) stops
+          only)
 
       pub share_fails : Rose (state w.device).faults (state w'.device).faults → Breaks state print 15 None w w' d
       share_fails rose =
           let has = to_settle d w.parts (state w.device) v slot to in
-          event_breaks state print up 15 w w' d slot 0 has.row v has.at_slot (settle_recounts d w.parts (state w.device) v slot to) stops only agree leaves faults rose
+          event_breaks state print up 15 w w' d slot 0 has.row v has.at_slot (settle_recounts d w.parts (state w.device) v slot to) stops only agree
+          leaves faults rose
 
-    module _ (word : ℕ) (change : SettlesShare slot word w.parts w'.parts) (settles : SettlesTable up w.parts.fact slot (state w.device) (state w'.device)) (own : SettlesAll 15 (state w.device) (state w'.device))
+    module _ (word : ℕ) (change : SettlesShare slot word w.parts w'.parts) (settles : SettlesTable up w.parts.fact slot (state w.device)
+        (state w'.device)) (own : SettlesAll 15 (state w.device) (state w'.device))
         (others : KeepsFlushed (Others 15) (λ a. a ≡ slot_word w.parts.fact.geometry slot 4) (state w.device) (state w'.device))
         (is_word : IsWordAfter up (state w.device).now w.parts.fact slot word) (spare : (state w.device).spare ≤ (state w'.device).spare + 3) where
       pub share_moves : (print : Print) (d : Disk) → IsVolume d w.parts (state w.device) → MovesOn state print 15 w w' d
@@ -118,4 +134,5 @@ module _ {D F : Type 0} (state : D → State) (w : Volume D F) (slot : ℕ) (to 
           (record { at_slot = has.at_slot; only = only; leaves = leaves; settles = settles; own = own; others = others; faults = faults }) is_word)
 
       pub share_agrees : (print : Print) → Agrees state w → w.parts.stopped ≡ false → Agrees state w'
-      share_agrees print agrees running = let found = running_disk state w running agrees in let moves = share_moves print found.0 found.1 in agrees_with moves.after moves.moves.volume
+      share_agrees print agrees running = let found = running_disk state w running agrees in let moves = share_moves print found.0 found.1 in
+          agrees_with moves.after moves.moves.volume

@@ -1,5 +1,29 @@
 -- The daemon has settled a row: what it leaves of what is kept in memory.
-use Rattle.std.proofs.Common.{◌≡◌, ◌≢◌, ◌⊎◌, inl, inr, ⊎_elim, ℕ, ◌+◌, ◌*◌, ◌-◌, ◌^◌, ◌<◌, ◌≤◌, List, [], ◌∷◌, length, refl, sym, ◌∙◌, ap, subst, arith}
+use Rattle.std.proofs.Common.{
+  ◌≡◌,
+  ◌≢◌,
+  ◌⊎◌,
+  inl,
+  inr,
+  ⊎_elim,
+  ℕ,
+  ◌+◌,
+  ◌*◌,
+  ◌-◌,
+  ◌^◌,
+  ◌<◌,
+  ◌≤◌,
+  List,
+  [],
+  ◌∷◌,
+  length,
+  refl,
+  sym,
+  ◌∙◌,
+  ap,
+  subst,
+  arith,
+}
 use Rattle.std.specs.Prelude.{slice_get, Option, Some, Contains, IsSome, vec_len, vec_capacity}
 use Rattle.std.proofs.lemmas.Bool.{cases_eq}
 use Rattle.pm_device.specs.State.{State}
@@ -82,28 +106,40 @@ module _ (d : Disk) (b : Parts) (s : State) (v : IsVolume d b s) (slot : ℕ) (t
       let few = mappings_few d row.page in
       let most = times-le slot b.reclaiming.releases.items in (
         omega (arith, balance.updates, added_here),
-        fits row.rfc (mappings d row.page) d.geometry.inodes (times slot b.reclaiming.releases.items) (length b.reclaiming.releases.items) (owed_sum b (λ room. room.releases)) (one_if b.reclaiming.raised) (added b slot)
+        fits row.rfc (mappings d row.page) d.geometry.inodes (times slot b.reclaiming.releases.items) (length b.reclaiming.releases.items)
+            (owed_sum b (λ room. room.releases)) (one_if b.reclaiming.raised) (added b slot)
             balance.references few most v.counts.few v.fast.valid.accepted.few_inodes,
       )
     where
-      fits : (rfc maps inodes z len sum one a : ℕ) → maps + z ≡ rfc + a → maps ≤ inodes * 4096 → z ≤ len → len + sum + one ≤ 1105920 → inodes ≤ 4096 → rfc + 1 < 2 ^ 32
+      fits : (rfc maps inodes z len sum one a : ℕ) → maps + z ≡ rfc + a → maps ≤ inodes * 4096 → z ≤ len → len + sum + one ≤ 1105920 → inodes ≤ 4096
+          → rfc + 1 < 2 ^ 32
       fits rfc maps inodes z len sum one a refs few most all inodes_few = omega (arith, refs, few, most, all, inodes_few)
 
   pub settle_with : HasRowWith s.now b.fact slot MaySettleUp
-  settle_with = record { disk = d; table = is_table d b s v; row = to_settle.row; at_slot = to_settle.at_slot; has = settle_may to_settle.row to_settle.at_slot }
+  settle_with = record {
+    disk = d;
+    table = is_table d b s v;
+    row = to_settle.row;
+    at_slot = to_settle.at_slot;
+    has = settle_may to_settle.row
+        to_settle.at_slot;
+  }
 
   pub settle_recounts : MayRecount d to_settle.row (to_settle.row.rfc + 1) (to_settle.row.uc - 1)
   settle_recounts =
       let balance = balance_at d b s v slot to_settle.row to_settle.at_slot in
       (settle_up_balance d to_settle.row v.fast.valid to_settle.at_slot.there (raised b slot) 0 (dropped b slot)
-      (record { updates = omega (arith, balance.updates, added_here); references = omega (arith, balance.references, added_here) }) (settle_may to_settle.row to_settle.at_slot).1).may
+      (record { updates = omega (arith, balance.updates, added_here); references = omega (arith, balance.references, added_here) })
+      (settle_may to_settle.row to_settle.at_slot).1).may
 
   -- what it is owed is there
   units_was : units_to_share b.sharing ≡ END_UNITS + PLACE_UNITS * (to.sharing.count - to.sharing.done) - (LOOK_UNITS + REMAP_UNITS)
-  units_was = ap (λ (r : Option Sharing). units_to_share r) to.begun ∙ ap (λ (st : SharingStep). END_UNITS + PLACE_UNITS * (to.sharing.count - to.sharing.done) - units_spent st) to.step
+  units_was = ap (λ (r : Option Sharing). units_to_share r) to.begun ∙ ap (λ (st : SharingStep). END_UNITS + PLACE_UNITS
+      * (to.sharing.count - to.sharing.done) - units_spent st) to.step
 
   changes_was : changes_to_share b.sharing ≡ 2 * (to.sharing.count - to.sharing.done) - 1
-  changes_was = ap (λ (r : Option Sharing). changes_to_share r) to.begun ∙ ap (λ (st : SharingStep). 2 * (to.sharing.count - to.sharing.done) - changes_spent st) to.step
+  changes_was = ap (λ (r : Option Sharing). changes_to_share r) to.begun ∙ ap (λ (st : SharingStep). 2 * (to.sharing.count - to.sharing.done)
+      - changes_spent st) to.step
 
   pub share_owes_units : 3 ≤ b.owed.units
   share_owes_units = omega (arith, v.room.owes.units, units_was, settle_some)
@@ -131,7 +167,8 @@ module _ (d : Disk) (b : Parts) (s : State) (v : IsVolume d b s) (slot : ℕ) (t
     at_slot = to_settle.at_slot
 
     -- what is under way
-    flown_same : (x : ℕ) → total 14 (λ k. times x (raised_by (flight_at b'.flights.items k))) ≡ total 14 (λ k. times x (raised_by (flight_at b.flights.items k)))
+    flown_same : (x : ℕ) → total 14 (λ k. times x (raised_by (flight_at b'.flights.items k))) ≡ total 14
+        (λ k. times x (raised_by (flight_at b.flights.items k)))
     flown_same x = ap (λ (fs : List (Option Flight)). total 14 (λ k. times x (raised_by (flight_at fs k)))) change.flights
 
     raised_now : (x : ℕ) → times x (raised_to_share b'.sharing) ≡ 0
@@ -142,7 +179,8 @@ module _ (d : Disk) (b : Parts) (s : State) (v : IsVolume d b s) (slot : ℕ) (t
 
     raised_still : (x : ℕ) → raised b' x ≡ raised b x
     raised_still x =
-        let died : times x (raised_to_die b'.reclaiming.raised) ≡ times x (raised_to_die b.reclaiming.raised) = ap (λ (r : Option DyingPlace). times x (raised_to_die r)) change.raised in
+        let died : times x (raised_to_die b'.reclaiming.raised) ≡ times x (raised_to_die b.reclaiming.raised) = ap
+        (λ (r : Option DyingPlace). times x (raised_to_die r)) change.raised in
         omega (arith, flown_same x, raised_now x, raised_none x, died)
 
     added_other : (x : ℕ) → x ≢ slot → added b' x ≡ added b x
@@ -174,8 +212,13 @@ module _ (d : Disk) (b : Parts) (s : State) (v : IsVolume d b s) (slot : ℕ) (t
 
     moves : MovesCounts d b b' row (row.rfc + 1) (row.uc - 1)
     moves = record {
-      here = subst (λ (x : ℕ). RecountsBalanced d row (row.rfc + 1) (row.uc - 1) (raised b' x) (added b' x) (dropped b' x)) (sym at_slot.slot_is) balanced_after;
-      others = λ x ne. record { raised_same = raised_still x; added_same = added_other x (λ is. ne (is ∙ sym at_slot.slot_is)); dropped_same = dropped_still x };
+      here = subst (λ (x : ℕ). RecountsBalanced d row (row.rfc + 1) (row.uc - 1) (raised b' x) (added b' x) (dropped b' x)) (sym at_slot.slot_is)
+          balanced_after;
+      others = λ x ne. record {
+        raised_same = raised_still x;
+        added_same = added_other x (λ is. ne (is ∙ sym at_slot.slot_is));
+        dropped_same = dropped_still x;
+      };
       zero = λ none no_update. absurd (omega (arith, none));
       zero_kept = λ x ne checked. change.zero_check ∙ checked;
       few = omega (arith, v.counts.few, long_still, owed_still (λ room. room.releases), one_raised);
@@ -184,7 +227,8 @@ module _ (d : Disk) (b : Parts) (s : State) (v : IsVolume d b s) (slot : ℕ) (t
     -- who holds and waits
     holds_still : (who ino : ℕ) → Holds b who ino → Holds b' who ino
     holds_still who ino (by_client f flies has) = by_client f (flies_still b b' change.flights who f flies) has
-    holds_still who ino (by_daemon item him is same) = by_daemon now him now_is (ap (λ (x : Sharing). x.work.ino) (same_sharing b to.sharing item to.begun is) ∙ same)
+    holds_still who ino (by_daemon item him is same) = by_daemon now him now_is
+        (ap (λ (x : Sharing). x.work.ino) (same_sharing b to.sharing item to.begun is) ∙ same)
 
     same_now : (item : Sharing) → b'.sharing ≡ Some item → now ≡ item
     same_now item is = same_sharing b' now item now_is is
@@ -201,7 +245,8 @@ module _ (d : Disk) (b : Parts) (s : State) (v : IsVolume d b s) (slot : ℕ) (t
 
     waits_still : (ino at : ℕ) → IsWaiting b ino at → IsWaiting b' ino at
     waits_still ino at (in_queue work n has of_ino of_slot is round) =
-        in_queue work n (subst (λ (ws : List Work). Contains ws work) (sym change.kept.queue) has) of_ino of_slot (ap (λ (ns : List InodeState). slice_get ns ino) change.kept.inodes ∙ is) round
+        in_queue work n (subst (λ (ws : List Work). Contains ws work) (sym change.kept.queue) has) of_ino of_slot
+        (ap (λ (ns : List InodeState). slice_get ns ino) change.kept.inodes ∙ is) round
     waits_still ino at (is_begun item is of_ino of_slot) =
         let same = same_sharing b to.sharing item to.begun is in
         is_begun now now_is (ap (λ (x : Sharing). x.work.ino) same ∙ of_ino) (ap (λ (x : Sharing). x.work.slot) same ∙ of_slot)
@@ -216,7 +261,8 @@ module _ (d : Disk) (b : Parts) (s : State) (v : IsVolume d b s) (slot : ℕ) (t
     has_still : (page : ℕ) → PageHasRow d page → PageHasRow e page
     has_still page some =
         let found = row_listed (rows d) page some in
-        subst (λ (p : ℕ). IsSome (row_of (rows e) p)) found.2 (row_found (rows e) (recount slot (row.rfc + 1) (row.uc - 1) found.0) ((recounts_rows d slot (row.rfc + 1) (row.uc - 1)).kept found.0 found.1))
+        subst (λ (p : ℕ). IsSome (row_of (rows e) p)) found.2 (row_found (rows e) (recount slot (row.rfc + 1) (row.uc - 1) found.0)
+        ((recounts_rows d slot (row.rfc + 1) (row.uc - 1)).kept found.0 found.1))
 
     begun_was : IsBegun d to.sharing
     begun_was = (v.sharing to.sharing to.begun).begun
@@ -224,11 +270,14 @@ module _ (d : Disk) (b : Parts) (s : State) (v : IsVolume d b s) (slot : ℕ) (t
     some_same : (p q : Mapping) → Some p ≡ Some q → p ≡ q
     some_same p q is = cc
 
-    done_more : (i : ℕ) (m : Mapping) → i < to.sharing.done + 1 → maps d to.sharing.work.ino (to.sharing.first + i) ≡ Some m → m.slot ≡ to.sharing.work.slot → IsAlone m ⊎ PageHasRow e m.block
+    done_more : (i : ℕ) (m : Mapping) → i < to.sharing.done + 1 → maps d to.sharing.work.ino (to.sharing.first + i) ≡ Some m
+        → m.slot ≡ to.sharing.work.slot → IsAlone m ⊎ PageHasRow e m.block
     done_more i m lt mapped by_item = elim (cases_eq i to.sharing.done) [
       | inl here ↦
-          let same : to_settle.by ≡ m = some_same to_settle.by m (sym to_settle.mapped ∙ ap (λ (n : ℕ). maps d to.sharing.work.ino (to.sharing.first + n)) (sym here) ∙ mapped) in
-          inr (has_still m.block (subst (PageHasRow d) (sym to_settle.on_page ∙ ap (λ (x : Mapping). x.block) same) (row_found (rows d) row at_slot.there)))
+          let same : to_settle.by ≡ m = some_same to_settle.by m
+          (sym to_settle.mapped ∙ ap (λ (n : ℕ). maps d to.sharing.work.ino (to.sharing.first + n)) (sym here) ∙ mapped) in
+          inr (has_still m.block (subst (PageHasRow d) (sym to_settle.on_page ∙ ap (λ (x : Mapping). x.block) same)
+          (row_found (rows d) row at_slot.there)))
       | inr there ↦ ⊎_elim (λ alone. inl alone) (λ has. inr (has_still m.block has)) (begun_was.done_so i m (omega (arith, lt, there)) mapped by_item)
     ]
 
@@ -243,7 +292,8 @@ module _ (d : Disk) (b : Parts) (s : State) (v : IsVolume d b s) (slot : ℕ) (t
         mask = begun_was.mask;
         item = begun_was.item;
         done_few = omega (arith, settle_some);
-        done_so = λ i m lt mapped by_item. done_more i m lt (sym (maps_same d e.chain e.pointer to.sharing.work.ino (to.sharing.first + i)) ∙ mapped) by_item;
+        done_so = λ i m lt mapped by_item. done_more i m lt (sym (maps_same d e.chain e.pointer to.sharing.work.ino (to.sharing.first + i)) ∙ mapped)
+            by_item;
       };
       step = omega (arith, settle_some);
     }
@@ -292,7 +342,8 @@ module _ (d : Disk) (b : Parts) (s : State) (v : IsVolume d b s) (slot : ℕ) (t
         queue = omega (arith, v.room.queue, change.kept.queue_room, owed_queue);
         releases = omega (arith, v.room.releases, change.len, change.capacity, owed_releases);
         names = omega (arith, v.room.names, change.kept.names_room, owed_history);
-        places = λ who f c n flies is at. v.room.places who f c n (flies_before b b' change.flights who f flies) is (ap (λ (ns : List InodeState). slice_get ns f.ino) (sym change.kept.inodes) ∙ at);
+        places = λ who f c n flies is at. v.room.places who f c n (flies_before b b' change.flights who f flies) is
+            (ap (λ (ns : List InodeState). slice_get ns f.ino) (sym change.kept.inodes) ∙ at);
       }
 
       pub share_event : CountEvent up 15 d b b' s u slot word row
@@ -301,7 +352,11 @@ module _ (d : Disk) (b : Parts) (s : State) (v : IsVolume d b s) (slot : ℕ) (t
         moves = moves;
         kept = change.kept;
         hands = hands;
-        same = record { flights = λ q some ne. ap (λ (fs : List (Option Flight)). flight_at fs (q - 1)) change.flights; sharing = λ ne. absurd (ne refl) };
+        same = record {
+          flights = λ q some ne. ap (λ (fs : List (Option Flight)). flight_at fs (q - 1)) change.flights;
+          sharing = λ ne. absurd
+              (ne refl);
+        };
         ops = ops_same b b' change.flights;
         running = change.stopped;
         clients = ap (λ (fs : List (Option Flight)). length fs) change.flights;

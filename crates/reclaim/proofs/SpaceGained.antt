@@ -15,7 +15,12 @@ use Rattle.reclaim.proofs.WorkEvent.{takes_on, takes_back}
 
 -- a page was given back
 pub gives_one : (page : ℕ) (old new : FreePages) → GivesBack page old new → IsInOrder new → Gives (λ p. p ≡ page) old new
-gives_one page old new gives order = record { pages = gives.pages; free = λ p. (to p, from p); no_less = omega (arith, gives.count); in_order = order }
+gives_one page old new gives order = record {
+  pages = gives.pages;
+  free = λ p. (to p, from p);
+  no_less = omega (arith, gives.count);
+  in_order = order;
+}
   where
     to : (p : ℕ) → Contains new.free p → Contains old.free p ⊎ (p ≡ page)
     to p there = elim (cases_eq p page) [ inl e ↦ inr e | inr ne ↦ inl ((gives.others p ne).0 there) ]
@@ -37,14 +42,16 @@ gives_none given s t same order none = record {
 }
 
 -- These pages were used, are unused now, and were given back.
-module _ (d e : Disk) (b b' : Parts) (kept : KeepsWork b b') (given : ℕ → Type 0) (geometry : e.geometry ≡ d.geometry) (gives : Gives given b.free b'.free)
+module _ (d e : Disk) (b b' : Parts) (kept : KeepsWork b b') (given : ℕ → Type 0) (geometry : e.geometry ≡ d.geometry)
+    (gives : Gives given b.free b'.free)
     (then : (page : ℕ) → IsUnused d page ⊎ given page → IsUnused e page) (before : (page : ℕ) → IsUnused e page → IsUnused d page ⊎ given page)
     (was_used : (page : ℕ) → given page → IsUnused d page → ⊥) (space : HasSpace d b) where
   no_taker : (page : ℕ) → given page → space.taker page ≡ 0
   no_taker page is = elim (cases_eq (space.taker page) 0) [ inl none ↦ none | inr some ↦ absurd (was_used page is (space.unused page some)) ]
 
   free_to : (page : ℕ) → Contains b'.free.free page → IsUnused e page × (space.taker page ≡ 0)
-  free_to page there = ⊎_elim (λ was. let both = (space.free page).0 was in (then page (inl both.0), both.1)) (λ is. (then page (inr is), no_taker page is)) ((gives.free page).0 there)
+  free_to page there = ⊎_elim (λ was. let both = (space.free page).0 was in (then page (inl both.0), both.1))
+      (λ is. (then page (inr is), no_taker page is)) ((gives.free page).0 there)
 
   free_from : (page : ℕ) → IsUnused e page × (space.taker page ≡ 0) → Contains b'.free.free page
   free_from page both = (gives.free page).1 (⊎_elim (λ was. inl ((space.free page).1 (was, both.1))) (λ is. inr is) (before page both.0))
@@ -69,5 +76,11 @@ slots_stay d e t t' geometry same table is = subst (AreSlotsOf e) (sym table) (r
   free = λ k there row has. is.free k there row (subst (λ (rs : List Row). Contains rs row) same has);
   taken = λ k lt not.
       let found = is.taken k lt not in
-      record { row = found.row; is = record { there = subst (λ (rs : List Row). Contains rs found.row) (sym same) found.is.there; slot_is = found.is.slot_is } };
+      record {
+        row = found.row;
+        is = record {
+          there = subst (λ (rs : List Row). Contains rs found.row) (sym same) found.is.there;
+          slot_is = found.is.slot_is;
+        };
+      };
 })

@@ -31,7 +31,8 @@ module _ (d : Disk) (ino : ℕ) (step : Step) where
   unfolding page_bytes stepped
   bytes_still page = refl
 
-module _ (d : Disk) (ino : ℕ) (step : Step) (field value : ℕ) (small : field < 16) (one : IsOneWord d (stepped d ino step) 0 [] (inode_word ino field) value)
+module _ (d : Disk) (ino : ℕ) (step : Step) (field value : ℕ) (small : field < 16) (one : IsOneWord d (stepped d ino step) 0 [] (inode_word ino field)
+    value)
     (living : KeepsLiving d (stepped d ino step) ino) (in_table : ino < d.geometry.inodes) where
   abbrev e : Disk
   e = stepped d ino step
@@ -40,7 +41,11 @@ module _ (d : Disk) (ino : ℕ) (step : Step) (field value : ℕ) (small : field
   not_in i out same = out (subst (Contains (ino ∷ [])) (sym same) (listed_here ino []))
 
   pub unused_kept : (page : ℕ) → IsUnused d page → IsUnused e page
-  unused_kept page is = record { free = living.free_kept page is.free; no_row = subst (λ (rs : List Row). IsNone (row_of rs page)) (sym living.rows_same) is.no_row }
+  unused_kept page is = record {
+    free = living.free_kept page is.free;
+    no_row = subst (λ (rs : List Row). IsNone (row_of rs page))
+        (sym living.rows_same) is.no_row;
+  }
 
   keeps_rest : KeepsRest (ino ∷ []) [] d e
   keeps_rest = record {
@@ -50,7 +55,13 @@ module _ (d : Disk) (ino : ℕ) (step : Step) (field value : ℕ) (small : field
     word = λ page k read. same_word d ino step page k;
     unused = λ page out is. unused_kept page is;
     slots = λ i idx m lt out is. ap (λ (rs : List Row). slot_of_row (row_of rs m.block)) living.rows_same;
-    counting = λ row has some. record { still = row; there = subst (λ (rs : List Row). Contains rs row) (sym living.rows_same) has; slot = refl; page = refl; print = refl };
+    counting = λ row has some. record {
+      still = row;
+      there = subst (λ (rs : List Row). Contains rs row) (sym living.rows_same) has;
+      slot = refl;
+      page = refl;
+      print = refl;
+    };
   }
 
   pub step_pointers : HasNoStale d → HasNoStale e
@@ -59,8 +70,19 @@ module _ (d : Disk) (ino : ℕ) (step : Step) (field value : ℕ) (small : field
 
   accounts : (print : Print) → AccountsFor print d e
   accounts print = record {
-    alone = λ i idx m place alone. inl (record { mapping = m; place = living.live_only i idx m place; alone = alone; page_is = refl; bytes_are = bytes_still d ino step m.block });
-    row_pages = λ row has. inl (record { was = row; there = subst (λ (rs : List Row). Contains rs row) living.rows_same has; page_is = refl; bytes_are = bytes_still d ino step row.page });
+    alone = λ i idx m place alone. inl (record {
+      mapping = m;
+      place = living.live_only i idx m place;
+      alone = alone;
+      page_is = refl;
+      bytes_are = bytes_still d ino step m.block;
+    });
+    row_pages = λ row has. inl (record {
+      was = row;
+      there = subst (λ (rs : List Row). Contains rs row) living.rows_same has;
+      page_is = refl;
+      bytes_are = bytes_still d ino step row.page;
+    });
   }
 
   module _ (s u : State) (g : Geometry) (fast : StandsFast d g s) (only : StoresOnly (λ a. a ≡ inode_word ino field) s u) where
@@ -73,7 +95,8 @@ module _ (d : Disk) (ino : ℕ) (step : Step) (field value : ℕ) (small : field
     pub step_shown : (print : Print) → (IsOwn print d → IsOwn print e) → Agree u.now u.past → s.faults ≤ u.faults
         → (IsSettled s (inode_word ino field) → LeavesOnly s u (LeavesOneWord (inode_word ino field) value s)) → WorkShown print d e s u
     step_shown print own agree faults any_moment = record {
-      images = old_or_new print d e s u own (one_word_any_order d e 0 (inode_word ino field) value one s u agree long fast.stands (any_moment step_settled));
+      images = old_or_new print d e s u own (one_word_any_order d e 0 (inode_word ino field) value one s u agree long fast.stands
+          (any_moment step_settled));
       quiet = living.files_same;
       own = own;
       accounts = accounts print;

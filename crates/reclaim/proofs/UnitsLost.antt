@@ -17,7 +17,8 @@ places_same d e ino same = total-same (λ idx. one_some (maps d ino idx)) (λ id
     (λ idx lt. ap one_some (same idx))
 
 -- where one goes
-pub places_less : (d e : Disk) (ino place : ℕ) (m : Mapping) → place < 4096 → maps d ino place ≡ Some m → maps e ino place ≡ None → ((idx : ℕ) → idx ≢ place → maps e ino idx ≡ maps d ino idx)
+pub places_less : (d e : Disk) (ino place : ℕ) (m : Mapping) → place < 4096 → maps d ino place ≡ Some m → maps e ino place ≡ None
+    → ((idx : ℕ) → idx ≢ place → maps e ino idx ≡ maps d ino idx)
     → mapped_places e ino + 1 ≡ mapped_places d ino
 unfolding mapped_places
 places_less d e ino place m lt mapped gone same =
@@ -33,14 +34,17 @@ units_dying d ino cut dying = ap (λ (u : Use). units_by_use u (mapped_places d 
 pub units_free : (d : Disk) (ino : ℕ) → (d.inode ino).use_of ≡ Free → dying_units d ino ≡ 0
 units_free d ino free = ap (λ (u : Use). units_by_use u (mapped_places d ino)) free
 
-module _ (d e : Disk) (ino : ℕ) (in_table : ino < d.geometry.inodes) (inodes : e.geometry.inodes ≡ d.geometry.inodes) (others : (i : ℕ) → i ≢ ino → (e.inode i).use_of ≡ (d.inode i).use_of)
+module _ (d e : Disk) (ino : ℕ) (in_table : ino < d.geometry.inodes) (inodes : e.geometry.inodes ≡ d.geometry.inodes) (others : (i : ℕ) → i ≢ ino
+    → (e.inode i).use_of ≡ (d.inode i).use_of)
     (maps_others : (i idx : ℕ) → i ≢ ino → maps e i idx ≡ maps d i idx) where
   units_other : (i : ℕ) → i ≢ ino → dying_units e i ≡ dying_units d i
-  units_other i ne = ap (λ (u : Use). units_by_use u (mapped_places e i)) (others i ne) ∙ ap (units_by_use (d.inode i).use_of) (places_same d e i (λ idx. maps_others i idx ne))
+  units_other i ne = ap (λ (u : Use). units_by_use u (mapped_places e i)) (others i ne) ∙ ap (units_by_use (d.inode i).use_of)
+      (places_same d e i (λ idx. maps_others i idx ne))
 
   -- the units move by those of the inode
   pub units_move : total e.geometry.inodes (dying_units e) + dying_units d ino ≡ total d.geometry.inodes (dying_units d) + dying_units e ino
-  units_move = ap (λ (n : ℕ). total n (dying_units e) + dying_units d ino) inodes ∙ total-change (dying_units d) (dying_units e) d.geometry.inodes ino in_table units_other
+  units_move = ap (λ (n : ℕ). total n (dying_units e) + dying_units d ino) inodes ∙ total-change (dying_units d) (dying_units e) d.geometry.inodes ino
+      in_table units_other
 
 -- those of one inode are among all
 pub units_some : (d : Disk) (ino : ℕ) → ino < d.geometry.inodes → dying_units d ino ≤ total d.geometry.inodes (dying_units d)

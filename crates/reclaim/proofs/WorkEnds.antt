@@ -81,7 +81,8 @@ module _ {D F : Type 0} (state : D → State) (w : Volume D F) where
     drop_line agrees running =
         let found = running_disk state w running agrees in
         let may = may_drop found.0 w.parts (state w.device) found.1 p raised_is in
-        (one_word_may_commit found.0 (stepped found.0 p.ino (Falls p.place)) 0 [] (inode_word p.ino 3) p.place (fall_one found.0 p.ino p.place may) (state w.device) found.1.fast.long found.1.fast.stands).line
+        (one_word_may_commit found.0 (stepped found.0 p.ino (Falls p.place)) 0 [] (inode_word p.ino 3) p.place (fall_one found.0 p.ino p.place may)
+        (state w.device) found.1.fast.long found.1.fast.stands).line
 
     pub drop_waits : Agrees state w → w.parts.stopped ≡ false → 1 ≤ w.parts.reclaiming.waiting
     drop_waits agrees running =
@@ -93,7 +94,8 @@ module _ {D F : Type 0} (state : D → State) (w : Volume D F) where
         omega (arith, found.1.reclaiming.waiting, one, some, units_some found.0 p.ino at.in_table, units_dying found.0 p.ino at.before at.dying)
       where
         in_file_of : (d : Disk) (v : IsVolume d w.parts (state w.device)) → p.place < 4096
-        in_file_of d v = maps-in_file d v.fast.valid p.ino p.place (v.reclaiming.raised p raised_is).by (v.reclaiming.raised p raised_is).in_table (v.reclaiming.raised p raised_is).mapped
+        in_file_of d v = maps-in_file d v.fast.valid p.ino p.place (v.reclaiming.raised p raised_is).by (v.reclaiming.raised p raised_is).in_table
+            (v.reclaiming.raised p raised_is).mapped
 
     pub drop_units : Agrees state w → w.parts.stopped ≡ false → FALL_UNITS ≤ w.parts.owed.units
     drop_units agrees running =
@@ -117,23 +119,28 @@ module _ {D F : Type 0} (state : D → State) (w : Volume D F) where
         let found = running_disk state w running agrees in
         omega (arith, drop_release agrees running, found.1.room.releases)
 
-    module _ (print : Print) (w' : Volume D F) (sets : SetsWord (inode_word p.ino 3) p.place (state w.device) (state w'.device)) (agree : Agree (state w'.device).now (state w'.device).past) (d : Disk)
+    module _ (print : Print) (w' : Volume D F) (sets : SetsWord (inode_word p.ino 3) p.place (state w.device) (state w'.device))
+        (agree : Agree (state w'.device).now (state w'.device).past) (d : Disk)
         (v : IsVolume d w.parts (state w.device)) where
       drop_shown : WorkShown print d (stepped d p.ino (Falls p.place)) (state w.device) (state w'.device)
       drop_shown =
           let may = may_drop d w.parts (state w.device) v p raised_is in
-          step_shown d p.ino (Falls p.place) 3 p.place (omega arith) (fall_one d p.ino p.place may) (fall_living d p.ino p.place may) may.in_table (state w.device) (state w'.device) w.parts.geometry v.fast sets.only print
+          step_shown d p.ino (Falls p.place) 3 p.place (omega arith) (fall_one d p.ino p.place may) (fall_living d p.ino p.place may) may.in_table
+          (state w.device) (state w'.device) w.parts.geometry v.fast sets.only print
           (own_kept d p.ino (Falls p.place) (fall_steps d p.ino p.place may) print) agree sets.faults sets.any_moment
 
-      pub drop_moves : IsDone 16 (inode_word p.ino 3) p.place (state w.device) (state w'.device) → SettlesAll 16 (state w.device) (state w'.device) → DropsPlace p w.parts w'.parts → MovesOn state print 16 w w' d
+      pub drop_moves : IsDone 16 (inode_word p.ino 3) p.place (state w.device) (state w'.device) → SettlesAll 16 (state w.device) (state w'.device)
+          → DropsPlace p w.parts w'.parts → MovesOn state print 16 w w' d
       drop_moves done settles change = work_moves state print w w' d (stepped d p.ino (Falls p.place)) v drop_shown (p.ino ∷ [])
           (drop_event d w.parts w'.parts (state w.device) (state w'.device) v p raised_is change sets.spare sets.only sets.others done settles)
 
       pub drop_breaks : Stops w.parts w'.parts → Rose (state w.device).faults (state w'.device).faults → Breaks state print 16 None w w' d
-      drop_breaks stops rose = work_breaks state print w w' d (stepped d p.ino (Falls p.place)) v drop_shown stops (λ a. a ≡ inode_word p.ino 3) sets.only (λ a low is. omega (arith, low, is)) rose
+      drop_breaks stops rose = work_breaks state print w w' d (stepped d p.ino (Falls p.place)) v drop_shown stops (λ a. a ≡ inode_word p.ino 3)
+          sets.only (λ a low is. omega (arith, low, is)) rose
 
   -- the last place, on a page without a row
-  module _ (ino place page : ℕ) (last : IsAt (λ n. IsLastOf n place page) w.parts.inodes.items ino) (none : (d : Disk) → IsTable d (state w.device).now w.parts.fact → HasNoneOf d page)
+  module _ (ino place page : ℕ) (last : IsAt (λ n. IsLastOf n place page) w.parts.inodes.items ino) (none : (d : Disk)
+      → IsTable d (state w.device).now w.parts.fact → HasNoneOf d page)
       (unraised : w.parts.reclaiming.raised ≡ None) where
     abbrev last_of : (d : Disk) → IsVolume d w.parts (state w.device) → IsLastPlace d ino place page
     last_of d v = last_place d w.parts (state w.device) v ino place page last
@@ -147,13 +154,18 @@ module _ {D F : Type 0} (state : D → State) (w : Volume D F) where
         subst (λ (g : Geometry). ino < g.inodes) found.1.fast.geometry (last_of found.0 found.1).in_table
 
     pub free_there : Agrees state w → w.parts.stopped ≡ false → ino < length w.parts.inodes.items
-    free_there agrees running = let found = running_disk state w running agrees in omega (arith, (last_of found.0 found.1).in_table, found.1.inodes.all)
+    free_there agrees running = let found = running_disk state w running agrees in omega (
+      arith,
+      (last_of found.0 found.1).in_table,
+      found.1.inodes.all,
+    )
 
     pub free_line : Agrees state w → w.parts.stopped ≡ false → inode_word ino 3 / 8 * 8 + 8 ≤ length (state w.device).now
     free_line agrees running =
         let found = running_disk state w running agrees in
         let may = may_fall found.0 w.parts (state w.device) found.1 ino place page (last_of found.0 found.1) (none_of found.0 found.1) in
-        (one_word_may_commit found.0 (stepped found.0 ino (Falls place)) 0 [] (inode_word ino 3) place (fall_one found.0 ino place may) (state w.device) found.1.fast.long found.1.fast.stands).line
+        (one_word_may_commit found.0 (stepped found.0 ino (Falls place)) 0 [] (inode_word ino 3) place (fall_one found.0 ino place may)
+        (state w.device) found.1.fast.long found.1.fast.stands).line
 
     pub free_waits : Agrees state w → w.parts.stopped ≡ false → 4 ≤ w.parts.reclaiming.waiting
     free_waits agrees running =
@@ -168,22 +180,28 @@ module _ {D F : Type 0} (state : D → State) (w : Volume D F) where
         omega (arith, page_inside found.0 w.parts (state w.device) found.1 ino place page (last_of found.0 found.1), found.1.space.pages)
 
     pub free_taken : Agrees state w → w.parts.stopped ≡ false → Contains w.parts.free.free page → ⊥
-    free_taken agrees running = let found = running_disk state w running agrees in page_used found.0 w.parts (state w.device) found.1 ino place page (last_of found.0 found.1)
+    free_taken agrees running = let found = running_disk state w running agrees in page_used found.0 w.parts (state w.device) found.1 ino place page
+        (last_of found.0 found.1)
 
-    module _ (print : Print) (w' : Volume D F) (sets : SetsWord (inode_word ino 3) place (state w.device) (state w'.device)) (agree : Agree (state w'.device).now (state w'.device).past) (d : Disk)
+    module _ (print : Print) (w' : Volume D F) (sets : SetsWord (inode_word ino 3) place (state w.device) (state w'.device))
+        (agree : Agree (state w'.device).now (state w'.device).past) (d : Disk)
         (v : IsVolume d w.parts (state w.device)) where
       free_shown : WorkShown print d (stepped d ino (Falls place)) (state w.device) (state w'.device)
       free_shown =
           let may = may_fall d w.parts (state w.device) v ino place page (last_of d v) (none_of d v) in
-          step_shown d ino (Falls place) 3 place (omega arith) (fall_one d ino place may) (fall_living d ino place may) may.in_table (state w.device) (state w'.device) w.parts.geometry v.fast sets.only print
+          step_shown d ino (Falls place) 3 place (omega arith) (fall_one d ino place may) (fall_living d ino place may) may.in_table (state w.device)
+          (state w'.device) w.parts.geometry v.fast sets.only print
           (own_kept d ino (Falls place) (fall_steps d ino place may) print) agree sets.faults sets.any_moment
 
-      pub free_moves : IsDone 16 (inode_word ino 3) place (state w.device) (state w'.device) → SettlesAll 16 (state w.device) (state w'.device) → w.parts.owed.units + 3 ≤ (state w.device).spare → FreesPlace ino place page w.parts w'.parts → MovesOn state print 16 w w' d
+      pub free_moves : IsDone 16 (inode_word ino 3) place (state w.device) (state w'.device) → SettlesAll 16 (state w.device) (state w'.device)
+          → w.parts.owed.units + 3 ≤ (state w.device).spare → FreesPlace ino place page w.parts w'.parts → MovesOn state print 16 w w' d
       free_moves done settles units change = work_moves state print w w' d (stepped d ino (Falls place)) v free_shown (ino ∷ [])
-          (free_event d w.parts w'.parts (state w.device) (state w'.device) v ino place page (last_of d v) (none_of d v) unraised change units sets.spare sets.only sets.others done settles)
+          (free_event d w.parts w'.parts (state w.device) (state w'.device) v ino place page (last_of d v) (none_of d v) unraised change units
+          sets.spare sets.only sets.others done settles)
 
       pub free_breaks : Stops w.parts w'.parts → Rose (state w.device).faults (state w'.device).faults → Breaks state print 16 None w w' d
-      free_breaks stops rose = work_breaks state print w w' d (stepped d ino (Falls place)) v free_shown stops (λ a. a ≡ inode_word ino 3) sets.only (λ a low is. omega (arith, low, is)) rose
+      free_breaks stops rose = work_breaks state print w w' d (stepped d ino (Falls place)) v free_shown stops (λ a. a ≡ inode_word ino 3) sets.only
+          (λ a low is. omega (arith, low, is)) rose
 
   -- no place is left
   module _ (ino : ℕ) (none : IsAt IsUnmapped w.parts.inodes.items ino) (unraised : w.parts.reclaiming.raised ≡ None) where
@@ -196,12 +214,17 @@ module _ {D F : Type 0} (state : D → State) (w : Volume D F) where
         subst (λ (g : Geometry). ino < g.inodes) found.1.fast.geometry (ends_of found.0 found.1).in_table
 
     pub end_there : Agrees state w → w.parts.stopped ≡ false → ino < length w.parts.inodes.items
-    end_there agrees running = let found = running_disk state w running agrees in omega (arith, (ends_of found.0 found.1).in_table, found.1.inodes.all)
+    end_there agrees running = let found = running_disk state w running agrees in omega (
+      arith,
+      (ends_of found.0 found.1).in_table,
+      found.1.inodes.all,
+    )
 
     pub end_line : Agrees state w → w.parts.stopped ≡ false → inode_word ino 0 / 8 * 8 + 8 ≤ length (state w.device).now
     end_line agrees running =
         let found = running_disk state w running agrees in
-        (one_word_may_commit found.0 (stepped found.0 ino Ends) 0 [] (inode_word ino 0) 0 (end_one found.0 ino (ends_of found.0 found.1)) (state w.device) found.1.fast.long found.1.fast.stands).line
+        (one_word_may_commit found.0 (stepped found.0 ino Ends) 0 [] (inode_word ino 0) 0 (end_one found.0 ino (ends_of found.0 found.1))
+        (state w.device) found.1.fast.long found.1.fast.stands).line
 
     pub end_waits : Agrees state w → w.parts.stopped ≡ false → 1 ≤ w.parts.reclaiming.waiting
     end_waits agrees running =
@@ -210,23 +233,30 @@ module _ {D F : Type 0} (state : D → State) (w : Volume D F) where
         let zero : one_if w.parts.reclaiming.raised ≡ 0 = ap (λ (r : Option DyingPlace). one_if r) unraised in
         omega (arith, found.1.reclaiming.waiting, zero, units_some found.0 ino may.in_table, units_dying found.0 ino may.before may.dying)
 
-    module _ (print : Print) (w' : Volume D F) (sets : SetsWord (inode_word ino 0) 0 (state w.device) (state w'.device)) (agree : Agree (state w'.device).now (state w'.device).past) (d : Disk)
+    module _ (print : Print) (w' : Volume D F) (sets : SetsWord (inode_word ino 0) 0 (state w.device) (state w'.device))
+        (agree : Agree (state w'.device).now (state w'.device).past) (d : Disk)
         (v : IsVolume d w.parts (state w.device)) where
       end_shown : WorkShown print d (stepped d ino Ends) (state w.device) (state w'.device)
       end_shown =
           let may = ends_of d v in
-          step_shown d ino Ends 0 0 (omega arith) (end_one d ino may) (end_living d ino may) may.in_table (state w.device) (state w'.device) w.parts.geometry v.fast sets.only print
+          step_shown d ino Ends 0 0 (omega arith) (end_one d ino may) (end_living d ino may) may.in_table (state w.device) (state w'.device)
+          w.parts.geometry v.fast sets.only print
           (own_kept d ino Ends (end_steps d ino may) print) agree sets.faults sets.any_moment
 
-      pub end_moves : IsDone 16 (inode_word ino 0) 0 (state w.device) (state w'.device) → SettlesAll 16 (state w.device) (state w'.device) → w.parts.owed.units + 3 ≤ (state w.device).spare → EndsInode ino w.parts w'.parts
+      pub end_moves : IsDone 16 (inode_word ino 0) 0 (state w.device) (state w'.device) → SettlesAll 16 (state w.device) (state w'.device)
+          → w.parts.owed.units + 3 ≤ (state w.device).spare → EndsInode ino w.parts w'.parts
           → Gives (Contains (d.inode ino).log.pages) w.parts.free w'.parts.free → MovesOn state print 16 w w' d
       end_moves done settles units change gives = work_moves state print w w' d (stepped d ino Ends) v end_shown (ino ∷ [])
-          (end_event d w.parts w'.parts (state w.device) (state w'.device) v ino (ends_of d v) unraised change gives units sets.spare sets.only sets.others done settles)
+          (end_event d w.parts w'.parts (state w.device) (state w'.device) v ino (ends_of d v) unraised change gives units sets.spare sets.only
+          sets.others done settles)
 
       pub end_breaks : Stops w.parts w'.parts → Rose (state w.device).faults (state w'.device).faults → Breaks state print 16 None w w' d
-      end_breaks stops rose = work_breaks state print w w' d (stepped d ino Ends) v end_shown stops (λ a. a ≡ inode_word ino 0) sets.only (λ a low is. omega (arith, low, is)) rose
+      end_breaks stops rose = work_breaks state print w w' d (stepped d ino Ends) v end_shown stops (λ a. a ≡ inode_word ino 0) sets.only
+          (λ a low is. omega (arith, low, is)) rose
 
 -- the pages of its log came free
 pub end_gives : (b : Parts) (s : State) (d : Disk) (v : IsVolume d b s) (ino : ℕ) (none : IsAt IsUnmapped b.inodes.items ino) (mid after : FreePages)
-    → ((pages : List ℕ) → LeadsThrough s.now b.geometry ino pages → Gives (Contains pages) b.free mid) → after ≡ mid → Gives (Contains (d.inode ino).log.pages) b.free after
-end_gives b s d v ino none mid after gives same = subst (Gives (Contains (d.inode ino).log.pages) b.free) (sym same) (gives (d.inode ino).log.pages (log_leads d b s v ino (may_end d b s v ino none)))
+    → ((pages : List ℕ) → LeadsThrough s.now b.geometry ino pages → Gives (Contains pages) b.free mid) → after ≡ mid
+    → Gives (Contains (d.inode ino).log.pages) b.free after
+end_gives b s d v ino none mid after gives same = subst (Gives (Contains (d.inode ino).log.pages) b.free) (sym same)
+    (gives (d.inode ino).log.pages (log_leads d b s v ino (may_end d b s v ino none)))

@@ -113,7 +113,8 @@ module _ (inodes : List ℕ) (d e : Disk) (b b' : Parts) (s u : State) (v : IsVo
         let was = is.nodes.back ino n at in
         let one = v.holders.told ino who was.0 was.1 in
         ((λ holder. holds_on b b' is.kept who ino (one.0 (sym was.2 ∙ holder))), (λ holds. was.2 ∙ one.1 (holds_back b b' is.kept who ino holds)));
-    in_table = λ ino who holds. subst (λ (g : Geometry). ino < g.inodes) (sym is.leaves.rest.geometry) (v.holders.in_table ino who (holds_back b b' is.kept who ino holds));
+    in_table = λ ino who holds. subst (λ (g : Geometry). ino < g.inodes) (sym is.leaves.rest.geometry)
+        (v.holders.in_table ino who (holds_back b b' is.kept who ino holds));
   }
 
   trace_after : NamesSlots b'
@@ -152,7 +153,8 @@ pub record WorkShown (print : Print) (d e : Disk) (s u : State) : Type 0 where
   pub words : (slot : ℕ) → word_at e slot ≡ word_at d slot
   pub faults : s.faults ≤ u.faults
 
-module _ {D F : Type 0} (state : D → State) (print : Print) (w w' : Volume D F) (d e : Disk) (v : IsVolume d w.parts (state w.device)) (shown : WorkShown print d e (state w.device) (state w'.device)) where
+module _ {D F : Type 0} (state : D → State) (print : Print) (w w' : Volume D F) (d e : Disk) (v : IsVolume d w.parts (state w.device))
+    (shown : WorkShown print d e (state w.device) (state w'.device)) where
   pub work_moves : (inodes : List ℕ) → WorkEvent inodes d e w.parts w'.parts (state w.device) (state w'.device) → MovesOn state print 16 w w' d
   work_moves inodes is = record {
     after = e;
@@ -172,7 +174,8 @@ module _ {D F : Type 0} (state : D → State) (print : Print) (w w' : Volume D F
     history = ap (λ (h : _). h.items) is.kept.history;
   }
 
-  module _ (stops : Stops w.parts w'.parts) (W : ℕ → Type 0) (only : StoresOnly W (state w.device) (state w'.device)) (high : (a : ℕ) → a < 4 → W a → ⊥) where
+  module _ (stops : Stops w.parts w'.parts) (W : ℕ → Type 0) (only : StoresOnly W (state w.device) (state w'.device)) (high : (a : ℕ) → a < 4 → W a
+      → ⊥) where
     pub work_stopped : IsStopped w'.parts (state w'.device)
     work_stopped = record {
       stopped = stops.stopped;

@@ -46,7 +46,12 @@ module _ (d : Disk) (row : Row) (valid : IsValid d) (has : Contains (rows d) row
   gone = subst (TakesRow row (rows d)) (sym rows_gone) (takes d row valid has)
 
   abbrev may : MayRemove d (prefix_of d.geometry row.print) row
-  may = let chain = stands_in_chain d (good_of d valid) row has in record { valid = valid; direct = chain.direct; has = chain.listed; few = omega (arith, unmapped) }
+  may = let chain = stands_in_chain d (good_of d valid) row has in record {
+    valid = valid;
+    direct = chain.direct;
+    has = chain.listed;
+    few = omega (arith, unmapped);
+  }
 
   pub removed_next : IsNextDisk d (removed d row.slot)
   removed_next = remove_next d (prefix_of d.geometry row.print) row may
@@ -54,7 +59,8 @@ module _ (d : Disk) (row : Row) (valid : IsValid d) (has : Contains (rows d) row
   pub gone_next : IsNextDisk d e
   gone_next = record {
     same = refl;
-    valid = (repoint_one_word (removed d row.slot) row.page 0 (may_repoint (removed d row.slot) row.page 0 removed_next.valid (taken_may_clear d (prefix_of d.geometry row.print) row (may_take d (prefix_of d.geometry row.print) row may)))).new_valid;
+    valid = (repoint_one_word (removed d row.slot) row.page 0 (may_repoint (removed d row.slot) row.page 0 removed_next.valid
+        (taken_may_clear d (prefix_of d.geometry row.print) row (may_take d (prefix_of d.geometry row.print) row may)))).new_valid;
     read = λ page some. removed_next.read page (subst (λ (rs : List Row). IsSome (row_of rs page)) rows_gone some);
   }
 
@@ -80,7 +86,8 @@ module _ (d : Disk) (row : Row) (valid : IsValid d) (has : Contains (rows d) row
   pub gone_then : (page : ℕ) → IsUnused d page ⊎ (page ≡ row.page) → IsUnused e page
   gone_then page is = record {
     free = ⊎_elim (λ (was : IsUnused d page). free_kept d e.chain e.pointer page was.free)
-        (λ (same : page ≡ row.page). subst (IsFree e) (sym same) (free_kept d e.chain e.pointer row.page (row_page_free d valid row has unmapped))) is;
+        (λ (same : page ≡ row.page). subst (IsFree e) (sym same) (free_kept d e.chain e.pointer row.page (row_page_free d valid row has unmapped)))
+        is;
     no_row = ⊎_elim (λ (was : IsUnused d page). none_found (rows e) page (λ r listed. none_listed (rows d) page was.no_row r (gone.only r listed).0))
         (λ (same : page ≡ row.page). none_found (rows e) page (λ r listed at. (gone.only r listed).3 (at ∙ same))) is;
   }
@@ -90,7 +97,8 @@ module _ (d : Disk) (row : Row) (valid : IsValid d) (has : Contains (rows d) row
     | inl same ↦ inr same
     | inr ne ↦ inl (record {
       free = free_only d e.chain e.pointer page is.free;
-      no_row = none_found (rows d) page (λ r listed at. ⊎_elim (λ (here : r ≡ row). ne (sym at ∙ ap (λ (x : Row). x.page) here)) (λ (still : Contains (rows e) r). none_listed (rows e) page is.no_row r still at) (gone.kept r listed));
+      no_row = none_found (rows d) page (λ r listed at. ⊎_elim (λ (here : r ≡ row). ne (sym at ∙ ap (λ (x : Row). x.page) here))
+          (λ (still : Contains (rows e) r). none_listed (rows e) page is.no_row r still at) (gone.kept r listed));
     })
   ]
 
@@ -98,7 +106,8 @@ module _ (d : Disk) (row : Row) (valid : IsValid d) (has : Contains (rows d) row
   gone_used page same unused = none_listed (rows d) page unused.no_row row has (sym same)
 
   row_found_still : (page : ℕ) → page ≢ row.page → row_of (rows e) page ≡ row_of (rows d) page
-  row_found_still page ne = gone.found page ∙ ap (λ (b : Bool). if b then None else row_of (rows d) page) (other_test row.page page (λ same. ne (sym same)))
+  row_found_still page ne = gone.found page ∙ ap (λ (b : Bool). if b then None else row_of (rows d) page)
+      (other_test row.page page (λ same. ne (sym same)))
 
   pub gone_rest : KeepsRest [] [] d e
   gone_rest = record {
@@ -109,7 +118,8 @@ module _ (d : Disk) (row : Row) (valid : IsValid d) (has : Contains (rows d) row
     unused = λ page out is. gone_then page (inl is);
     slots = λ i idx m lt out is. ap slot_of_row (row_found_still m.block (no_place i idx m lt is));
     counting = λ r listed some. ⊎_elim
-        (λ (here : r ≡ row). absurd (let one = ap (λ (x : Row). x.rfc) here in let two = ap (λ (x : Row). x.uc) here in omega (arith, some, one, two, no_reference, no_update)))
+        (λ (here : r ≡ row). absurd (let one = ap (λ (x : Row). x.rfc) here in let two = ap (λ (x : Row). x.uc) here in
+        omega (arith, some, one, two, no_reference, no_update)))
         (λ (still : Contains (rows e) r). record { still = r; there = still; slot = refl; page = refl; print = refl }) (gone.kept r listed);
   }
 
@@ -122,12 +132,22 @@ module _ (d : Disk) (row : Row) (valid : IsValid d) (has : Contains (rows d) row
   gone_accounts print = record {
     alone = λ ino idx m place alone. inl (record {
       mapping = m;
-      place = record { in_table = place.in_table; live = place.live; maps = sym (maps_same d (cleared d row).chain (cleared d row).pointer ino idx) ∙ place.maps };
+      place = record {
+        in_table = place.in_table;
+        live = place.live;
+        maps = sym (maps_same d (cleared d row).chain (cleared d row).pointer ino idx) ∙
+            place.maps;
+      };
       alone = alone;
       page_is = refl;
       bytes_are = bytes_still d row m.block;
     });
-    row_pages = λ r listed. inl (record { was = r; there = ((gone d row valid has no_reference no_update).only r listed).0; page_is = refl; bytes_are = bytes_still d row r.page });
+    row_pages = λ r listed. inl (record {
+      was = r;
+      there = ((gone d row valid has no_reference no_update).only r listed).0;
+      page_is = refl;
+      bytes_are = bytes_still d row r.page;
+    });
   }
 
 -- the count words without a row whose word was 0
@@ -145,7 +165,8 @@ module _ (slot : ℕ) where
   word_zero [] zero = refl
   word_zero (r ∷ rs) zero = elim (cases_eq r.slot slot) [
     | inl here ↦ ap (λ (t : Bool). if t then count_word r.rfc r.uc else word_in rs slot) (same_test r.slot slot here) ∙ zero r (listed_here r rs) here
-    | inr there ↦ ap (λ (t : Bool). if t then count_word r.rfc r.uc else word_in rs slot) (other_test r.slot slot there) ∙ word_zero rs (λ x has. zero x (listed_later r rs x has))
+    | inr there ↦ ap (λ (t : Bool). if t then count_word r.rfc r.uc else word_in rs slot) (other_test r.slot slot there) ∙ word_zero rs
+        (λ x has. zero x (listed_later r rs x has))
   ]
 
   word_other : (other : ℕ) → other ≢ slot → (rs : List Row) → word_in (without slot rs) other ≡ word_in rs other
@@ -159,9 +180,11 @@ module _ (slot : ℕ) where
         ∙ ap (λ (w : ℕ). if r.slot == other then count_word r.rfc r.uc else w) (word_other other ne rs)
   ]
 
-pub gone_words : (d : Disk) (row : Row) → ((r : Row) → Contains (rows d) r → r.slot ≡ row.slot → count_word r.rfc r.uc ≡ 0) → (slot : ℕ) → word_at (cleared d row) slot ≡ word_at d slot
+pub gone_words : (d : Disk) (row : Row) → ((r : Row) → Contains (rows d) r → r.slot ≡ row.slot → count_word r.rfc r.uc ≡ 0) → (slot : ℕ)
+    → word_at (cleared d row) slot ≡ word_at d slot
 gone_words d row zero slot =
     ap (λ (rs : List Row). word_in rs slot) (rows_repointed (removed d row.slot) row.page 0 ∙ rows_removed row.slot d) ∙ elim (cases_eq slot row.slot) [
-      | inl here ↦ ap (word_in (without row.slot (rows d))) here ∙ word_gone row.slot (rows d) ∙ sym (word_zero row.slot (rows d) zero) ∙ ap (word_in (rows d)) (sym here)
+      | inl here ↦ ap (word_in (without row.slot (rows d))) here ∙ word_gone row.slot (rows d) ∙ sym (word_zero row.slot (rows d) zero) ∙ ap
+          (word_in (rows d)) (sym here)
       | inr there ↦ word_other row.slot slot there (rows d)
     ]

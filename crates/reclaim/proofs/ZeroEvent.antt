@@ -40,60 +40,103 @@ use Rattle.reclaim.proofs.WorkEvent.{WorkEvent, WorkShown, flies_on, others_same
 use Rattle.reclaim.proofs.NodesChanged.{nodes_same}
 use Rattle.reclaim.proofs.SpaceGained.{space_gained, slots_stay, gives_none}
 use Rattle.reclaim.proofs.RoomWorked.{room_worked}
-use Rattle.reclaim.proofs.ZeroDisk.{gone, gone_next, removed_next, removed_own, gone_own, gone_then, gone_before, gone_used, gone_rest, gone_accounts, gone_words}
-use Rattle.reclaim.proofs.Zeroed.{under_way, one_was, none_now, raised_one, long_same, few_still, zero_moves, counts_again, images_now, before_at, without_kept, next_told}
+use Rattle.reclaim.proofs.ZeroDisk.{
+  gone,
+  gone_next,
+  removed_next,
+  removed_own,
+  gone_own,
+  gone_then,
+  gone_before,
+  gone_used,
+  gone_rest,
+  gone_accounts,
+  gone_words,
+}
+use Rattle.reclaim.proofs.Zeroed.{
+  under_way,
+  one_was,
+  none_now,
+  raised_one,
+  long_same,
+  few_still,
+  zero_moves,
+  counts_again,
+  images_now,
+  before_at,
+  without_kept,
+  next_told,
+}
 
-module _ (d : Disk) (b b' : Parts) (s : State) (v : IsVolume d b s) (slot : ℕ) (pending : b.reclaiming.zero_check ≡ Some slot) (checks : Checks b b') where
-  zero_inodes : b'.inodes.items ≡ b.inodes.items
-  zero_inodes = ap (λ (ns : _). ns.items) checks.inodes
+module _ (d : Disk) (b b' : Parts) (s : State) (v : IsVolume d b s) (slot : ℕ) (pending : b.reclaiming.zero_check ≡ Some slot) (checks : Checks b b')
+  where
+    zero_inodes : b'.inodes.items ≡ b.inodes.items
+    zero_inodes = ap (λ (ns : _). ns.items) checks.inodes
 
-  -- the row is counted again: nothing is stored
-  module _ (agree : Agree s.now s.past) (free : b'.free ≡ b.free) (fact : b'.fact ≡ b.fact) (counted : (row : Row) → IsAtSlot d slot row → row.rfc ≡ 0 → row.uc ≡ 0 → ⊥) where
-    pub stays_event : WorkEvent [] d d b b' s s
-    stays_event = record {
-      fast = v.fast;
-      dying = λ i has. absurd (omega (arith, has.1));
-      leaves = record {
-        rest = record {
-          geometry = refl;
-          inode = λ i out. refl;
-          named_so = λ i name some out. ((λ x. x), (λ x. x));
-          word = λ page k read. refl;
-          unused = λ page out unused. unused;
-          slots = λ i idx m lt out mapped. refl;
-          counting = λ row has some. record { still = row; there = has; slot = refl; page = refl; print = refl };
+    -- the row is counted again: nothing is stored
+    module _ (agree : Agree s.now s.past) (free : b'.free ≡ b.free) (fact : b'.fact ≡ b.fact) (counted : (row : Row) → IsAtSlot d slot row → row.rfc ≡ 0
+        → row.uc ≡ 0 → ⊥) where
+      pub stays_event : WorkEvent [] d d b b' s s
+      stays_event = record {
+        fast = v.fast;
+        dying = λ i has. absurd (omega (arith, has.1));
+        leaves = record {
+          rest = record {
+            geometry = refl;
+            inode = λ i out. refl;
+            named_so = λ i name some out. ((λ x. x), (λ x. x));
+            word = λ page k read. refl;
+            unused = λ page out unused. unused;
+            slots = λ i idx m lt out mapped. refl;
+            counting = λ row has some. record { still = row; there = has; slot = refl; page = refl; print = refl };
+          };
+          only = stores_only-none (IsWordOf [] [] d) s agree;
+          others = λ q a ne out inside flushed. flushed;
         };
-        only = stores_only-none (IsWordOf [] [] d) s agree;
-        others = λ q a ne out inside flushed. flushed;
-      };
-      names = λ name. refl;
-      live = λ ino idx m place. place;
-      kept = checks.kept;
-      nodes = nodes_same b.inodes.items b'.inodes.items zero_inodes;
-      inodes_are = subst (λ (ns : List InodeState). AreInodesOf d ns) (sym zero_inodes) v.inodes;
-      space = space_gained d d b b' checks.kept (λ page. ⊥) refl (gives_none (λ page. ⊥) b.free b'.free free v.space.in_order (λ page none. none))
-          (λ page is. ⊎_elim (λ was. was) (λ none. absurd none) is) (λ page is. inl is) (λ page none unused. none) v.space;
-      table = slots_stay d d b.fact b'.fact refl refl fact v.table;
-      counts = counts_again b b' slot pending checks d s s v counted;
-      reclaiming = record {
-        waiting = omega (arith, v.reclaiming.waiting, checks.waiting, one_was b b' slot pending checks, none_now b b' slot pending checks, raised_one b b' slot pending checks, long_same b b' slot pending checks);
-        zero_check = λ x is. absurd (no_check x b'.reclaiming.zero_check checks.zero_check is);
-        raised = λ p is. v.reclaiming.raised p (sym checks.raised ∙ is);
-      };
-      pointers = v.pointers;
-      room = room_worked b b' s s checks.kept (zero_moves b b' slot pending checks d s s v (omega arith)) v.room
-          (λ who f c y flies is at. v.room.places who f c y flies is (ap (λ (ns : List InodeState). slice_get ns f.ino) (sym zero_inodes) ∙ at));
-      still = still_same b b' s s (record { now = refl; past = refl; faults = refl }) (flies_on b b' checks.kept) v.still;
-    }
-      where
-        no_check : (x : ℕ) (o : Option ℕ) → o ≡ None → o ≡ Some x → ⊥
-        no_check x o none some = cc
+        names = λ name. refl;
+        live = λ ino idx m place. place;
+        kept = checks.kept;
+        nodes = nodes_same b.inodes.items b'.inodes.items zero_inodes;
+        inodes_are = subst (λ (ns : List InodeState). AreInodesOf d ns) (sym zero_inodes) v.inodes;
+        space = space_gained d d b b' checks.kept (λ page. ⊥) refl (gives_none (λ page. ⊥) b.free b'.free free v.space.in_order (λ page none. none))
+            (λ page is. ⊎_elim (λ was. was) (λ none. absurd none) is) (λ page is. inl is) (λ page none unused. none) v.space;
+        table = slots_stay d d b.fact b'.fact refl refl fact v.table;
+        counts = counts_again b b' slot pending checks d s s v counted;
+        reclaiming = record {
+          waiting = omega (
+            arith,
+            v.reclaiming.waiting,
+            checks.waiting,
+            one_was b b' slot pending checks,
+            none_now b b' slot pending checks,
+            raised_one b b' slot pending checks,
+            long_same b b' slot pending checks,
+          );
+          zero_check = λ x is. absurd (no_check x b'.reclaiming.zero_check checks.zero_check is);
+          raised = λ p is. v.reclaiming.raised p (sym checks.raised ∙ is);
+        };
+        pointers = v.pointers;
+        room = room_worked b b' s s checks.kept (zero_moves b b' slot pending checks d s s v (omega arith)) v.room
+            (λ who f c y flies is at. v.room.places who f c y flies is (ap (λ (ns : List InodeState). slice_get ns f.ino) (sym zero_inodes) ∙ at));
+        still = still_same b b' s s (record { now = refl; past = refl; faults = refl }) (flies_on b b' checks.kept) v.still;
+      }
+        where
+          no_check : (x : ℕ) (o : Option ℕ) → o ≡ None → o ≡ Some x → ⊥
+          no_check x o none some = cc
 
-    pub stays_shown : (print : Print) → WorkShown print d d s s
-    stays_shown print = record { images = images_now print d s b.geometry v.fast agree; quiet = λ name. refl; own = λ own. own; accounts = quiet_accounts print d; words = λ x. refl; faults = omega arith }
+      pub stays_shown : (print : Print) → WorkShown print d d s s
+      stays_shown print = record {
+        images = images_now print d s b.geometry v.fast agree;
+        quiet = λ name. refl;
+        own = λ own. own;
+        accounts = quiet_accounts print d;
+        words = λ x. refl;
+        faults = omega arith;
+      }
 
 -- the row goes
-module _ (d : Disk) (b : Parts) (s u : State) (v : IsVolume d b s) (slot : ℕ) (row : Row) (at_slot : IsAtSlot d slot row) (no_reference : row.rfc ≡ 0) (no_update : row.uc ≡ 0) where
+module _ (d : Disk) (b : Parts) (s u : State) (v : IsVolume d b s) (slot : ℕ) (row : Row) (at_slot : IsAtSlot d slot row) (no_reference : row.rfc ≡ 0)
+    (no_update : row.uc ≡ 0) where
   abbrev e : Disk
   e = cleared d row
 
@@ -113,21 +156,28 @@ module _ (d : Disk) (b : Parts) (s u : State) (v : IsVolume d b s) (slot : ℕ) 
       inl (record {
         prefix = prefix;
         direct = direct;
-        says = at_direct_page (ap (λ (t : Bool). if t then slot_word d.geometry row.slot 0 else slot_word d.geometry (slot_before prefix (d.chain prefix) row.slot) 5) (same_test row.slot prefix same)
+        says = at_direct_page (ap (λ (t : Bool). if t then slot_word d.geometry row.slot 0 else slot_word d.geometry
+            (slot_before prefix (d.chain prefix) row.slot) 5) (same_test row.slot prefix same)
             ∙ ap (λ (x : ℕ). slot_word d.geometry x 0) same) refl;
       }),
     )
-    | inr other ↦ behind (ap (λ (t : Bool). if t then slot_word d.geometry row.slot 0 else slot_word d.geometry (slot_before prefix (d.chain prefix) row.slot) 5) (other_test row.slot prefix other))
+    | inr other ↦ behind (ap (λ (t : Bool). if t then slot_word d.geometry row.slot 0 else slot_word d.geometry
+        (slot_before prefix (d.chain prefix) row.slot) 5) (other_test row.slot prefix other))
         (before_at row.slot prefix (d.chain prefix))
   ]
     where
       behind : deciding_word d row ≡ slot_word d.geometry (slot_before prefix (d.chain prefix) row.slot) 5
-          → (slot_before prefix (d.chain prefix) row.slot ≡ prefix) ⊎ ((r : Row) × Contains (d.chain prefix) r × (r.slot ≡ slot_before prefix (d.chain prefix) row.slot) × (r.slot ≢ row.slot))
+          → (slot_before prefix (d.chain prefix) row.slot ≡ prefix)
+          ⊎ ((r : Row) × Contains (d.chain prefix) r × (r.slot ≡ slot_before prefix (d.chain prefix) row.slot) × (r.slot ≢ row.slot))
           → (w : ℕ) × TableSays e (deciding_word d row) w
-      behind gate (inl first) = (_, inl (record { prefix = prefix; direct = direct; says = at_direct_next (gate ∙ ap (λ (x : ℕ). slot_word d.geometry x 5) first) refl }))
+      behind gate (inl first) =
+          (_, inl (record { prefix = prefix; direct = direct; says = at_direct_next (gate ∙ ap (λ (x : ℕ). slot_word d.geometry x 5) first) refl }))
       behind gate (inr found) =
-          let told = next_told d.geometry (e.chain prefix) found.0 (without_kept row.slot (d.chain prefix) found.0 found.1 found.3) in
-          (told.0, subst (λ (a : ℕ). TableSays e a told.0) (ap (λ (x : ℕ). slot_word d.geometry x 5) found.2 ∙ sym gate) (inl (record { prefix = prefix; direct = direct; says = at_row told.1 })))
+          let told = next_told d.geometry (e.chain prefix) found.0 (without_kept row.slot (d.chain prefix) found.0 found.1 found.3) in (
+            told.0,
+            subst (λ (a : ℕ). TableSays e a told.0) (ap (λ (x : ℕ). slot_word d.geometry x 5) found.2 ∙ sym gate)
+                (inl (record { prefix = prefix; direct = direct; says = at_row told.1 })),
+          )
 
   in_image : row.page < d.geometry.pages
   in_image = let found = of_chain d row at_slot.there in (is_row d (good_of d v.fast.valid) found.0 row found.1 found.2).data_page.high
@@ -168,7 +218,8 @@ module _ (d : Disk) (b : Parts) (s u : State) (v : IsVolume d b s) (slot : ℕ) 
     table_only : StoresOnly (IsTableWord d.geometry) s u
     table_only = stores_only-weaken _ _ s u within only
 
-    pub gone_shown : (print : Print) → Agree u.now u.past → s.faults ≤ u.faults → LeavesOnly s u (λ c. HoldsOneOf c d (removed d row.slot) e) → WorkShown print d e s u
+    pub gone_shown : (print : Print) → Agree u.now u.past → s.faults ≤ u.faults → LeavesOnly s u (λ c. HoldsOneOf c d (removed d row.slot) e)
+        → WorkShown print d e s u
     gone_shown print agree faults leaves = record {
       images = record { extends = leaves.extends; each = λ m c late left. image m c late left (leaves.each m c late left) };
       quiet = λ name. sym (files_same d e.chain e.pointer name);
@@ -186,13 +237,15 @@ module _ (d : Disk) (b : Parts) (s u : State) (v : IsVolume d b s) (slot : ℕ) 
         image : (m : ℕ) (c : List ℕ) → moment s.past ≤ m → Left u.past m c → HoldsOneOf c d (removed d row.slot) e → IsBetween print d e c
         image m c late left (inl old) = record {
           disk = d;
-          stands_for = image_of_table d v.fast.valid s u v.fast.stands table_only d (record { same = refl; valid = v.fast.valid; read = λ page some. inr some }) agree size m c late left old;
+          stands_for = image_of_table d v.fast.valid s u v.fast.stands table_only d
+              (record { same = refl; valid = v.fast.valid; read = λ page some. inr some }) agree size m c late left old;
           own = λ own. own;
           same = inl (λ name. refl);
         }
         image m c late left (inr (inl middle)) = record {
           disk = removed d row.slot;
-          stands_for = image_of_table d v.fast.valid s u v.fast.stands table_only (removed d row.slot) (removed_next d row v.fast.valid at_slot.there no_reference no_update) agree size m c late left middle;
+          stands_for = image_of_table d v.fast.valid s u v.fast.stands table_only (removed d row.slot) (removed_next d row v.fast.valid at_slot.there
+              no_reference no_update) agree size m c late left middle;
           own = removed_own d row v.fast.valid at_slot.there no_reference no_update print;
           same = inl (λ name. sym (files_same d (removed d row.slot).chain (removed d row.slot).pointer name));
         }
@@ -203,51 +256,75 @@ module _ (d : Disk) (b : Parts) (s u : State) (v : IsVolume d b s) (slot : ℕ) 
           same = inr (λ name. refl);
         }
 
-    module _ (b' : Parts) (pending : b.reclaiming.zero_check ≡ Some slot) (checks : Checks b b') (others : KeepsFlushed (Others 16) (IsRemoveWord d row) s u) (settles : Stands (TableSays e) u)
-        (table : IsTable e u.now b'.fact) (gives : Gives (λ p. p ≡ row.page) b.free b'.free) (spare : s.spare ≤ u.spare + 6) (own : SettlesAll 16 s u) where
-      leaves_rest : LeavesRest 16 [] [] d e s u
-      leaves_rest = record {
-        rest = gone_rest d row v.fast.valid at_slot.there no_reference no_update;
-        only = stores_only-weaken _ _ s u (λ a is. of_table (within a is)) only;
-        others = λ q a ne out inside flushed. others.flushed q a ne (λ is. out (of_table (within a is))) inside flushed;
-      }
+    module _ (b' : Parts) (pending : b.reclaiming.zero_check ≡ Some slot) (checks : Checks b b')
+        (others : KeepsFlushed (Others 16) (IsRemoveWord d row) s u) (settles : Stands (TableSays e) u)
+        (table : IsTable e u.now b'.fact) (gives : Gives (λ p. p ≡ row.page) b.free b'.free) (spare : s.spare ≤ u.spare + 6) (own : SettlesAll 16 s u)
+      where
+        leaves_rest : LeavesRest 16 [] [] d e s u
+        leaves_rest = record {
+          rest = gone_rest d row v.fast.valid at_slot.there no_reference no_update;
+          only = stores_only-weaken _ _ s u (λ a is. of_table (within a is)) only;
+          others = λ q a ne out inside flushed. others.flushed q a ne (λ is. out (of_table (within a is))) inside flushed;
+        }
 
-      row_left : (x : ℕ) → b'.reclaiming.zero_check ≡ Some x → HasRow e x
-      row_left x is = absurd (no_check b'.reclaiming.zero_check checks.zero_check is)
-        where
-          no_check : (o : Option ℕ) → o ≡ None → o ≡ Some x → ⊥
-          no_check o none some = cc
+        row_left : (x : ℕ) → b'.reclaiming.zero_check ≡ Some x → HasRow e x
+        row_left x is = absurd (no_check b'.reclaiming.zero_check checks.zero_check is)
+          where
+            no_check : (o : Option ℕ) → o ≡ None → o ≡ Some x → ⊥
+            no_check o none some = cc
 
-      pub gone_event : WorkEvent [] d e b b' s u
-      gone_event = record {
-        fast = record { geometry = v.fast.geometry; long = only.words ∙ v.fast.long; valid = next.valid; stands = standing_table d v.fast.valid s u v.fast.stands table_only e next settles };
-        dying = λ i has. absurd (omega (arith, has.1));
-        leaves = leaves_rest;
-        names = λ name. named_same d e.chain e.pointer name;
-        live = λ ino idx m place. record { in_table = place.in_table; live = place.live; maps = sym (maps_same d e.chain e.pointer ino idx) ∙ place.maps };
-        kept = checks.kept;
-        nodes = nodes_same b.inodes.items b'.inodes.items (ap (λ (ns : _). ns.items) checks.inodes);
-        inodes_are = subst (λ (ns : _). AreInodesOf e ns.items) (sym checks.inodes) (inodes_stay d e.chain e.pointer b.inodes.items v.inodes);
-        space = space_gained d e b b' checks.kept (λ p. p ≡ row.page) refl gives (gone_then d row v.fast.valid at_slot.there no_reference no_update) (gone_before d row v.fast.valid at_slot.there no_reference no_update)
-            (gone_used d row v.fast.valid at_slot.there no_reference no_update) v.space;
-        table = table_stays e u.now b'.fact table;
-        counts = going_counted d e b b' row (record {
-          takes = gone d row v.fast.valid at_slot.there no_reference no_update;
-          has = at_slot.there;
-          mappings_same = mappings_same d e.chain e.pointer;
-          no_reference = no_reference;
-          no_update = no_update;
-          same = under_way b b' slot pending checks;
-          few = few_still b b' slot pending checks d s u v;
-        }) v.counts;
-        reclaiming = record {
-          waiting = let units = dying_same d e.chain e.pointer in
-              omega (arith, units, v.reclaiming.waiting, checks.waiting, one_was b b' slot pending checks, none_now b b' slot pending checks, raised_one b b' slot pending checks, long_same b b' slot pending checks);
-          zero_check = row_left;
-          raised = λ p is. raised_stays [] [] d e v.fast.valid leaves_rest.rest b v.counts p (sym checks.raised ∙ is) (λ has. omega (arith, has.1)) (v.reclaiming.raised p (sym checks.raised ∙ is));
-        };
-        pointers = none_stale;
-        room = room_worked b b' s u checks.kept (zero_moves b b' slot pending checks d s u v spare) v.room
-            (λ who f c y flies is at. v.room.places who f c y flies is (ap (λ (ns : _). slice_get ns.items f.ino) (sym checks.inodes) ∙ at));
-        still = still_settles 16 b b' s u own (others_same b b' checks.kept 16) v.still;
-      }
+        pub gone_event : WorkEvent [] d e b b' s u
+        gone_event = record {
+          fast = record {
+            geometry = v.fast.geometry;
+            long = only.words ∙ v.fast.long;
+            valid = next.valid;
+            stands = standing_table d v.fast.valid s u
+                v.fast.stands table_only e next settles;
+          };
+          dying = λ i has. absurd (omega (arith, has.1));
+          leaves = leaves_rest;
+          names = λ name. named_same d e.chain e.pointer name;
+          live = λ ino idx m place. record {
+            in_table = place.in_table;
+            live = place.live;
+            maps = sym (maps_same d e.chain e.pointer ino idx) ∙
+                place.maps;
+          };
+          kept = checks.kept;
+          nodes = nodes_same b.inodes.items b'.inodes.items (ap (λ (ns : _). ns.items) checks.inodes);
+          inodes_are = subst (λ (ns : _). AreInodesOf e ns.items) (sym checks.inodes) (inodes_stay d e.chain e.pointer b.inodes.items v.inodes);
+          space = space_gained d e b b' checks.kept (λ p. p ≡ row.page) refl gives (gone_then d row v.fast.valid at_slot.there no_reference no_update)
+              (gone_before d row v.fast.valid at_slot.there no_reference no_update)
+              (gone_used d row v.fast.valid at_slot.there no_reference no_update) v.space;
+          table = table_stays e u.now b'.fact table;
+          counts = going_counted d e b b' row (record {
+            takes = gone d row v.fast.valid at_slot.there no_reference no_update;
+            has = at_slot.there;
+            mappings_same = mappings_same d e.chain e.pointer;
+            no_reference = no_reference;
+            no_update = no_update;
+            same = under_way b b' slot pending checks;
+            few = few_still b b' slot pending checks d s u v;
+          }) v.counts;
+          reclaiming = record {
+            waiting = let units = dying_same d e.chain e.pointer in
+                omega (
+                  arith,
+                  units,
+                  v.reclaiming.waiting,
+                  checks.waiting,
+                  one_was b b' slot pending checks,
+                  none_now b b' slot pending checks,
+                  raised_one b b' slot pending checks,
+                  long_same b b' slot pending checks,
+                );
+            zero_check = row_left;
+            raised = λ p is. raised_stays [] [] d e v.fast.valid leaves_rest.rest b v.counts p (sym checks.raised ∙ is) (λ has. omega (arith, has.1))
+                (v.reclaiming.raised p (sym checks.raised ∙ is));
+          };
+          pointers = none_stale;
+          room = room_worked b b' s u checks.kept (zero_moves b b' slot pending checks d s u v spare) v.room
+              (λ who f c y flies is at. v.room.places who f c y flies is (ap (λ (ns : _). slice_get ns.items f.ino) (sym checks.inodes) ∙ at));
+          still = still_settles 16 b b' s u own (others_same b b' checks.kept 16) v.still;
+        }

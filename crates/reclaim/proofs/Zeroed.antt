@@ -62,10 +62,26 @@ checks_since b t f b' is = record {
 
 -- so it is where a fence failed
 pub stops_since : (b : Parts) (t : Table) (b' : Parts) → Stops (record b { fact = t }) b' → Stops b b'
-stops_since b t b' is = record { geometry = is.geometry; stopped = is.stopped; flights = is.flights; sharing = is.sharing; trace = is.trace; history = is.history; made = is.made }
+stops_since b t b' is = record {
+  geometry = is.geometry;
+  stopped = is.stopped;
+  flights = is.flights;
+  sharing = is.sharing;
+  trace = is.trace;
+  history = is.history;
+  made = is.made;
+}
 
 pub stops_freed : (b : Parts) (f : FreePages) (b' : Parts) → Stops (record b { free = f }) b' → Stops b b'
-stops_freed b f b' is = record { geometry = is.geometry; stopped = is.stopped; flights = is.flights; sharing = is.sharing; trace = is.trace; history = is.history; made = is.made }
+stops_freed b f b' is = record {
+  geometry = is.geometry;
+  stopped = is.stopped;
+  flights = is.flights;
+  sharing = is.sharing;
+  trace = is.trace;
+  history = is.history;
+  made = is.made;
+}
 
 some_one : (p q : ℕ) (o : Option ℕ) → o ≡ Some p → o ≡ Some q → p ≡ q
 some_one p q o a b = cc
@@ -95,7 +111,8 @@ module _ (b b' : Parts) (slot : ℕ) (pending : b.reclaiming.zero_check ≡ Some
 
   module _ (d : Disk) (s u : State) (v : IsVolume d b s) where
     pub few_still : length b'.reclaiming.releases.items + owed_sum b' (λ room. room.releases) + one_if b'.reclaiming.raised ≤ 1105920
-    few_still = let sum = owed_same b b' (ap (λ (fs : _). fs.items) checks.kept.flights) (λ room. room.releases) in omega (arith, v.counts.few, sum, long_same, raised_one)
+    few_still = let sum = owed_same b b' (ap (λ (fs : _). fs.items) checks.kept.flights) (λ room. room.releases) in
+        omega (arith, v.counts.few, sum, long_same, raised_one)
 
     pub zero_moves : s.spare ≤ u.spare + 6 → MovesRoom b b' s u
     zero_moves spare = record {
@@ -110,14 +127,20 @@ module _ (b b' : Parts) (slot : ℕ) (pending : b.reclaiming.zero_check ≡ Some
     pub counts_again : ((row : Row) → IsAtSlot d slot row → row.rfc ≡ 0 → row.uc ≡ 0 → ⊥) → AreCounted d b'
     counts_again counted = record {
       balanced = all_listed (λ (row : Row). IsBalanced d row (raised b' row.slot) (added b' row.slot) (dropped b' row.slot)) (rows d) (λ row has.
-          let was = All-contains (λ (r : Row). IsBalanced d r (raised b r.slot) (added b r.slot) (dropped b r.slot)) (rows d) row v.counts.balanced has in
+          let was = All-contains (λ (r : Row). IsBalanced d r (raised b r.slot) (added b r.slot) (dropped b r.slot)) (rows d) row v.counts.balanced
+          has in
           let same = under_way row.slot in
           record {
             updates = omega (arith, was.updates, same.raised_same, same.added_same, same.dropped_same);
             references = omega (arith, was.references, same.added_same, same.dropped_same);
           });
       there = λ x some. let same = under_way x in v.counts.there x (omega (arith, some, same.raised_same, same.added_same, same.dropped_same));
-      zero_checked = λ row has none no_update. absurd (counted row (record { there = has; slot_is = some_one row.slot slot b.reclaiming.zero_check (v.counts.zero_checked row has none no_update) pending }) none no_update);
+      zero_checked = λ row has none no_update. absurd
+          (counted row (record {
+            there = has;
+            slot_is = some_one row.slot slot b.reclaiming.zero_check (v.counts.zero_checked row has none no_update)
+                pending;
+          }) none no_update);
       few = few_still;
     }
 
@@ -129,23 +152,27 @@ images_now print d s g fast agree = record {
 }
   where
     old : LeavesOnly s s (λ c. StandsFor c d)
-    old = unread_images d 0 0 (λ a v told inside. omega (arith, inside.1)) s s (stores_only-none (IsIn 0 0) s agree) fast.stands fast.valid agree fast.long
+    old = unread_images d 0 0 (λ a v told inside. omega (arith, inside.1)) s s (stores_only-none (IsIn 0 0) s agree) fast.stands fast.valid agree
+        fast.long
 
 -- the word that decides is told still
-pub before_at : (slot b : ℕ) (rs : List Row) → (slot_before b rs slot ≡ b) ⊎ ((r : Row) × Contains rs r × (r.slot ≡ slot_before b rs slot) × (r.slot ≢ slot))
+pub before_at : (slot b : ℕ) (rs : List Row) → (slot_before b rs slot ≡ b) ⊎ ((r : Row) × Contains rs r × (r.slot ≡ slot_before b rs slot) ×
+    (r.slot ≢ slot))
 before_at slot b [] = inl refl
 before_at slot b (x ∷ rs) = elim (cases_eq x.slot slot) [
   | inl here ↦ inl (before_here slot b x rs here)
   | inr there ↦
       let step : slot_before b (x ∷ rs) slot ≡ slot_before x.slot rs slot = before_other slot b x rs there in
-      ⊎_elim (λ first. inr (x, listed_here x rs, sym (step ∙ first), there)) (λ later. inr (later.0, listed_later x rs later.0 later.1, later.2 ∙ sym step, later.3)) (before_at slot x.slot rs)
+      ⊎_elim (λ first. inr (x, listed_here x rs, sym (step ∙ first), there))
+      (λ later. inr (later.0, listed_later x rs later.0 later.1, later.2 ∙ sym step, later.3)) (before_at slot x.slot rs)
 ]
 
 pub without_kept : (slot : ℕ) (rs : List Row) (r : Row) → Contains rs r → r.slot ≢ slot → Contains (without slot rs) r
 without_kept slot [] r has ne = absurd (omega (arith, has.1))
 without_kept slot (x ∷ rs) r has ne = ⊎_elim
     (λ (first : x ≡ r).
-    subst (λ (y : Row). Contains (without slot (y ∷ rs)) r) (sym first) (subst (λ (ys : List Row). Contains ys r) (sym (without_other slot r rs ne)) (listed_here r (without slot rs))))
+    subst (λ (y : Row). Contains (without slot (y ∷ rs)) r) (sym first) (subst (λ (ys : List Row). Contains ys r) (sym (without_other slot r rs ne))
+    (listed_here r (without slot rs))))
     (λ (later : Contains rs r).
     let still = without_kept slot rs r later ne in
     elim (cases_eq x.slot slot) [

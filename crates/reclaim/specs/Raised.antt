@@ -1,5 +1,19 @@
 -- An operation in flight raises a row.
-use Rattle.std.specs.Prelude.{◌≡◌, ◌≢◌, ℕ, ◌+◌, ◌-◌, ◌<◌, [], ◌∷◌, ◌++◌, length, Some, vec_len, vec_capacity}
+use Rattle.std.specs.Prelude.{
+  ◌≡◌,
+  ◌≢◌,
+  ℕ,
+  ◌+◌,
+  ◌-◌,
+  ◌<◌,
+  [],
+  ◌∷◌,
+  ◌++◌,
+  length,
+  Some,
+  vec_len,
+  vec_capacity,
+}
 use Rattle.std.specs.VecDeque.{deque_len, deque_capacity}
 use Rattle.dn_volume.specs.declared.flight.Flight.{Flight}
 use Rattle.dn_volume.specs.declared.flight.DataChange.{DataChange}
@@ -21,7 +35,8 @@ pub record IsToRaise (b : Parts) (who : ℕ) : Type 0 where
 -- that row is raised, and has this word
 pub record RaisesOne (who slot word : ℕ) (b b' : Parts) : Type 0 where
   pub kept : KeepsParts b b'
-  pub flight : (f : Flight) → Flies b who f → flight_at b'.flights.items (who - 1) ≡ Some (record f { raised = f.raised + 1 })
+  pub flight : (f : Flight) → Flies b who f → flight_at b'.flights.items (who - 1) ≡ Some
+      (record f { raised = f.raised + 1 })
   pub others : (k : ℕ) → k ≢ who - 1 → flight_at b'.flights.items k ≡ flight_at b.flights.items k
   pub clients : length b'.flights.items ≡ length b.flights.items
   pub sharing : b'.sharing ≡ b.sharing

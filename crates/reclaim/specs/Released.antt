@@ -1,5 +1,19 @@
 -- What becomes of what is kept in memory where a release is settled, and where a fence failed.
-use Rattle.std.specs.Prelude.{◌≡◌, ℕ, ◌+◌, true, if◌then◌else◌, ◌==◌, List, [], ◌∷◌, ◌++◌, Some, vec_len, vec_capacity}
+use Rattle.std.specs.Prelude.{
+  ◌≡◌,
+  ℕ,
+  ◌+◌,
+  true,
+  if◌then◌else◌,
+  ◌==◌,
+  List,
+  [],
+  ◌∷◌,
+  ◌++◌,
+  Some,
+  vec_len,
+  vec_capacity,
+}
 use Rattle.std.specs.VecDeque.{deque_len, deque_capacity}
 use Rattle.fingerprint.specs.Count.{count_word}
 use Rattle.fingerprint.specs.declared.count.CountWord.{CountWord}
@@ -34,12 +48,14 @@ pub record SettlesRelease (slot word : ℕ) (b b' : Parts) : Type 0 where
   pub len : deque_len b'.reclaiming.releases + 1 ≡ deque_len b.reclaiming.releases
   pub capacity : deque_capacity b'.reclaiming.releases ≡ deque_capacity b.reclaiming.releases
   pub raised : b'.reclaiming.raised ≡ b.reclaiming.raised
-  pub zero_check : b'.reclaiming.zero_check ≡ (if word == 0 then Some slot else b.reclaiming.zero_check)
+  pub zero_check : b'.reclaiming.zero_check ≡ (if word == 0 then Some slot else
+      b.reclaiming.zero_check)
   pub waiting : b'.reclaiming.waiting + (if word == 0 then 1 else 2) ≡ b.reclaiming.waiting
   pub trace : b'.trace.items ≡ b.trace.items ++ record { slot = slot; word = word } ∷ []
   pub trace_len : vec_len b'.trace ≡ vec_len b.trace + 1
   pub trace_capacity : vec_capacity b'.trace ≡ vec_capacity b.trace
-  pub owed : b'.owed ≡ record b.owed { units = b.owed.units + (if word == 0 then ZERO_CHECK_UNITS else 0) }
+  pub owed : b'.owed ≡ record b.owed
+      { units = b.owed.units + (if word == 0 then ZERO_CHECK_UNITS else 0) }
   pub made : Counts b b'
 
 -- a fence failed
@@ -54,4 +70,5 @@ pub record Stops (b b' : Parts) : Type 0 where
 
 -- the word of the counts that f makes of the row at this slot
 abbrev pub IsWordAfter : (Row → CountWord) → List ℕ → Table → ℕ → ℕ → Type 0
-IsWordAfter f words t slot word = (d : Disk) (row : Row) → IsTable d words t → IsAtSlot d slot row → word ≡ count_word (f row).rfc (f row).uc
+IsWordAfter f words t slot word = (d : Disk) (row : Row) → IsTable d words t → IsAtSlot d slot row
+    → word ≡ count_word (f row).rfc (f row).uc

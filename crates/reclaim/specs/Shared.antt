@@ -17,7 +17,8 @@ pub record IsAtSettle (b : Parts) (slot : ℕ) : Type 0 where
 pub record SettlesShare (slot word : ℕ) (b b' : Parts) : Type 0 where
   pub kept : KeepsParts b b'
   pub flights : b'.flights.items ≡ b.flights.items
-  pub sharing : (was : Sharing) → b.sharing ≡ Some was → b'.sharing ≡ Some (record was { done = was.done + 1; step = Look })
+  pub sharing : (was : Sharing) → b.sharing ≡ Some was
+      → b'.sharing ≡ Some (record was { done = was.done + 1; step = Look })
   pub stopped : b'.stopped ≡ b.stopped
   pub releases : b'.reclaiming.releases.items ≡ b.reclaiming.releases.items
   pub len : deque_len b'.reclaiming.releases ≡ deque_len b.reclaiming.releases

@@ -1,5 +1,19 @@
 -- The pages of a log, from its head along the footers to the page of its tail.
-use Rattle.std.specs.Prelude.{◌≡◌, ◌≢◌, ℕ, ◌+◌, ◌-◌, ◌*◌, ◌/◌, ◌<◌, ◌≤◌, List, length, slice_index, Contains}
+use Rattle.std.specs.Prelude.{
+  ◌≡◌,
+  ◌≢◌,
+  ℕ,
+  ◌+◌,
+  ◌-◌,
+  ◌*◌,
+  ◌/◌,
+  ◌<◌,
+  ◌≤◌,
+  List,
+  length,
+  slice_index,
+  Contains,
+}
 use Rattle.pm_layout.specs.declared.Geometry.{Geometry}
 use Rattle.pm_layout.specs.Geometry.{inode_word}
 use Rattle.page_alloc.specs.Free.{FreePages, IsInOrder}
@@ -10,9 +24,11 @@ use Rattle.reclaim.specs.Worked.{Gives}
 pub record LeadsThrough (words : List ℕ) (g : Geometry) (ino : ℕ) (pages : List ℕ) : Type 0 where
   pub none : length pages ≡ 0 → slice_index words (inode_word ino 2) ≡ 0
   pub some : 0 < length pages → slice_index words (inode_word ino 2) ≢ 0
-  pub last : 0 < length pages → slice_index words (inode_word ino 2) / 64 ≡ slice_index pages (length pages - 1)
+  pub last : 0 < length pages → slice_index words (inode_word ino 2) / 64 ≡ slice_index pages
+      (length pages - 1)
   pub head : 0 < length pages → slice_index words (inode_word ino 1) ≡ slice_index pages 0
-  pub footer : (k : ℕ) → k + 1 < length pages → slice_index words (512 * slice_index pages k + 504) ≡ slice_index pages (k + 1)
+  pub footer : (k : ℕ) → k + 1 < length pages → slice_index words (512 * slice_index pages k + 504)
+      ≡ slice_index pages (k + 1)
   pub apart : AreApart pages
   pub inside : (k : ℕ) → k < length pages → slice_index pages k < g.pages
   pub few : length pages ≤ g.pages

@@ -1,5 +1,24 @@
 -- What events of reclaim on dying files, and a zero check, make of what is kept in memory.
-use Rattle.std.specs.Prelude.{◌≡◌, ◌≢◌, ◌⊎◌, ◌↔◌, ℕ, ◌+◌, ◌≤◌, List, [], ◌∷◌, ◌++◌, length, slice_get, Some, None, Contains, vec_len, vec_capacity}
+use Rattle.std.specs.Prelude.{
+  ◌≡◌,
+  ◌≢◌,
+  ◌⊎◌,
+  ◌↔◌,
+  ℕ,
+  ◌+◌,
+  ◌≤◌,
+  List,
+  [],
+  ◌∷◌,
+  ◌++◌,
+  length,
+  slice_get,
+  Some,
+  None,
+  Contains,
+  vec_len,
+  vec_capacity,
+}
 use Rattle.std.specs.VecDeque.{deque_len, deque_capacity}
 use Rattle.file_index.specs.Index.{CutsOff}
 use Rattle.page_alloc.specs.Free.{FreePages, IsInOrder}
@@ -34,10 +53,12 @@ pub record Gives (given : ℕ → Type 0) (old new : FreePages) : Type 0 where
   pub in_order : IsInOrder new
 
 -- only the state of this inode is another
-pub record ChangesOne (becomes : InodeState → InodeState → Type 0) (ino : ℕ) (old new : List InodeState) : Type 0 where
+pub record ChangesOne (becomes : InodeState → InodeState → Type 0) (ino : ℕ)
+    (old new : List InodeState) : Type 0 where
   pub all : length new ≡ length old
   pub others : (i : ℕ) → i ≢ ino → slice_get new i ≡ slice_get old i
-  pub here : (x y : InodeState) → slice_get old ino ≡ Some x → slice_get new ino ≡ Some y → becomes x y
+  pub here : (x y : InodeState) → slice_get old ino ≡ Some x → slice_get new ino ≡ Some y
+      → becomes x y
 
 -- its cut fell to this place
 pub record FallsTo (place : ℕ) (old new : InodeState) : Type 0 where
@@ -79,7 +100,10 @@ pub record RaisesPlace (p : DyingPlace) (word : ℕ) (b b' : Parts) : Type 0 whe
   pub trace : b'.trace.items ≡ b.trace.items ++ record { slot = p.slot; word = word } ∷ []
   pub trace_len : vec_len b'.trace ≡ vec_len b.trace + 1
   pub trace_capacity : vec_capacity b'.trace ≡ vec_capacity b.trace
-  pub owed : b'.owed ≡ record b.owed { units = b.owed.units + FALL_UNITS; releases = b.owed.releases + 1 }
+  pub owed : b'.owed ≡ record b.owed {
+    units = b.owed.units + FALL_UNITS;
+    releases = b.owed.releases + 1;
+  }
   pub made : Counts b b'
 
 -- the raised place is gone, and its row waits to be released

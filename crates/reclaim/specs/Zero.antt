@@ -11,8 +11,10 @@ pub record IsZero (row : Row) (page : ℕ) : Type 0 where
   pub no_update : row.uc ≡ 0
 
 abbrev pub IsZeroRow : List ℕ → Table → ℕ → ℕ → Type 0
-IsZeroRow words t slot page = (d : Disk) (row : Row) → IsTable d words t → IsAtSlot d slot row → IsZero row page
+IsZeroRow words t slot page = (d : Disk) (row : Row) → IsTable d words t → IsAtSlot d slot row
+    → IsZero row page
 
 -- the row at this slot has a reference, or an update under way
 abbrev pub IsCountedRow : List ℕ → Table → ℕ → Type 0
-IsCountedRow words t slot = (d : Disk) (row : Row) → IsTable d words t → IsAtSlot d slot row → row.rfc ≡ 0 → row.uc ≡ 0 → ⊥
+IsCountedRow words t slot = (d : Disk) (row : Row) → IsTable d words t → IsAtSlot d slot row
+    → row.rfc ≡ 0 → row.uc ≡ 0 → ⊥

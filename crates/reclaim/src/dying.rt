@@ -45,7 +45,8 @@ pub fn raise_place<D: Pm, F: Fingerprint>(v: &mut Volume<D, F>, p: DyingPlace) -
     requires place { (d : Disk) → IsVolume d v.old.parts (D.state v.old.device) → IsRaised d p }
     requires room { HasRoomFor D.state v.old }
     ensures agrees { Agrees D.state v.new }
-    ensures event { (d : Disk) → IsVolume d v.old.parts (D.state v.old.device) → ReclaimWorks D.state F.print v.old v.new d result }
+    ensures event { (d : Disk) → IsVolume d v.old.parts (D.state v.old.device)
+        → ReclaimWorks D.state F.print v.old v.new d result }
 {
     match raise_at(&v.parts.fact, &mut v.device, RECLAIM, p.slot) {
         Ok(word) => {
@@ -104,7 +105,8 @@ fn go_on<D: Pm, F: Fingerprint>(v: &mut Volume<D, F>, ino: u64) -> Outcome
     requires none_wait { deque_len v.old.parts.reclaiming.releases ≡ 0 }
     requires room { HasRoomFor D.state v.old }
     ensures agrees { Agrees D.state v.new }
-    ensures event { (d : Disk) → IsVolume d v.old.parts (D.state v.old.device) → ReclaimWorks D.state F.print v.old v.new d result }
+    ensures event { (d : Disk) → IsVolume d v.old.parts (D.state v.old.device)
+        → ReclaimWorks D.state F.print v.old v.new d result }
 {
     match last_place(&v.parts.inodes[ino as usize]) {
         None => end_inode(v, ino),
@@ -129,7 +131,8 @@ pub fn next_dying<D: Pm, F: Fingerprint>(v: &mut Volume<D, F>) -> Outcome
     requires none_wait { deque_len v.old.parts.reclaiming.releases ≡ 0 }
     requires room { HasRoomFor D.state v.old }
     ensures agrees { Agrees D.state v.new }
-    ensures event { (d : Disk) → IsVolume d v.old.parts (D.state v.old.device) → ReclaimWorks D.state F.print v.old v.new d result }
+    ensures event { (d : Disk) → IsVolume d v.old.parts (D.state v.old.device)
+        → ReclaimWorks D.state F.print v.old v.new d result }
 {
     match least_dying(&v.parts.inodes) {
         Some(ino) => go_on(v, ino),

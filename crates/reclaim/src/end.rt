@@ -26,7 +26,8 @@ fn give_back_log<D: Pm>(free: &mut FreeSet, device: &D, g: &Geometry, ino: u64)
     requires size { length (D.state device.now).now ≡ 512 * g.now.pages }
     requires ino { ino < g.now.inodes }
     requires can { CanGiveLog (D.state device.now).now g.now ino free.old }
-    ensures { (pages : List ℕ) → LeadsThrough (D.state device.now).now g.now ino pages → Gives (Contains pages) free.old free.new }
+    ensures { (pages : List ℕ) → LeadsThrough (D.state device.now).now g.now ino pages
+        → Gives (Contains pages) free.old free.new }
 {
     let tail = read_field(device, g, ino, TAIL);
     if tail == 0 {
@@ -78,7 +79,8 @@ pub fn end_inode<D: Pm, F: Fingerprint>(v: &mut Volume<D, F>, ino: u64) -> Outco
     requires none { IsAt IsUnmapped v.old.parts.inodes.items ino }
     requires units { v.old.parts.owed.units + SET_UNITS ≤ (D.state v.old.device).spare }
     ensures agrees { Agrees D.state v.new }
-    ensures event { (d : Disk) → IsVolume d v.old.parts (D.state v.old.device) → ReclaimWorks D.state F.print v.old v.new d result }
+    ensures event { (d : Disk) → IsVolume d v.old.parts (D.state v.old.device)
+        → ReclaimWorks D.state F.print v.old v.new d result }
 {
     let g = v.parts.geometry;
     give_back_log(&mut v.parts.free, &v.device, &g, ino);

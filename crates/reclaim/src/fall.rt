@@ -35,7 +35,8 @@ fn fall_inode(inodes: &mut Vec<InodeState>, ino: u64, place: u64)
 // The raised place is gone, and its row waits to be released.
 fn note_drop(parts: &mut Parts, p: DyingPlace)
     requires there { p.ino < length parts.old.inodes.items }
-    requires room { deque_len parts.old.reclaiming.releases < deque_capacity parts.old.reclaiming.releases }
+    requires room { deque_len parts.old.reclaiming.releases < deque_capacity
+        parts.old.reclaiming.releases }
     requires waiting { 1 ≤ parts.old.reclaiming.waiting }
     requires units { FALL_UNITS ≤ parts.old.owed.units }
     requires releases { 1 ≤ parts.old.owed.releases }
@@ -71,7 +72,8 @@ pub fn drop_place<D: Pm, F: Fingerprint>(v: &mut Volume<D, F>) -> Outcome
     requires running { v.old.parts.stopped ≡ false }
     requires raised { IsSome v.old.parts.reclaiming.raised }
     ensures agrees { Agrees D.state v.new }
-    ensures event { (d : Disk) → IsVolume d v.old.parts (D.state v.old.device) → ReclaimWorks D.state F.print v.old v.new d result }
+    ensures event { (d : Disk) → IsVolume d v.old.parts (D.state v.old.device)
+        → ReclaimWorks D.state F.print v.old v.new d result }
 {
     let Some(p) = v.parts.reclaiming.raised else {
         unreachable!();
@@ -103,10 +105,12 @@ pub fn free_place<D: Pm, F: Fingerprint>(
     requires running { v.old.parts.stopped ≡ false }
     requires unraised { v.old.parts.reclaiming.raised ≡ None }
     requires place { IsAt (λ n. IsLastOf n place page) v.old.parts.inodes.items ino }
-    requires no_row { (d : Disk) → IsTable d (D.state v.old.device).now v.old.parts.fact → HasNoneOf d page }
+    requires no_row { (d : Disk) → IsTable d (D.state v.old.device).now v.old.parts.fact
+        → HasNoneOf d page }
     requires units { v.old.parts.owed.units + SET_UNITS ≤ (D.state v.old.device).spare }
     ensures agrees { Agrees D.state v.new }
-    ensures event { (d : Disk) → IsVolume d v.old.parts (D.state v.old.device) → ReclaimWorks D.state F.print v.old v.new d result }
+    ensures event { (d : Disk) → IsVolume d v.old.parts (D.state v.old.device)
+        → ReclaimWorks D.state F.print v.old v.new d result }
 {
     let word = v.parts.geometry.inode_word(ino, CUT);
     match set_word(&mut v.device, RECLAIM, word, place) {

@@ -50,7 +50,8 @@ fn begin_work<D: Pm, F: Fingerprint>(v: &mut Volume<D, F>) -> Outcome
     requires unraised { v.old.parts.reclaiming.raised ≡ None }
     requires room { HasRoomFor D.state v.old }
     ensures agrees { Agrees D.state v.new }
-    ensures event { (d : Disk) → IsVolume d v.old.parts (D.state v.old.device) → ReclaimWorks D.state F.print v.old v.new d result }
+    ensures event { (d : Disk) → IsVolume d v.old.parts (D.state v.old.device)
+        → ReclaimWorks D.state F.print v.old v.new d result }
 {
     if v.parts.reclaiming.releases.is_empty() {
         next_dying(v)
@@ -67,7 +68,8 @@ pub fn reclaim<D: Pm, F: Fingerprint>(v: &mut Volume<D, F>) -> Outcome
     requires agrees { Agrees D.state v.old }
     requires running { v.old.parts.stopped ≡ false }
     ensures agrees { Agrees D.state v.new }
-    ensures event { (d : Disk) → IsVolume d v.old.parts (D.state v.old.device) → ReclaimWorks D.state F.print v.old v.new d result }
+    ensures event { (d : Disk) → IsVolume d v.old.parts (D.state v.old.device)
+        → ReclaimWorks D.state F.print v.old v.new d result }
 {
     if v.parts.reclaiming.zero_check.is_some() {
         return check_zero(v);

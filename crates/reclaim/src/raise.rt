@@ -31,11 +31,15 @@ pub(crate) fn raise_at<D: Pm>(
     requires row { HasRowWith (D.state device.old).now fact.now slot MayRaise }
     requires room { 3 ≤ (D.state device.old).spare }
     ensures images { LeavesTables raised fact.now slot (D.state device.old) (D.state device.new) }
-    ensures settled { OnOk result (SettlesTable raised fact.now slot (D.state device.old) (D.state device.new)) }
+    ensures settled { OnOk result (SettlesTable raised fact.now slot (D.state device.old)
+        (D.state device.new)) }
     ensures settles { OnOk result (SettlesAll who (D.state device.old) (D.state device.new)) }
-    ensures word { IfOk result (λ word. IsWordAfter raised (D.state device.old).now fact.now slot word) }
-    ensures only { StoresOnly (λ a. a ≡ slot_word fact.now.geometry slot 4) (D.state device.old) (D.state device.new) }
-    ensures others { KeepsFlushed (Others who) (λ a. a ≡ slot_word fact.now.geometry slot 4) (D.state device.old) (D.state device.new) }
+    ensures word { IfOk result (λ word. IsWordAfter raised (D.state device.old).now fact.now slot
+        word) }
+    ensures only { StoresOnly (λ a. a ≡ slot_word fact.now.geometry slot 4) (D.state device.old)
+        (D.state device.new) }
+    ensures others { KeepsFlushed (Others who) (λ a. a ≡ slot_word fact.now.geometry slot 4)
+        (D.state device.old) (D.state device.new) }
     ensures spare { (D.state device.old).spare ≤ (D.state device.new).spare + 3 }
     ensures faults { (D.state device.old).faults ≤ (D.state device.new).faults }
     ensures failed { IsErr result → Rose (D.state device.old).faults (D.state device.new).faults }
@@ -64,7 +68,8 @@ fn row_to_raise(parts: &Parts, who: u32) -> u64
 // One row more of an operation is raised.
 fn count_raise(flight: &mut Option<Flight>)
     requires { (f : KeptFlight) × ((flight.old ≡ Some f) × (f.raised < length f.rows.items)) }
-    ensures { (f : KeptFlight) → flight.old ≡ Some f → flight.new ≡ Some (record f { raised = f.raised + 1 }) }
+    ensures { (f : KeptFlight) → flight.old ≡ Some f
+        → flight.new ≡ Some (record f { raised = f.raised + 1 }) }
 {
     if let Some(f) = flight {
         f.raised += 1;
@@ -89,7 +94,8 @@ fn note_raise(parts: &mut Parts, who: u32, slot: u64, word: u64)
 // How many events are left of an operation whose pages are filled.
 fn left_to_raise(parts: &Parts, who: u32) -> u64
     requires { (f : KeptFlight) × (Flies parts.now who f × (f.raised ≤ length f.rows.items)) }
-    ensures { (f : KeptFlight) → Flies parts.now who f → result ≡ (length f.rows.items - f.raised) + 1 }
+    ensures { (f : KeptFlight) → Flies parts.now who f → result ≡ (length f.rows.items - f.raised) +
+        1 }
 {
     match &parts.flights[who as usize - 1] {
         Some(f) => f.rows.len() as u64 - f.raised + 1,
@@ -103,7 +109,9 @@ pub fn raise_row<D: Pm, F: Fingerprint>(v: &mut Volume<D, F>, who: u32) -> Outco
     requires running { v.old.parts.stopped ≡ false }
     requires raises { IsToRaise v.old.parts who }
     ensures agrees { Agrees D.state v.new }
-    ensures event { (d : Disk) (f : KeptFlight) → IsVolume d v.old.parts (D.state v.old.device) → Flies v.old.parts who f → Advances D.state F.print who f.op (left_of f) v.old v.new d result }
+    ensures event { (d : Disk) (f : KeptFlight) → IsVolume d v.old.parts (D.state v.old.device)
+        → Flies v.old.parts who f → Advances D.state F.print who f.op (left_of f) v.old v.new d
+        result }
 {
     let slot = row_to_raise(&v.parts, who);
     match raise_at(&v.parts.fact, &mut v.device, who, slot) {

@@ -27,11 +27,15 @@ fn settle_row<D: Pm>(fact: &Fact, device: &mut D, slot: u64) -> Result<u64, Fail
     requires row { HasRowWith (D.state device.old).now fact.now slot MaySettleDown }
     requires room { 3 ≤ (D.state device.old).spare }
     ensures images { LeavesTables down fact.now slot (D.state device.old) (D.state device.new) }
-    ensures settled { OnOk result (SettlesTable down fact.now slot (D.state device.old) (D.state device.new)) }
+    ensures settled { OnOk result (SettlesTable down fact.now slot (D.state device.old)
+        (D.state device.new)) }
     ensures settles { OnOk result (SettlesAll 16 (D.state device.old) (D.state device.new)) }
-    ensures word { IfOk result (λ word. IsWordAfter down (D.state device.old).now fact.now slot word) }
-    ensures only { StoresOnly (λ a. a ≡ slot_word fact.now.geometry slot 4) (D.state device.old) (D.state device.new) }
-    ensures others { KeepsFlushed (Others 16) (λ a. a ≡ slot_word fact.now.geometry slot 4) (D.state device.old) (D.state device.new) }
+    ensures word { IfOk result (λ word. IsWordAfter down (D.state device.old).now fact.now slot
+        word) }
+    ensures only { StoresOnly (λ a. a ≡ slot_word fact.now.geometry slot 4) (D.state device.old)
+        (D.state device.new) }
+    ensures others { KeepsFlushed (Others 16) (λ a. a ≡ slot_word fact.now.geometry slot 4)
+        (D.state device.old) (D.state device.new) }
     ensures spare { (D.state device.old).spare ≤ (D.state device.new).spare + 3 }
     ensures faults { (D.state device.old).faults ≤ (D.state device.new).faults }
     ensures failed { IsErr result → Rose (D.state device.old).faults (D.state device.new).faults }
@@ -85,9 +89,11 @@ pub fn settle_release<D: Pm, F: Fingerprint>(v: &mut Volume<D, F>) -> Outcome
     requires some { 0 < deque_len v.old.parts.reclaiming.releases }
     requires owed { v.old.parts.owed.units + RELEASE_UNITS < 2 ^ 64 }
     requires units { v.old.parts.owed.units + RELEASE_UNITS ≤ (D.state v.old.device).spare }
-    requires trace { vec_len v.old.parts.trace + v.old.parts.owed.trace + 1 ≤ vec_capacity v.old.parts.trace }
+    requires trace { vec_len v.old.parts.trace + v.old.parts.owed.trace + 1 ≤ vec_capacity
+        v.old.parts.trace }
     ensures agrees { Agrees D.state v.new }
-    ensures event { (d : Disk) → IsVolume d v.old.parts (D.state v.old.device) → ReclaimWorks D.state F.print v.old v.new d result }
+    ensures event { (d : Disk) → IsVolume d v.old.parts (D.state v.old.device)
+        → ReclaimWorks D.state F.print v.old v.new d result }
 {
     let slot = v.parts.reclaiming.releases[0];
     match settle_row(&v.parts.fact, &mut v.device, slot) {

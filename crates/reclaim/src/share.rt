@@ -25,11 +25,14 @@ fn settle_row_up<D: Pm>(fact: &Fact, device: &mut D, slot: u64) -> Result<u64, F
     requires row { HasRowWith (D.state device.old).now fact.now slot MaySettleUp }
     requires room { 3 ≤ (D.state device.old).spare }
     ensures images { LeavesTables up fact.now slot (D.state device.old) (D.state device.new) }
-    ensures settled { OnOk result (SettlesTable up fact.now slot (D.state device.old) (D.state device.new)) }
+    ensures settled { OnOk result (SettlesTable up fact.now slot (D.state device.old)
+        (D.state device.new)) }
     ensures settles { OnOk result (SettlesAll 15 (D.state device.old) (D.state device.new)) }
     ensures word { IfOk result (λ word. IsWordAfter up (D.state device.old).now fact.now slot word) }
-    ensures only { StoresOnly (λ a. a ≡ slot_word fact.now.geometry slot 4) (D.state device.old) (D.state device.new) }
-    ensures others { KeepsFlushed (Others 15) (λ a. a ≡ slot_word fact.now.geometry slot 4) (D.state device.old) (D.state device.new) }
+    ensures only { StoresOnly (λ a. a ≡ slot_word fact.now.geometry slot 4) (D.state device.old)
+        (D.state device.new) }
+    ensures others { KeepsFlushed (Others 15) (λ a. a ≡ slot_word fact.now.geometry slot 4)
+        (D.state device.old) (D.state device.new) }
     ensures spare { (D.state device.old).spare ≤ (D.state device.new).spare + 3 }
     ensures faults { (D.state device.old).faults ≤ (D.state device.new).faults }
     ensures failed { IsErr result → Rose (D.state device.old).faults (D.state device.new).faults }
@@ -77,7 +80,8 @@ fn next_place(sharing: Sharing) -> Sharing
 // The row at this slot is settled, and has this word.
 fn note_share(parts: &mut Parts, slot: u64, word: u64)
     requires settle { IsAtSettle parts.old slot }
-    requires some { (sharing : KeptSharing) → parts.old.sharing ≡ Some sharing → sharing.done < sharing.count }
+    requires some { (sharing : KeptSharing) → parts.old.sharing ≡ Some sharing
+        → sharing.done < sharing.count }
     requires trace { vec_len parts.old.trace < vec_capacity parts.old.trace }
     requires units { 3 ≤ parts.old.owed.units }
     requires changes { 1 ≤ parts.old.owed.trace }
@@ -94,7 +98,8 @@ fn note_share(parts: &mut Parts, slot: u64, word: u64)
 
 // How many events are left of the daemon's item, at a place that is looked up next.
 fn events_left(parts: &Parts) -> u64
-    requires { (sharing : KeptSharing) × ((parts.now.sharing ≡ Some sharing) × ((sharing.step ≡ Look) × (sharing.count < 2 ^ 32))) }
+    requires { (sharing : KeptSharing) ×
+        ((parts.now.sharing ≡ Some sharing) × ((sharing.step ≡ Look) × (sharing.count < 2 ^ 32))) }
     ensures { result ≡ sharing_events parts.now.sharing }
 {
     match parts.sharing {
@@ -114,9 +119,11 @@ pub fn settle_share<D: Pm, F: Fingerprint>(v: &mut Volume<D, F>) -> Outcome
     requires agrees { Agrees D.state v.old }
     requires running { v.old.parts.stopped ≡ false }
     requires settle { (slot : ℕ) × IsAtSettle v.old.parts slot }
-    requires few { (sharing : KeptSharing) → v.old.parts.sharing ≡ Some sharing → sharing.count < 2 ^ 32 }
+    requires few { (sharing : KeptSharing) → v.old.parts.sharing ≡ Some sharing
+        → sharing.count < 2 ^ 32 }
     ensures agrees { Agrees D.state v.new }
-    ensures event { (d : Disk) → IsVolume d v.old.parts (D.state v.old.device) → DaemonWorks D.state F.print v.old v.new d result }
+    ensures event { (d : Disk) → IsVolume d v.old.parts (D.state v.old.device)
+        → DaemonWorks D.state F.print v.old v.new d result }
 {
     let slot = slot_to_settle(&v.parts);
     match settle_row_up(&v.parts.fact, &mut v.device, slot) {

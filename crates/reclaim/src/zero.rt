@@ -52,7 +52,8 @@ fn remove_row<D: Pm, F: Fingerprint>(v: &mut Volume<D, F>, slot: u64, page: u64)
     requires pending { v.old.parts.reclaiming.zero_check ≡ Some slot }
     requires zero { IsZeroRow (D.state v.old.device).now v.old.parts.fact slot page }
     ensures agrees { Agrees D.state v.new }
-    ensures event { (d : Disk) → IsVolume d v.old.parts (D.state v.old.device) → ReclaimWorks D.state F.print v.old v.new d result }
+    ensures event { (d : Disk) → IsVolume d v.old.parts (D.state v.old.device)
+        → ReclaimWorks D.state F.print v.old v.new d result }
 {
     match remove_zero(&mut v.parts.fact, &mut v.device, RECLAIM, slot) {
         Ok(()) => {
@@ -76,7 +77,8 @@ pub fn check_zero<D: Pm, F: Fingerprint>(v: &mut Volume<D, F>) -> Outcome
     requires running { v.old.parts.stopped ≡ false }
     requires pending { IsSome v.old.parts.reclaiming.zero_check }
     ensures agrees { Agrees D.state v.new }
-    ensures event { (d : Disk) → IsVolume d v.old.parts (D.state v.old.device) → ReclaimWorks D.state F.print v.old v.new d result }
+    ensures event { (d : Disk) → IsVolume d v.old.parts (D.state v.old.device)
+        → ReclaimWorks D.state F.print v.old v.new d result }
 {
     let Some(slot) = v.parts.reclaiming.zero_check else {
         unreachable!();

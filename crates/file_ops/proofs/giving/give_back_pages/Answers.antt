@@ -4,13 +4,20 @@ use Rattle.file_ops.proofs.GivenPages.{among_next, among_all, among_taken}
 use Rattle.file_ops.proofs.giving.give_back_pages.Goals as goal
 
 pub give_back_page-requires-clause-below : goal.give_back_page-requires-clause-below
-give_back_page-requires-clause-below c = omega (arith, c.loop-i.invariant.pages, c.requires.below _ (Contains-get_or c.args.pages.now c.loop-i.i 0 c.loop-i-test.true))
+give_back_page-requires-clause-below c = omega (
+  arith,
+  c.loop-i.invariant.pages,
+  c.requires.below _ (Contains-get_or c.args.pages.now c.loop-i.i 0
+      c.loop-i-test.true),
+)
 
 pub give_back_page-requires-clause-taken : goal.give_back_page-requires-clause-taken
-give_back_page-requires-clause-taken c = among_taken c.args.pages.now c.args.free.now c.loop-i.free c.loop-i.i c.loop-i-test.true c.requires.apart c.requires.taken c.loop-i.invariant
+give_back_page-requires-clause-taken c = among_taken c.args.pages.now c.args.free.now c.loop-i.free c.loop-i.i c.loop-i-test.true c.requires.apart
+    c.requires.taken c.loop-i.invariant
 
 pub loop-i-preserved : goal.loop-i-preserved
-loop-i-preserved c = among_next c.args.pages.now c.args.free.now c.loop-i.free c.loop-i.i c.give_back_page.new.free c.loop-i.invariant c.give_back_page.ensures
+loop-i-preserved c = among_next c.args.pages.now c.args.free.now c.loop-i.free c.loop-i.i c.give_back_page.new.free c.loop-i.invariant
+    c.give_back_page.ensures
 
 pub returns : goal.returns
 returns c = among_all c.args.pages.now c.args.free.now c.loop-i.free c.loop-i.i c.loop-i-test.false c.loop-i.auto.i-end c.loop-i.invariant

@@ -6,4 +6,5 @@ loop-j-init c = queues_none c.args.ino c.args.round c.args.tail c.args.fresh.now
 
 pub loop-j-preserved : goal.loop-j-preserved
 loop-j-preserved c =
-    queues_next c.args.ino c.args.round c.args.tail c.args.fresh.now c.loop-j.j c.slot_after-slot.result c.args.queue.now c.loop-j.queue c.push.new.self c.loop-j.invariant c.slot_after-slot.ensures c.push.ensures
+    queues_next c.args.ino c.args.round c.args.tail c.args.fresh.now c.loop-j.j c.slot_after-slot.result c.args.queue.now c.loop-j.queue
+    c.push.new.self c.loop-j.invariant c.slot_after-slot.ensures c.push.ensures

@@ -13,6 +13,7 @@ returns-in-Some g c = λ d table page. (
 
 pub returns-in-None : goal.returns-in-None
 returns-in-None g c = λ d table page. (
-  (λ e. at_unshared _ c.in_ok-mapping.mapping d page (sym c.get.ensures ∙ c.in_ok-mapping.was) (page_is _ page e) (page_none d _ page (page_is _ page e) (c.in-None.ensures.none d table))),
+  (λ e. at_unshared _ c.in_ok-mapping.mapping d page (sym c.get.ensures ∙ c.in_ok-mapping.was) (page_is _ page e)
+      (page_none d _ page (page_is _ page e) (c.in-None.ensures.none d table))),
   (λ h. let here = unshared_at _ c.in_ok-mapping.mapping d page (sym c.get.ensures ∙ c.in_ok-mapping.was) h in ap (λ p. Some p) here.0),
 )

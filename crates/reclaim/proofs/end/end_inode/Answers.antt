@@ -7,20 +7,37 @@ use Rattle.reclaim.proofs.NextPlace.{may_end}
 use Rattle.reclaim.proofs.EndedInode.{ends_since}
 use Rattle.reclaim.proofs.Zeroed.{stops_freed}
 use Rattle.reclaim.proofs.LogWalk.{can_give_log}
-use Rattle.reclaim.proofs.WorkEnds.{sets_at, done_at, moved_agrees, some_work, less_work, end_gives, end_ino, end_there, end_line, end_waits, end_moves, end_breaks}
+use Rattle.reclaim.proofs.WorkEnds.{
+  sets_at,
+  done_at,
+  moved_agrees,
+  some_work,
+  less_work,
+  end_gives,
+  end_ino,
+  end_there,
+  end_line,
+  end_waits,
+  end_moves,
+  end_breaks,
+}
 use Rattle.reclaim.proofs.end.end_inode.Goals as goal
 
 pub inode_word-requires-clause-ino : goal.inode_word-requires-clause-ino
-inode_word-requires-clause-ino g c = end_ino g.D.Pm.state c.args.v.now c.args.ino c.requires.none c.requires.unraised c.requires.agrees c.requires.running
+inode_word-requires-clause-ino g c = end_ino g.D.Pm.state c.args.v.now c.args.ino c.requires.none c.requires.unraised c.requires.agrees
+    c.requires.running
 
 pub give_back_log-requires-clause-ino : goal.give_back_log-requires-clause-ino
-give_back_log-requires-clause-ino g c = end_ino g.D.Pm.state c.args.v.now c.args.ino c.requires.none c.requires.unraised c.requires.agrees c.requires.running
+give_back_log-requires-clause-ino g c = end_ino g.D.Pm.state c.args.v.now c.args.ino c.requires.none c.requires.unraised c.requires.agrees
+    c.requires.running
 
 pub note_end-requires-clause-there : goal.note_end-requires-clause-there
-note_end-requires-clause-there g c = end_there g.D.Pm.state c.args.v.now c.args.ino c.requires.none c.requires.unraised c.requires.agrees c.requires.running
+note_end-requires-clause-there g c = end_there g.D.Pm.state c.args.v.now c.args.ino c.requires.none c.requires.unraised c.requires.agrees
+    c.requires.running
 
 pub note_end-requires-clause-waiting : goal.note_end-requires-clause-waiting
-note_end-requires-clause-waiting g c = end_waits g.D.Pm.state c.args.v.now c.args.ino c.requires.none c.requires.unraised c.requires.agrees c.requires.running
+note_end-requires-clause-waiting g c = end_waits g.D.Pm.state c.args.v.now c.args.ino c.requires.none c.requires.unraised c.requires.agrees
+    c.requires.running
 
 pub give_back_log-requires-clause-accepted : goal.give_back_log-requires-clause-accepted
 give_back_log-requires-clause-accepted g c =
@@ -36,11 +53,13 @@ pub give_back_log-requires-clause-can : goal.give_back_log-requires-clause-can
 give_back_log-requires-clause-can g c =
     let S = g.D.Pm.state in
     let found = running_disk S c.args.v.now c.requires.running c.requires.agrees in
-    can_give_log found.0 c.args.v.now.parts (S c.args.v.now.device) found.1 c.args.ino (may_end found.0 c.args.v.now.parts (S c.args.v.now.device) found.1 c.args.ino c.requires.none)
+    can_give_log found.0 c.args.v.now.parts (S c.args.v.now.device) found.1 c.args.ino (may_end found.0 c.args.v.now.parts (S c.args.v.now.device)
+    found.1 c.args.ino c.requires.none)
 
 pub set_word-requires-clause-inside : goal.set_word-requires-clause-inside
 set_word-requires-clause-inside g c =
-    subst (λ (a : ℕ). a / 8 * 8 + 8 ≤ length (g.D.Pm.state c.args.v.now.device).now) (sym c.inode_word.ensures) (end_line g.D.Pm.state c.args.v.now c.args.ino c.requires.none c.requires.unraised c.requires.agrees c.requires.running)
+    subst (λ (a : ℕ). a / 8 * 8 + 8 ≤ length (g.D.Pm.state c.args.v.now.device).now) (sym c.inode_word.ensures)
+    (end_line g.D.Pm.state c.args.v.now c.args.ino c.requires.none c.requires.unraised c.requires.agrees c.requires.running)
 
 pub returns-in-Ok-clause-agrees : goal.returns-in-Ok-clause-agrees
 returns-in-Ok-clause-agrees g c =
@@ -53,9 +72,12 @@ returns-in-Ok-clause-agrees g c =
       spare = c.set_word.ensures.spare;
       faults = c.set_word.ensures.faults;
     }) in
-    moved_agrees S c.args.v.now g.F.Fingerprint.print _ found.0 (end_moves S c.args.v.now c.args.ino c.requires.none c.requires.unraised g.F.Fingerprint.print _ sets (g.met.D.Pm.agree c.set_word.new.device) found.0 found.1
-    (done_at _ _ 0 (S c.args.v.now.device) (S c.set_word.new.device) c.inode_word.ensures c.in-Ok.ensures.done) c.in-Ok.ensures.settles c.requires.units (ends_since c.args.ino c.args.v.now.parts c.give_back_log.new.free _ c.note_end.ensures.ends)
-    (end_gives c.args.v.now.parts (S c.args.v.now.device) found.0 found.1 c.args.ino c.requires.none c.give_back_log.new.free _ c.give_back_log.ensures c.note_end.ensures.free))
+    moved_agrees S c.args.v.now g.F.Fingerprint.print _ found.0 (end_moves S c.args.v.now c.args.ino c.requires.none c.requires.unraised
+    g.F.Fingerprint.print _ sets (g.met.D.Pm.agree c.set_word.new.device) found.0 found.1
+    (done_at _ _ 0 (S c.args.v.now.device) (S c.set_word.new.device) c.inode_word.ensures c.in-Ok.ensures.done) c.in-Ok.ensures.settles
+    c.requires.units (ends_since c.args.ino c.args.v.now.parts c.give_back_log.new.free _ c.note_end.ensures.ends)
+    (end_gives c.args.v.now.parts (S c.args.v.now.device) found.0 found.1 c.args.ino c.requires.none c.give_back_log.new.free _
+    c.give_back_log.ensures c.note_end.ensures.free))
 
 pub returns-in-Ok-clause-event : goal.returns-in-Ok-clause-event
 returns-in-Ok-clause-event g c = λ d v.
@@ -67,11 +89,15 @@ returns-in-Ok-clause-event g c = λ d v.
       spare = c.set_word.ensures.spare;
       faults = c.set_word.ensures.faults;
     }) in (
-      end_moves S c.args.v.now c.args.ino c.requires.none c.requires.unraised g.F.Fingerprint.print _ sets (g.met.D.Pm.agree c.set_word.new.device) d v
-          (done_at _ _ 0 (S c.args.v.now.device) (S c.set_word.new.device) c.inode_word.ensures c.in-Ok.ensures.done) c.in-Ok.ensures.settles c.requires.units (ends_since c.args.ino c.args.v.now.parts c.give_back_log.new.free _ c.note_end.ensures.ends)
-          (end_gives c.args.v.now.parts (S c.args.v.now.device) d v c.args.ino c.requires.none c.give_back_log.new.free _ c.give_back_log.ensures c.note_end.ensures.free),
+      end_moves S c.args.v.now c.args.ino c.requires.none c.requires.unraised g.F.Fingerprint.print _ sets (g.met.D.Pm.agree c.set_word.new.device) d
+          v
+          (done_at _ _ 0 (S c.args.v.now.device) (S c.set_word.new.device) c.inode_word.ensures c.in-Ok.ensures.done) c.in-Ok.ensures.settles
+          c.requires.units (ends_since c.args.ino c.args.v.now.parts c.give_back_log.new.free _ c.note_end.ensures.ends)
+          (end_gives c.args.v.now.parts (S c.args.v.now.device) d v c.args.ino c.requires.none c.give_back_log.new.free _ c.give_back_log.ensures
+          c.note_end.ensures.free),
       some_work c.args.v.now.parts (end_waits S c.args.v.now c.args.ino c.requires.none c.requires.unraised c.requires.agrees c.requires.running),
-      less_work c.args.v.now.parts c.note_end.new.parts (ends_since c.args.ino c.args.v.now.parts c.give_back_log.new.free c.note_end.new.parts c.note_end.ensures.ends).kept (omega (arith, c.note_end.ensures.ends.waiting)),
+      less_work c.args.v.now.parts c.note_end.new.parts (ends_since c.args.ino c.args.v.now.parts c.give_back_log.new.free c.note_end.new.parts
+          c.note_end.ensures.ends).kept (omega (arith, c.note_end.ensures.ends.waiting)),
     )
 
 pub returns-in-Err-clause-agrees : goal.returns-in-Err-clause-agrees
@@ -85,7 +111,10 @@ returns-in-Err-clause-agrees g c =
       spare = c.set_word.ensures.spare;
       faults = c.set_word.ensures.faults;
     }) in
-    is_stopped (end_breaks S c.args.v.now c.args.ino c.requires.none c.requires.unraised g.F.Fingerprint.print (record { device = c.set_word.new.device; print = c.args.v.now.print; parts = c.stop.new.parts }) sets (g.met.D.Pm.agree c.set_word.new.device) found.0 found.1 (stops_freed c.args.v.now.parts c.give_back_log.new.free c.stop.new.parts c.stop.ensures)
+    is_stopped (end_breaks S c.args.v.now c.args.ino c.requires.none c.requires.unraised g.F.Fingerprint.print
+    (record { device = c.set_word.new.device; print = c.args.v.now.print; parts = c.stop.new.parts }) sets
+    (g.met.D.Pm.agree c.set_word.new.device) found.0 found.1 (stops_freed c.args.v.now.parts c.give_back_log.new.free c.stop.new.parts
+    c.stop.ensures)
     (c.set_word.ensures.failed (err_is c.set_word.result _ c.in-Err.is))).stopped
 
 pub returns-in-Err-clause-event : goal.returns-in-Err-clause-event
@@ -98,6 +127,9 @@ returns-in-Err-clause-event g c = λ d v.
       spare = c.set_word.ensures.spare;
       faults = c.set_word.ensures.faults;
     }) in (
-      end_breaks S c.args.v.now c.args.ino c.requires.none c.requires.unraised g.F.Fingerprint.print (record { device = c.set_word.new.device; print = c.args.v.now.print; parts = c.stop.new.parts }) sets (g.met.D.Pm.agree c.set_word.new.device) d v (stops_freed c.args.v.now.parts c.give_back_log.new.free c.stop.new.parts c.stop.ensures) (c.set_word.ensures.failed (err_is c.set_word.result _ c.in-Err.is)),
+      end_breaks S c.args.v.now c.args.ino c.requires.none c.requires.unraised g.F.Fingerprint.print
+          (record { device = c.set_word.new.device; print = c.args.v.now.print; parts = c.stop.new.parts }) sets
+          (g.met.D.Pm.agree c.set_word.new.device) d v (stops_freed c.args.v.now.parts c.give_back_log.new.free c.stop.new.parts c.stop.ensures)
+          (c.set_word.ensures.failed (err_is c.set_word.result _ c.in-Err.is)),
       some_work c.args.v.now.parts (end_waits S c.args.v.now c.args.ino c.requires.none c.requires.unraised c.requires.agrees c.requires.running),
     )

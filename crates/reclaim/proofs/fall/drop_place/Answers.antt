@@ -2,7 +2,23 @@ use Rattle.std.proofs.Common.{ℕ, ◌/◌, ◌*◌, ◌+◌, ◌≤◌, length,
 use Rattle.dn_volume.specs.Agrees.{is_stopped}
 use Rattle.dn_volume.proofs.Tables.{running_disk}
 use Rattle.reclaim.proofs.Ends.{err_is}
-use Rattle.reclaim.proofs.WorkEnds.{sets_at, done_at, moved_agrees, some_work, less_work, drop_ino, drop_there, drop_line, drop_waits, drop_units, drop_spare, drop_release, drop_room, drop_moves, drop_breaks}
+use Rattle.reclaim.proofs.WorkEnds.{
+  sets_at,
+  done_at,
+  moved_agrees,
+  some_work,
+  less_work,
+  drop_ino,
+  drop_there,
+  drop_line,
+  drop_waits,
+  drop_units,
+  drop_spare,
+  drop_release,
+  drop_room,
+  drop_moves,
+  drop_breaks,
+}
 use Rattle.reclaim.proofs.fall.drop_place.Goals as goal
 
 pub inode_word-word-requires-clause-ino : goal.inode_word-word-requires-clause-ino
@@ -10,7 +26,8 @@ inode_word-word-requires-clause-ino g c = drop_ino g.D.Pm.state c.args.v.now c.i
 
 pub set_word-requires-clause-inside : goal.set_word-requires-clause-inside
 set_word-requires-clause-inside g c =
-    subst (λ (a : ℕ). a / 8 * 8 + 8 ≤ length (g.D.Pm.state c.args.v.now.device).now) (sym c.inode_word-word.ensures) (drop_line g.D.Pm.state c.args.v.now c.in-Some.p c.in-Some.is c.requires.agrees c.requires.running)
+    subst (λ (a : ℕ). a / 8 * 8 + 8 ≤ length (g.D.Pm.state c.args.v.now.device).now) (sym c.inode_word-word.ensures)
+    (drop_line g.D.Pm.state c.args.v.now c.in-Some.p c.in-Some.is c.requires.agrees c.requires.running)
 
 pub set_word-requires-clause-room : goal.set_word-requires-clause-room
 set_word-requires-clause-room g c = drop_spare g.D.Pm.state c.args.v.now c.in-Some.p c.in-Some.is c.requires.agrees c.requires.running
@@ -41,8 +58,10 @@ returns-in-Ok-clause-agrees g c =
       spare = c.set_word.ensures.spare;
       faults = c.set_word.ensures.faults;
     }) in
-    moved_agrees S c.args.v.now g.F.Fingerprint.print _ found.0 (drop_moves S c.args.v.now c.in-Some.p c.in-Some.is g.F.Fingerprint.print _ sets (g.met.D.Pm.agree c.set_word.new.device) found.0 found.1
-    (done_at _ _ c.in-Some.p.place (S c.args.v.now.device) (S c.set_word.new.device) c.inode_word-word.ensures c.in-Ok.ensures.done) c.in-Ok.ensures.settles c.note_drop.ensures)
+    moved_agrees S c.args.v.now g.F.Fingerprint.print _ found.0 (drop_moves S c.args.v.now c.in-Some.p c.in-Some.is g.F.Fingerprint.print _ sets
+    (g.met.D.Pm.agree c.set_word.new.device) found.0 found.1
+    (done_at _ _ c.in-Some.p.place (S c.args.v.now.device) (S c.set_word.new.device) c.inode_word-word.ensures c.in-Ok.ensures.done)
+    c.in-Ok.ensures.settles c.note_drop.ensures)
 
 pub returns-in-Ok-clause-event : goal.returns-in-Ok-clause-event
 returns-in-Ok-clause-event g c = λ d v.
@@ -55,7 +74,8 @@ returns-in-Ok-clause-event g c = λ d v.
       faults = c.set_word.ensures.faults;
     }) in (
       drop_moves S c.args.v.now c.in-Some.p c.in-Some.is g.F.Fingerprint.print _ sets (g.met.D.Pm.agree c.set_word.new.device) d v
-          (done_at _ _ c.in-Some.p.place (S c.args.v.now.device) (S c.set_word.new.device) c.inode_word-word.ensures c.in-Ok.ensures.done) c.in-Ok.ensures.settles c.note_drop.ensures,
+          (done_at _ _ c.in-Some.p.place (S c.args.v.now.device) (S c.set_word.new.device) c.inode_word-word.ensures c.in-Ok.ensures.done)
+          c.in-Ok.ensures.settles c.note_drop.ensures,
       some_work c.args.v.now.parts (drop_waits S c.args.v.now c.in-Some.p c.in-Some.is c.requires.agrees c.requires.running),
       less_work c.args.v.now.parts c.note_drop.new.parts c.note_drop.ensures.kept (omega (arith, c.note_drop.ensures.waiting)),
     )
@@ -71,7 +91,9 @@ returns-in-Err-clause-agrees g c =
       spare = c.set_word.ensures.spare;
       faults = c.set_word.ensures.faults;
     }) in
-    is_stopped (drop_breaks S c.args.v.now c.in-Some.p c.in-Some.is g.F.Fingerprint.print (record { device = c.set_word.new.device; print = c.args.v.now.print; parts = c.stop.new.parts }) sets (g.met.D.Pm.agree c.set_word.new.device) found.0 found.1 c.stop.ensures
+    is_stopped (drop_breaks S c.args.v.now c.in-Some.p c.in-Some.is g.F.Fingerprint.print
+    (record { device = c.set_word.new.device; print = c.args.v.now.print; parts = c.stop.new.parts }) sets
+    (g.met.D.Pm.agree c.set_word.new.device) found.0 found.1 c.stop.ensures
     (c.set_word.ensures.failed (err_is c.set_word.result _ c.in-Err.is))).stopped
 
 pub returns-in-Err-clause-event : goal.returns-in-Err-clause-event
@@ -84,6 +106,8 @@ returns-in-Err-clause-event g c = λ d v.
       spare = c.set_word.ensures.spare;
       faults = c.set_word.ensures.faults;
     }) in (
-      drop_breaks S c.args.v.now c.in-Some.p c.in-Some.is g.F.Fingerprint.print (record { device = c.set_word.new.device; print = c.args.v.now.print; parts = c.stop.new.parts }) sets (g.met.D.Pm.agree c.set_word.new.device) d v c.stop.ensures (c.set_word.ensures.failed (err_is c.set_word.result _ c.in-Err.is)),
+      drop_breaks S c.args.v.now c.in-Some.p c.in-Some.is g.F.Fingerprint.print
+          (record { device = c.set_word.new.device; print = c.args.v.now.print; parts = c.stop.new.parts }) sets
+          (g.met.D.Pm.agree c.set_word.new.device) d v c.stop.ensures (c.set_word.ensures.failed (err_is c.set_word.result _ c.in-Err.is)),
       some_work c.args.v.now.parts (drop_waits S c.args.v.now c.in-Some.p c.in-Some.is c.requires.agrees c.requires.running),
     )

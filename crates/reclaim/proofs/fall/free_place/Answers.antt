@@ -2,27 +2,48 @@ use Rattle.std.proofs.Common.{ℕ, ◌/◌, ◌*◌, ◌+◌, ◌≤◌, length,
 use Rattle.dn_volume.specs.Agrees.{is_stopped}
 use Rattle.dn_volume.proofs.Tables.{running_disk}
 use Rattle.reclaim.proofs.Ends.{err_is}
-use Rattle.reclaim.proofs.WorkEnds.{sets_at, done_at, moved_agrees, some_work, less_work, free_ino, free_there, free_line, free_waits, free_below, free_taken, free_moves, free_breaks}
+use Rattle.reclaim.proofs.WorkEnds.{
+  sets_at,
+  done_at,
+  moved_agrees,
+  some_work,
+  less_work,
+  free_ino,
+  free_there,
+  free_line,
+  free_waits,
+  free_below,
+  free_taken,
+  free_moves,
+  free_breaks,
+}
 use Rattle.reclaim.proofs.fall.free_place.Goals as goal
 
 pub inode_word-word-requires-clause-ino : goal.inode_word-word-requires-clause-ino
-inode_word-word-requires-clause-ino g c = free_ino g.D.Pm.state c.args.v.now c.args.ino c.args.place c.args.page c.requires.place c.requires.no_row c.requires.unraised c.requires.agrees c.requires.running
+inode_word-word-requires-clause-ino g c = free_ino g.D.Pm.state c.args.v.now c.args.ino c.args.place c.args.page c.requires.place c.requires.no_row
+    c.requires.unraised c.requires.agrees c.requires.running
 
 pub note_freed-requires-clause-there : goal.note_freed-requires-clause-there
-note_freed-requires-clause-there g c = free_there g.D.Pm.state c.args.v.now c.args.ino c.args.place c.args.page c.requires.place c.requires.no_row c.requires.unraised c.requires.agrees c.requires.running
+note_freed-requires-clause-there g c = free_there g.D.Pm.state c.args.v.now c.args.ino c.args.place c.args.page c.requires.place c.requires.no_row
+    c.requires.unraised c.requires.agrees c.requires.running
 
 pub note_freed-requires-clause-waiting : goal.note_freed-requires-clause-waiting
-note_freed-requires-clause-waiting g c = free_waits g.D.Pm.state c.args.v.now c.args.ino c.args.place c.args.page c.requires.place c.requires.no_row c.requires.unraised c.requires.agrees c.requires.running
+note_freed-requires-clause-waiting g c = free_waits g.D.Pm.state c.args.v.now c.args.ino c.args.place c.args.page c.requires.place c.requires.no_row
+    c.requires.unraised c.requires.agrees c.requires.running
 
 pub note_freed-requires-clause-below : goal.note_freed-requires-clause-below
-note_freed-requires-clause-below g c = free_below g.D.Pm.state c.args.v.now c.args.ino c.args.place c.args.page c.requires.place c.requires.no_row c.requires.unraised c.requires.agrees c.requires.running
+note_freed-requires-clause-below g c = free_below g.D.Pm.state c.args.v.now c.args.ino c.args.place c.args.page c.requires.place c.requires.no_row
+    c.requires.unraised c.requires.agrees c.requires.running
 
 pub note_freed-requires-clause-taken : goal.note_freed-requires-clause-taken
-note_freed-requires-clause-taken g c = free_taken g.D.Pm.state c.args.v.now c.args.ino c.args.place c.args.page c.requires.place c.requires.no_row c.requires.unraised c.requires.agrees c.requires.running
+note_freed-requires-clause-taken g c = free_taken g.D.Pm.state c.args.v.now c.args.ino c.args.place c.args.page c.requires.place c.requires.no_row
+    c.requires.unraised c.requires.agrees c.requires.running
 
 pub set_word-requires-clause-inside : goal.set_word-requires-clause-inside
 set_word-requires-clause-inside g c =
-    subst (λ (a : ℕ). a / 8 * 8 + 8 ≤ length (g.D.Pm.state c.args.v.now.device).now) (sym c.inode_word-word.ensures) (free_line g.D.Pm.state c.args.v.now c.args.ino c.args.place c.args.page c.requires.place c.requires.no_row c.requires.unraised c.requires.agrees c.requires.running)
+    subst (λ (a : ℕ). a / 8 * 8 + 8 ≤ length (g.D.Pm.state c.args.v.now.device).now) (sym c.inode_word-word.ensures)
+    (free_line g.D.Pm.state c.args.v.now c.args.ino c.args.place c.args.page c.requires.place c.requires.no_row c.requires.unraised
+    c.requires.agrees c.requires.running)
 
 pub returns-in-Ok-clause-agrees : goal.returns-in-Ok-clause-agrees
 returns-in-Ok-clause-agrees g c =
@@ -35,8 +56,10 @@ returns-in-Ok-clause-agrees g c =
       spare = c.set_word.ensures.spare;
       faults = c.set_word.ensures.faults;
     }) in
-    moved_agrees S c.args.v.now g.F.Fingerprint.print _ found.0 (free_moves S c.args.v.now c.args.ino c.args.place c.args.page c.requires.place c.requires.no_row c.requires.unraised g.F.Fingerprint.print _ sets (g.met.D.Pm.agree c.set_word.new.device) found.0 found.1
-    (done_at _ _ c.args.place (S c.args.v.now.device) (S c.set_word.new.device) c.inode_word-word.ensures c.in-Ok.ensures.done) c.in-Ok.ensures.settles c.requires.units c.note_freed.ensures)
+    moved_agrees S c.args.v.now g.F.Fingerprint.print _ found.0 (free_moves S c.args.v.now c.args.ino c.args.place c.args.page c.requires.place
+    c.requires.no_row c.requires.unraised g.F.Fingerprint.print _ sets (g.met.D.Pm.agree c.set_word.new.device) found.0 found.1
+    (done_at _ _ c.args.place (S c.args.v.now.device) (S c.set_word.new.device) c.inode_word-word.ensures c.in-Ok.ensures.done)
+    c.in-Ok.ensures.settles c.requires.units c.note_freed.ensures)
 
 pub returns-in-Ok-clause-event : goal.returns-in-Ok-clause-event
 returns-in-Ok-clause-event g c = λ d v.
@@ -48,9 +71,12 @@ returns-in-Ok-clause-event g c = λ d v.
       spare = c.set_word.ensures.spare;
       faults = c.set_word.ensures.faults;
     }) in (
-      free_moves S c.args.v.now c.args.ino c.args.place c.args.page c.requires.place c.requires.no_row c.requires.unraised g.F.Fingerprint.print _ sets (g.met.D.Pm.agree c.set_word.new.device) d v
-          (done_at _ _ c.args.place (S c.args.v.now.device) (S c.set_word.new.device) c.inode_word-word.ensures c.in-Ok.ensures.done) c.in-Ok.ensures.settles c.requires.units c.note_freed.ensures,
-      some_work c.args.v.now.parts (let four = free_waits S c.args.v.now c.args.ino c.args.place c.args.page c.requires.place c.requires.no_row c.requires.unraised c.requires.agrees c.requires.running in omega (arith, four)),
+      free_moves S c.args.v.now c.args.ino c.args.place c.args.page c.requires.place c.requires.no_row c.requires.unraised g.F.Fingerprint.print _
+          sets (g.met.D.Pm.agree c.set_word.new.device) d v
+          (done_at _ _ c.args.place (S c.args.v.now.device) (S c.set_word.new.device) c.inode_word-word.ensures c.in-Ok.ensures.done)
+          c.in-Ok.ensures.settles c.requires.units c.note_freed.ensures,
+      some_work c.args.v.now.parts (let four = free_waits S c.args.v.now c.args.ino c.args.place c.args.page c.requires.place c.requires.no_row
+          c.requires.unraised c.requires.agrees c.requires.running in omega (arith, four)),
       less_work c.args.v.now.parts c.note_freed.new.parts c.note_freed.ensures.kept (omega (arith, c.note_freed.ensures.waiting)),
     )
 
@@ -65,7 +91,9 @@ returns-in-Err-clause-agrees g c =
       spare = c.set_word.ensures.spare;
       faults = c.set_word.ensures.faults;
     }) in
-    is_stopped (free_breaks S c.args.v.now c.args.ino c.args.place c.args.page c.requires.place c.requires.no_row c.requires.unraised g.F.Fingerprint.print (record { device = c.set_word.new.device; print = c.args.v.now.print; parts = c.stop.new.parts }) sets (g.met.D.Pm.agree c.set_word.new.device) found.0 found.1 c.stop.ensures
+    is_stopped (free_breaks S c.args.v.now c.args.ino c.args.place c.args.page c.requires.place c.requires.no_row c.requires.unraised
+    g.F.Fingerprint.print (record { device = c.set_word.new.device; print = c.args.v.now.print; parts = c.stop.new.parts }) sets
+    (g.met.D.Pm.agree c.set_word.new.device) found.0 found.1 c.stop.ensures
     (c.set_word.ensures.failed (err_is c.set_word.result _ c.in-Err.is))).stopped
 
 pub returns-in-Err-clause-event : goal.returns-in-Err-clause-event
@@ -78,6 +106,9 @@ returns-in-Err-clause-event g c = λ d v.
       spare = c.set_word.ensures.spare;
       faults = c.set_word.ensures.faults;
     }) in (
-      free_breaks S c.args.v.now c.args.ino c.args.place c.args.page c.requires.place c.requires.no_row c.requires.unraised g.F.Fingerprint.print (record { device = c.set_word.new.device; print = c.args.v.now.print; parts = c.stop.new.parts }) sets (g.met.D.Pm.agree c.set_word.new.device) d v c.stop.ensures (c.set_word.ensures.failed (err_is c.set_word.result _ c.in-Err.is)),
-      some_work c.args.v.now.parts (let four = free_waits S c.args.v.now c.args.ino c.args.place c.args.page c.requires.place c.requires.no_row c.requires.unraised c.requires.agrees c.requires.running in omega (arith, four)),
+      free_breaks S c.args.v.now c.args.ino c.args.place c.args.page c.requires.place c.requires.no_row c.requires.unraised g.F.Fingerprint.print
+          (record { device = c.set_word.new.device; print = c.args.v.now.print; parts = c.stop.new.parts }) sets
+          (g.met.D.Pm.agree c.set_word.new.device) d v c.stop.ensures (c.set_word.ensures.failed (err_is c.set_word.result _ c.in-Err.is)),
+      some_work c.args.v.now.parts (let four = free_waits S c.args.v.now c.args.ino c.args.place c.args.page c.requires.place c.requires.no_row
+          c.requires.unraised c.requires.agrees c.requires.running in omega (arith, four)),
     )

@@ -14,7 +14,8 @@ begin_work-requires-clause-agrees g c =
 pub returns-then-make_room-clause-event : goal.returns-then-make_room-clause-event
 returns-then-make_room-clause-event g c = λ d v.
     reclaim_since g.D.Pm.state c.args.v.now c.make_room.new.v c.make_room.ensures.makes c.begin_work.new.v g.F.Fingerprint.print d c.begin_work.result
-    (c.begin_work.ensures.event d (room_is g.D.Pm.state c.args.v.now c.make_room.new.v c.make_room.ensures.makes (g.met.D.Pm.agree c.args.v.now.device) d v))
+    (c.begin_work.ensures.event d (room_is g.D.Pm.state c.args.v.now c.make_room.new.v c.make_room.ensures.makes
+    (g.met.D.Pm.agree c.args.v.now.device) d v))
 
 pub returns-else-make_room-clause-agrees : goal.returns-else-make_room-clause-agrees
 returns-else-make_room-clause-agrees g c =

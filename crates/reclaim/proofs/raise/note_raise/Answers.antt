@@ -15,9 +15,22 @@ returns c =
     let b = c.args.parts.now in
     let r = c.requires.raises in
     record {
-      kept = record { geometry = refl; free = refl; names = refl; names_room = refl; inodes = refl; fact = refl; queue = refl; queue_room = refl; history = refl; history_len = refl; history_capacity = refl };
+      kept = record {
+        geometry = refl;
+        free = refl;
+        names = refl;
+        names_room = refl;
+        inodes = refl;
+        fact = refl;
+        queue = refl;
+        queue_room = refl;
+        history = refl;
+        history_len = refl;
+        history_capacity = refl;
+      };
       flight = λ f flies.
-          ap (λ (x : Option (Option Flight)). opened x) (get_here b.flights.items (c.args.who - 1) c.count_raise.new.flight (in_range b c.args.who r.flight r.flies))
+          ap (λ (x : Option (Option Flight)). opened x) (get_here b.flights.items (c.args.who - 1) c.count_raise.new.flight
+          (in_range b c.args.who r.flight r.flies))
           ∙ c.count_raise.ensures f (at_client b c.args.who f flies _ c.index_mut.ensures.value);
       others = λ k ne. ap (λ (x : Option (Option Flight)). opened x) (get_there b.flights.items (c.args.who - 1) k c.count_raise.new.flight ne);
       clients = set_long b.flights.items (c.args.who - 1) c.count_raise.new.flight;

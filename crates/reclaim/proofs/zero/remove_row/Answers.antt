@@ -39,22 +39,33 @@ returns-in-Ok-clause-agrees g c =
     let S = g.D.Pm.state in
     let found = running_disk S c.args.v.now c.requires.running c.requires.agrees in
     moved_agrees S c.args.v.now g.F.Fingerprint.print _ found.0
-    (gone_moves S c.args.v.now c.args.slot c.requires.pending c.args.page c.requires.zero found.0 found.1 (record { device = c.remove_zero.new.device; print = c.args.v.now.print; parts = c.note_checked.new.parts }) c.remove_zero.ensures.only c.remove_zero.ensures.images (g.met.D.Pm.agree c.remove_zero.new.device)
-    c.remove_zero.ensures.faults g.F.Fingerprint.print (checks_since c.args.v.now.parts c.remove_zero.new.fact c.give_back.new.self c.note_checked.new.parts c.note_checked.ensures.checks) c.remove_zero.ensures.others
-    (subst (λ t. MakesRemoved c.args.v.now.parts.fact t c.args.slot (S c.args.v.now.device) (S c.remove_zero.new.device)) (sym c.note_checked.ensures.fact) c.in-Ok.ensures.done) c.in-Ok.ensures.settled
-    (subst (Gives (λ p. p ≡ c.args.page) c.args.v.now.parts.free) (sym c.note_checked.ensures.free) (gives_one c.args.page c.args.v.now.parts.free c.give_back.new.self c.give_back.ensures.gives_back c.give_back.ensures.in_order))
+    (gone_moves S c.args.v.now c.args.slot c.requires.pending c.args.page c.requires.zero found.0 found.1
+    (record { device = c.remove_zero.new.device; print = c.args.v.now.print; parts = c.note_checked.new.parts }) c.remove_zero.ensures.only
+    c.remove_zero.ensures.images (g.met.D.Pm.agree c.remove_zero.new.device)
+    c.remove_zero.ensures.faults g.F.Fingerprint.print (checks_since c.args.v.now.parts c.remove_zero.new.fact c.give_back.new.self
+    c.note_checked.new.parts c.note_checked.ensures.checks) c.remove_zero.ensures.others
+    (subst (λ t. MakesRemoved c.args.v.now.parts.fact t c.args.slot (S c.args.v.now.device) (S c.remove_zero.new.device))
+    (sym c.note_checked.ensures.fact) c.in-Ok.ensures.done) c.in-Ok.ensures.settled
+    (subst (Gives (λ p. p ≡ c.args.page) c.args.v.now.parts.free) (sym c.note_checked.ensures.free) (gives_one c.args.page c.args.v.now.parts.free
+    c.give_back.new.self c.give_back.ensures.gives_back c.give_back.ensures.in_order))
     c.remove_zero.ensures.spare c.in-Ok.ensures.settles)
 
 pub returns-in-Ok-clause-event : goal.returns-in-Ok-clause-event
 returns-in-Ok-clause-event g c = λ d v.
     let S = g.D.Pm.state in (
-      gone_moves S c.args.v.now c.args.slot c.requires.pending c.args.page c.requires.zero d v (record { device = c.remove_zero.new.device; print = c.args.v.now.print; parts = c.note_checked.new.parts }) c.remove_zero.ensures.only c.remove_zero.ensures.images (g.met.D.Pm.agree c.remove_zero.new.device)
-          c.remove_zero.ensures.faults g.F.Fingerprint.print (checks_since c.args.v.now.parts c.remove_zero.new.fact c.give_back.new.self c.note_checked.new.parts c.note_checked.ensures.checks) c.remove_zero.ensures.others
-          (subst (λ t. MakesRemoved c.args.v.now.parts.fact t c.args.slot (S c.args.v.now.device) (S c.remove_zero.new.device)) (sym c.note_checked.ensures.fact) c.in-Ok.ensures.done) c.in-Ok.ensures.settled
-          (subst (Gives (λ p. p ≡ c.args.page) c.args.v.now.parts.free) (sym c.note_checked.ensures.free) (gives_one c.args.page c.args.v.now.parts.free c.give_back.new.self c.give_back.ensures.gives_back c.give_back.ensures.in_order))
+      gone_moves S c.args.v.now c.args.slot c.requires.pending c.args.page c.requires.zero d v
+          (record { device = c.remove_zero.new.device; print = c.args.v.now.print; parts = c.note_checked.new.parts }) c.remove_zero.ensures.only
+          c.remove_zero.ensures.images (g.met.D.Pm.agree c.remove_zero.new.device)
+          c.remove_zero.ensures.faults g.F.Fingerprint.print (checks_since c.args.v.now.parts c.remove_zero.new.fact c.give_back.new.self
+          c.note_checked.new.parts c.note_checked.ensures.checks) c.remove_zero.ensures.others
+          (subst (λ t. MakesRemoved c.args.v.now.parts.fact t c.args.slot (S c.args.v.now.device) (S c.remove_zero.new.device))
+          (sym c.note_checked.ensures.fact) c.in-Ok.ensures.done) c.in-Ok.ensures.settled
+          (subst (Gives (λ p. p ≡ c.args.page) c.args.v.now.parts.free) (sym c.note_checked.ensures.free)
+          (gives_one c.args.page c.args.v.now.parts.free c.give_back.new.self c.give_back.ensures.gives_back c.give_back.ensures.in_order))
           c.remove_zero.ensures.spare c.in-Ok.ensures.settles,
       some_work c.args.v.now.parts (zero_waits S c.args.v.now c.args.slot c.requires.pending c.requires.agrees c.requires.running),
-      less_work c.args.v.now.parts c.note_checked.new.parts (checks_since c.args.v.now.parts c.remove_zero.new.fact c.give_back.new.self c.note_checked.new.parts c.note_checked.ensures.checks).kept
+      less_work c.args.v.now.parts c.note_checked.new.parts (checks_since c.args.v.now.parts c.remove_zero.new.fact c.give_back.new.self
+          c.note_checked.new.parts c.note_checked.ensures.checks).kept
           (omega (arith, c.note_checked.ensures.checks.waiting)),
     )
 
@@ -62,13 +73,19 @@ pub returns-in-Err-clause-agrees : goal.returns-in-Err-clause-agrees
 returns-in-Err-clause-agrees g c =
     let S = g.D.Pm.state in
     let found = running_disk S c.args.v.now c.requires.running c.requires.agrees in
-    is_stopped (gone_breaks S c.args.v.now c.args.slot c.requires.pending c.args.page c.requires.zero found.0 found.1 (record { device = c.remove_zero.new.device; print = c.args.v.now.print; parts = c.stop.new.parts }) c.remove_zero.ensures.only c.remove_zero.ensures.images (g.met.D.Pm.agree c.remove_zero.new.device)
-    c.remove_zero.ensures.faults g.F.Fingerprint.print (stops_since c.args.v.now.parts c.remove_zero.new.fact c.stop.new.parts c.stop.ensures) (c.remove_zero.ensures.failed (err_is c.remove_zero.result _ c.in-Err.is))).stopped
+    is_stopped (gone_breaks S c.args.v.now c.args.slot c.requires.pending c.args.page c.requires.zero found.0 found.1
+    (record { device = c.remove_zero.new.device; print = c.args.v.now.print; parts = c.stop.new.parts }) c.remove_zero.ensures.only
+    c.remove_zero.ensures.images (g.met.D.Pm.agree c.remove_zero.new.device)
+    c.remove_zero.ensures.faults g.F.Fingerprint.print (stops_since c.args.v.now.parts c.remove_zero.new.fact c.stop.new.parts c.stop.ensures)
+    (c.remove_zero.ensures.failed (err_is c.remove_zero.result _ c.in-Err.is))).stopped
 
 pub returns-in-Err-clause-event : goal.returns-in-Err-clause-event
 returns-in-Err-clause-event g c = λ d v.
     let S = g.D.Pm.state in (
-      gone_breaks S c.args.v.now c.args.slot c.requires.pending c.args.page c.requires.zero d v (record { device = c.remove_zero.new.device; print = c.args.v.now.print; parts = c.stop.new.parts }) c.remove_zero.ensures.only c.remove_zero.ensures.images (g.met.D.Pm.agree c.remove_zero.new.device)
-          c.remove_zero.ensures.faults g.F.Fingerprint.print (stops_since c.args.v.now.parts c.remove_zero.new.fact c.stop.new.parts c.stop.ensures) (c.remove_zero.ensures.failed (err_is c.remove_zero.result _ c.in-Err.is)),
+      gone_breaks S c.args.v.now c.args.slot c.requires.pending c.args.page c.requires.zero d v
+          (record { device = c.remove_zero.new.device; print = c.args.v.now.print; parts = c.stop.new.parts }) c.remove_zero.ensures.only
+          c.remove_zero.ensures.images (g.met.D.Pm.agree c.remove_zero.new.device)
+          c.remove_zero.ensures.faults g.F.Fingerprint.print (stops_since c.args.v.now.parts c.remove_zero.new.fact c.stop.new.parts c.stop.ensures)
+          (c.remove_zero.ensures.failed (err_is c.remove_zero.result _ c.in-Err.is)),
       some_work c.args.v.now.parts (zero_waits S c.args.v.now c.args.slot c.requires.pending c.requires.agrees c.requires.running),
     )
