@@ -3,6 +3,8 @@
 
 pub mod commit;
 pub mod ending;
+pub mod fill;
 pub mod giving;
 
 pub use commit::commit_write;
+pub use fill::fill_page;
