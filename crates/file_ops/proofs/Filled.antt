@@ -50,7 +50,7 @@ use Rattle.dn_volume.specs.Agrees.{StandsFast, IsVolume}
 use Rattle.dn_volume.specs.Rely.{IsWordOf, of_page, LeavesRest, KeepsRest, StayInHand}
 use Rattle.dn_volume.specs.Events.{IsBetween}
 use Rattle.dn_volume.specs.Steps.{StepsOn}
-use Rattle.dn_volume.proofs.Kept.{quiet_accounts}
+use Rattle.dn_volume.proofs.Kept.{quiet_alone, quiet_accounts}
 use Rattle.dn_volume.proofs.OthersStay.{others_stay}
 use Rattle.dn_volume.proofs.Stills.{still_flushes}
 use Rattle.dn_volume.proofs.Stepped.{others_same, ops_kept, same_holders, same_space, same_counts, same_queue}
@@ -328,6 +328,7 @@ fills_move state print v v' d who f c volume agree flies kind some stores fills 
     images = between d v.parts v'.parts (state v.device) (state v'.device) who f c volume agree flies kind some stores fills print;
     own = λ own. own;
     accounts = λ own. quiet_accounts print d;
+    alone = λ by_reclaim. quiet_alone d;
     traces = record { more = []; trace = ap (λ xs. xs.items) fills.trace ∙ sym (append-nil v.parts.trace.items); words = λ slot. refl };
     others = same d v.parts v'.parts (state v.device) (state v'.device) who f c volume agree flies kind some stores fills;
     counts = counts;

@@ -23,3 +23,4 @@ pub mod FillBytes
 pub mod Nexts
 pub mod Flying
 pub mod FillEnds
+pub mod NextStep

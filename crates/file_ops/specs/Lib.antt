@@ -2,3 +2,4 @@ pub mod Ends
 pub mod Giving
 pub mod Ending
 pub mod Filling
+pub mod Advancing

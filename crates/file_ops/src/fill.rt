@@ -119,7 +119,7 @@ fn note_fill(parts: &mut Parts, who: u32)
 }
 
 // How many events are left of a write or a cut in flight.
-pub(crate) fn left_of_data(parts: &Parts, who: u32) -> u64
+fn left_of_data(parts: &Parts, who: u32) -> u64
     requires { HasLeft parts.now who }
     ensures { (f : KeptFlight) → Flies parts.now who f → result ≡ left_of f }
 {
