@@ -127,7 +127,8 @@ module _ (d : Disk) (b : Parts) (s : State) (who : ℕ) (f : Flight) (c : DataCh
                   size_is = maps_it.size_is;
                   round = maps_it.round;
                   holder = maps_it.holder;
-                  places = (maps_it.file d old.size c.first _ held (may d b s who f c v flies kind is name at text op_is all_filled all_raised) tail_is
+                  places = (maps_it.file d old.size c.first _ held (may d b s who f c v flies kind is name at text op_is all_filled all_raised)
+                      tail_is
                       (subst (λ (x : InodeState). x.size ≤ c.size) same grows)).places;
                 };
           };
