@@ -1,0 +1,3 @@
+pub mod Cutting
+pub mod Anew
+pub mod Known
