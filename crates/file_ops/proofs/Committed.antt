@@ -39,7 +39,7 @@ use Rattle.file_ops.proofs.Frame.{leaves_rest}
 use Rattle.dn_volume.proofs.Kept.{ops_at}
 use Rattle.dn_volume.proofs.Between.{old_or_new}
 use Rattle.file_ops.proofs.Basics.{same_others}
-use Rattle.file_ops.proofs.Accounted.{write_accounts}
+use Rattle.file_ops.proofs.Accounted.{write_accounts, alone_was}
 use Rattle.file_ops.proofs.After.{volume_after}
 use Rattle.file_ops.proofs.DiskAfter.{after}
 use Rattle.file_ops.proofs.Ended.{Decides, IsOut, all_ends, write_decides, write_inode}
@@ -151,6 +151,7 @@ module _ {D F : Type 0} (state : D → State) (print : Print) (v v' : Volume D F
         images = images;
         own = decides.own print;
         accounts = λ own. write_accounts f.ino d e w decides.changes.well print;
+        alone = λ by_reclaim. alone_was f.ino d e w decides.changes.well;
         traces = record {
           more = [];
           trace = ap (λ tr. tr.items) ends.keeps.trace ∙ sym (append-nil v.parts.trace.items);
