@@ -190,6 +190,7 @@ module _ (who q : ℕ) (inodes pages : List ℕ) (d e : Disk) (s t : State) (f :
         holds_node = is.holds_node;
         slots = is.slots;
         no_rows = is.no_rows;
+        put_is = is.put_is;
         ready = λ prepared. ready_same is.change live root_in root_held
             (room_of is.change fresh is.slots
             (subst (λ (n : ℕ). length ((d.inode n).log.pages ++ f.fresh.items) ≡ (count (d.inode n).log + length f.slots.items + 62) / 63) is.root

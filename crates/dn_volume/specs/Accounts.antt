@@ -31,6 +31,11 @@ pub record HadRow (d e : Disk) (row : Row) : Type 0 where
   pub page_is : was.page ≡ row.page
   pub bytes_are : page_bytes e row.page ≡ page_bytes d row.page
 
+-- no place is left alone that wasn't
+abbrev pub KeepsAlone : Disk → Disk → Type 0
+KeepsAlone d e = (ino idx : ℕ) (m : Mapping) → LivePlace e ino idx m → IsAlone m
+    → WasAloneOn d e ino idx m
+
 -- A place that is left alone was so before, or some file of before has its twin. The page of a row
 -- had one before, or
 -- has the bytes of a page of a file of before.

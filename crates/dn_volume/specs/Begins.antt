@@ -202,6 +202,64 @@ pub record HasBegun {D F : Type 0} (state : D → State) (who : ℕ) (op : Op) (
   pub history : v'.parts.history.items ≡ v.parts.history.items
   pub counts : Counts v.parts v'.parts
 
+-- the kinds of operations, one for each call of a machine
+abbrev pub IsWriteOp : Op → Type 0
+IsWriteOp (op.Create name) = ⊥
+IsWriteOp (op.Write name at text) = Unit {0}
+IsWriteOp (op.Read name at count) = ⊥
+IsWriteOp (op.Cut name to) = ⊥
+IsWriteOp (op.Remove name) = ⊥
+IsWriteOp (op.Rename from to) = ⊥
+IsWriteOp (op.Size name) = ⊥
+IsWriteOp op.List = ⊥
+
+abbrev pub IsReadOp : Op → Type 0
+IsReadOp (op.Create name) = ⊥
+IsReadOp (op.Write name at text) = ⊥
+IsReadOp (op.Read name at count) = Unit {0}
+IsReadOp (op.Cut name to) = ⊥
+IsReadOp (op.Remove name) = ⊥
+IsReadOp (op.Rename from to) = ⊥
+IsReadOp (op.Size name) = ⊥
+IsReadOp op.List = ⊥
+
+abbrev pub IsCutOp : Op → Type 0
+IsCutOp (op.Create name) = ⊥
+IsCutOp (op.Write name at text) = ⊥
+IsCutOp (op.Read name at count) = ⊥
+IsCutOp (op.Cut name to) = Unit {0}
+IsCutOp (op.Remove name) = ⊥
+IsCutOp (op.Rename from to) = ⊥
+IsCutOp (op.Size name) = ⊥
+IsCutOp op.List = ⊥
+
+abbrev pub IsSizeOp : Op → Type 0
+IsSizeOp (op.Create name) = ⊥
+IsSizeOp (op.Write name at text) = ⊥
+IsSizeOp (op.Read name at count) = ⊥
+IsSizeOp (op.Cut name to) = ⊥
+IsSizeOp (op.Remove name) = ⊥
+IsSizeOp (op.Rename from to) = ⊥
+IsSizeOp (op.Size name) = Unit {0}
+IsSizeOp op.List = ⊥
+
+-- a creation, a removal or a renaming
+abbrev pub IsNamesOp : Op → Type 0
+IsNamesOp (op.Create name) = Unit {0}
+IsNamesOp (op.Write name at text) = ⊥
+IsNamesOp (op.Read name at count) = ⊥
+IsNamesOp (op.Cut name to) = ⊥
+IsNamesOp (op.Remove name) = Unit {0}
+IsNamesOp (op.Rename from to) = Unit {0}
+IsNamesOp (op.Size name) = ⊥
+IsNamesOp op.List = ⊥
+
+-- a client has an operation of this kind in flight
+pub record FliesAs (Kind : Op → Type 0) (b : Parts) (who : ℕ) : Type 0 where
+  pub flight : Flight
+  pub flies : Flies b who flight
+  pub kind : Kind flight.op
+
 -- what the other clients have in flight, as scripts
 pub record AreFlying (b : Parts) (who : ℕ) (scripts : List (List Op)) : Type 0 where
   pub clients : length scripts ≡ 14

@@ -47,7 +47,7 @@ use Rattle.dn_volume.specs.declared.outcome.Outcome.TheVariants.{
 use Rattle.dn_volume.specs.declared.volume.Parts.{Parts}
 use Rattle.dn_volume.specs.declared.volume.Volume.{Volume}
 use Rattle.dn_volume.specs.Parties.{Flies, SameOthers, KeepsOps, flight_at}
-use Rattle.dn_volume.specs.Accounts.{AccountsFor}
+use Rattle.dn_volume.specs.Accounts.{AccountsFor, KeepsAlone}
 use Rattle.dn_volume.specs.Flights.{left_of}
 use Rattle.dn_volume.specs.Agrees.{IsVolume, IsStopped}
 
@@ -96,6 +96,7 @@ pub record Moves {D F : Type 0} (state : D → State) (print : Print) (who : ℕ
   pub images : LeavesOnly (state v.device) (state v'.device) (IsBetween print d e)
   pub own : IsOwn print d → IsOwn print e
   pub accounts : IsOwn print d → AccountsFor print d e
+  pub alone : who ≡ 16 → KeepsAlone d e
   pub traces : Traces d e v.parts v'.parts
   pub others : SameOthers who v.parts v'.parts
   pub counts : Counts v.parts v'.parts

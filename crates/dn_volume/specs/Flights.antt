@@ -48,7 +48,7 @@ use Rattle.dn_volume.specs.declared.flight.Turn.TheVariants as kept
 use Rattle.dn_volume.specs.declared.volume.Parts.{Parts}
 use Rattle.dn_volume.specs.Parties.{Flies, taken_by}
 use Rattle.dn_volume.specs.Planned.{PlansData, data_items, new_byte}
-use Rattle.dn_volume.specs.PlannedNames.{PlansNames}
+use Rattle.dn_volume.specs.PlannedNames.{PlansNames, name_put}
 
 abbrev pub as_turn : KeptTurn → Turn
 as_turn kept.Stays = Stays
@@ -98,6 +98,7 @@ pub record IsNameFlight (d : Disk) (who : ℕ) (f : Flight) (c : NameChange) (s 
     pub holds_node : Contains f.held.items c.node
     pub slots : spelled change.more ≡ f.slots.items
     pub no_rows : f.rows.items ≡ []
+    pub put_is : c.put ≡ name_put f.op
     pub ready : c.prepared ≡ true → IsReady who (FreshNames d change) s
     pub tail : c.prepared ≡ true → c.tail ≡ tail_at (root_after d change).pages
         (count (root_after d change))

@@ -58,3 +58,14 @@ PlansNames d f change (Remove name) = PlansRemove d f name change
 PlansNames d f change (Rename from to) = PlansRename d f from to change
 PlansNames d f change (Size name) = ⊥
 PlansNames d f change ListAll = ⊥
+
+-- the name that the index of names gets by an operation
+abbrev pub name_put : Op → Option (List ℕ)
+name_put (Create name) = Some name
+name_put (Write name at text) = None
+name_put (Read name at count) = None
+name_put (Cut name to) = None
+name_put (Remove name) = None
+name_put (Rename from to) = Some to
+name_put (Size name) = None
+name_put ListAll = None

@@ -1,6 +1,7 @@
 // Operations of clients that are in flight.
 use dn_model::Op;
 use file_content::runs::Run;
+use log_entry::Name;
 
 /// A client's operation that has begun. Its log is the one that gets its items: a file's for a change of data, the
 /// root's for a change of names.
@@ -61,6 +62,8 @@ pub struct NameChange {
     pub prepared: bool,
     /// The root's tail after the commit.
     pub tail: u64,
+    /// The name that the index gets at the commit, taken at the begin so that the commit needs no memory.
+    pub put: Option<Name>,
 }
 
 /// What becomes of an inode.

@@ -54,7 +54,7 @@ module _ (ino : ℕ) (old new : Disk) (w : Writes ino old new) (ok : WritesWell 
     }));
   }
 
-  alone_was : (i idx : ℕ) (m : Mapping) → LivePlace new i idx m → IsAlone m → WasAloneOn old new i idx m
+  pub alone_was : (i idx : ℕ) (m : Mapping) → LivePlace new i idx m → IsAlone m → WasAloneOn old new i idx m
   alone_was i idx m place alone = elim (cases_eq i ino) [
     | inl e ↦ elim (own_or_other w.first w.n idx) [
       | inl own ↦

@@ -39,7 +39,7 @@ use Rattle.file_ops.proofs.Frame.{leaves_rest}
 use Rattle.dn_volume.proofs.Kept.{ops_at}
 use Rattle.dn_volume.proofs.Between.{old_or_new}
 use Rattle.file_ops.proofs.Basics.{same_others}
-use Rattle.file_ops.proofs.Accounted.{write_accounts}
+use Rattle.file_ops.proofs.Accounted.{write_accounts, alone_was}
 use Rattle.file_ops.proofs.After.{volume_after}
 use Rattle.file_ops.proofs.DiskAfter.{after, event, changes, ready, own_after, files_after, granted}
 use Rattle.file_ops.proofs.Ended.{IsOut, all_ends}
@@ -159,6 +159,8 @@ module _ {D F : Type 0} (state : D → State) (print : Print) (v v' : Volume D F
         own = own_after d v.parts (state v.device) who f c is_v flies kind is name at text op_is all_filled all_raised print;
         accounts = λ own. write_accounts f.ino d e w (changes d v.parts (state v.device) who f c is_v flies kind is name at text op_is all_filled
             all_raised).well print;
+        alone = λ by_reclaim. alone_was f.ino d e w (changes d v.parts (state v.device) who f c is_v flies kind is name at text op_is all_filled
+            all_raised).well;
         traces = record {
           more = [];
           trace = ap (λ tr. tr.items) ends.keeps.trace ∙ sym (append-nil v.parts.trace.items);

@@ -19,7 +19,7 @@ use Rattle.law_names.proofs.AllWords.{all_or_none_images}
 use Rattle.law_names.proofs.OperatedFiles.{files_created}
 use Rattle.dn_volume.specs.declared.volume.Parts.{Parts}
 use Rattle.dn_volume.specs.Flights.{left_by}
-use Rattle.dn_volume.specs.Accounts.{AccountsFor}
+use Rattle.dn_volume.specs.Accounts.{AccountsFor, KeepsAlone}
 use Rattle.dn_volume.specs.Events.{word_in, Traces}
 use Rattle.dn_volume.proofs.Between.{old_or_new}
 use Rattle.name_ops.specs.Landing.{CreationsAnswer}
@@ -35,15 +35,18 @@ module _ (print : Print) (d : Disk) (change : DiskChange) (may : MayChange d cha
   unfolding page_bytes names_changed
   same_bytes page = refl
 
+  pub alone_then : KeepsAlone d e
+  alone_then ino idx m place alone = record {
+    mapping = m;
+    place = live_was d change may ino idx m place;
+    alone = alone;
+    page_is = refl;
+    bytes_are = same_bytes m.block;
+  }
+
   pub accounts : AccountsFor print d e
   accounts = record {
-    alone = λ ino idx m place alone. inl (record {
-      mapping = m;
-      place = live_was d change may ino idx m place;
-      alone = alone;
-      page_is = refl;
-      bytes_are = same_bytes m.block;
-    });
+    alone = λ ino idx m place alone. inl (alone_then ino idx m place alone);
     row_pages = λ row has. inl (record {
       was = row;
       there = subst (λ (rs : List Row). Contains rs row) (same_rows d change) has;
@@ -76,6 +79,7 @@ creations_answer state print v v' d who f name c volume agree to commit lands ad
             (names_suffice d change can who (state v.device) set) commit.images);
         own = own_kept d change can print;
         accounts = λ own. accounts print d change can;
+        alone = λ is. alone_then print d change can;
         traces = traces print d change can v.parts v'.parts lands.lands.trace;
         others = same_others d v.parts v'.parts (state v.device) (state v'.device) who f c change volume can to.flies to.change_is refl lands.lands;
         counts = counts;

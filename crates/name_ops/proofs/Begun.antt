@@ -71,7 +71,7 @@ use Rattle.dn_volume.specs.Inodes.{AreHolders, as_use}
 use Rattle.dn_volume.specs.Space.{HasSpace, AreSlotsOf}
 use Rattle.dn_volume.specs.Balance.{raised, added, dropped, raised_by, times, raised_to_share, added_to_share, raised_to_die, AreCounted}
 use Rattle.dn_volume.specs.Flights.{IsFlight, IsFlightOf, as_turn}
-use Rattle.dn_volume.specs.PlannedNames.{PlansNames}
+use Rattle.dn_volume.specs.PlannedNames.{PlansNames, name_put}
 use Rattle.dn_volume.specs.Reclaims.{one_if, dying_units}
 use Rattle.dn_volume.specs.Reserve.{HasRoom, owed_sum, owed_to, runs_by, units_to_share, changes_to_share}
 use Rattle.dn_volume.specs.Shares.{IsWaiting, in_queue, is_begun, IsQueued}
@@ -419,6 +419,7 @@ module _ (d : Disk) (b b' : Parts) (s t : State) (who : ℕ) (f : Flight) (name 
     holds_node = subst (λ (xs : List ℕ). Contains xs c.node) (sym planned.held_is) (1, omega arith, refl);
     slots = planned.slots_are;
     no_rows = planned.no_rows;
+    put_is = planned.put_is ∙ sym (ap name_put planned.op_is);
     ready = λ set. let unset = planned.unprepared in absurd (clash c.prepared unset set);
     tail = λ set. let unset = planned.unprepared in absurd (clash c.prepared unset set);
   })

@@ -75,7 +75,7 @@ use Rattle.dn_volume.specs.Rely.{IsWordOf, of_inode, of_log, of_page, LeavesRest
 use Rattle.dn_volume.specs.Events.{IsBetween}
 use Rattle.dn_volume.specs.Steps.{StepsOn}
 use Rattle.law_write.proofs.Counting.{total-change}
-use Rattle.dn_volume.proofs.Kept.{quiet_accounts}
+use Rattle.dn_volume.proofs.Kept.{quiet_accounts, quiet_alone}
 use Rattle.dn_volume.proofs.OthersStay.{others_stay}
 use Rattle.dn_volume.proofs.Stills.{still_flushes}
 use Rattle.dn_volume.proofs.Stepped.{others_same, ops_kept, same_holders, same_space, same_counts, same_queue}
@@ -190,6 +190,7 @@ module _ (d : Disk) (b b' : Parts) (s u t : State) (who : ℕ) (f : Flight) (nam
     holds_node = fl.holds_node;
     slots = fl.slots;
     no_rows = fl.no_rows;
+    put_is = fl.put_is;
     ready = λ set. subst (λ (x : DiskChange). IsReady who (FreshNames d x) t) (sym change_same) ready;
     tail = λ set. subst (λ (x : DiskChange). tail ≡ tail_at (root_after d x).pages (count (root_after d x))) (sym change_same) tail_is;
   }
@@ -377,6 +378,7 @@ creations_prepare state print v v' u d who f name c tail volume agree_u agree_t 
         print).1;
     own = λ own. own;
     accounts = λ own. quiet_accounts print d;
+    alone = λ is. quiet_alone d;
     traces = record { more = []; trace = ap (λ xs. xs.items) prepares.trace ∙ sym (append-nil v.parts.trace.items); words = λ slot. refl };
     others = others d v.parts v'.parts (state v.device) u (state v'.device) who f name c tail volume agree_u agree_t to stores tail_is prepares;
     counts = counts;

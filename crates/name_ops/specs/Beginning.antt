@@ -56,6 +56,7 @@ pub record IsPlanned (d : Disk) (f : Flight) (name : List ℕ) (c : NameChange) 
   pub change_is : f.change ≡ Names c
   pub turn_is : c.turn ≡ turn.Comes
   pub unprepared : c.prepared ≡ false
+  pub put_is : c.put ≡ Some name
   pub ino_is : f.ino ≡ 0
   pub held_is : f.held.items ≡ 0 ∷ c.node ∷ []
   pub slots_are : spelled (Add c.node name ∷ []) ≡ f.slots.items

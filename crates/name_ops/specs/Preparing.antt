@@ -49,7 +49,13 @@ with_change f change = record {
 }
 
 abbrev pub prepared_change : NameChange → ℕ → NameChange
-prepared_change c tail = record { node = c.node; turn = c.turn; prepared = true; tail = tail }
+prepared_change c tail = record {
+  node = c.node;
+  turn = c.turn;
+  prepared = true;
+  tail = tail;
+  put = c.put;
+}
 
 -- The operation is prepared, and the room for that is owed no more.
 pub record Prepares (who : ℕ) (f : Flight) (c : NameChange) (tail : ℕ) (b b' : Parts) : Type 0 where

@@ -1,15 +1,3 @@
-pub mod CountDisk
-pub mod Event
-pub mod Front
-pub mod Settled
-pub mod RowHere
-pub mod Ends
-pub mod Flown
-pub mod RowsHere
-pub mod RaiseParts
-pub mod RaiseEnds
-pub mod ShareParts
-pub mod ShareEnds
 pub mod Roomy
 pub mod RoomThen
 pub mod WorkEvent

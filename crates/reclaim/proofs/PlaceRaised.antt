@@ -17,7 +17,7 @@ use Rattle.law_table_on_disk.proofs.Frame.{maps_same}
 use Rattle.fact_counts.specs.Standing.{HasRowWith}
 use Rattle.fact_counts.specs.Counted.{raised as raised_counts, MayRaise, LeavesTables, SettlesTable, count_changed}
 use Rattle.dn_volume.specs.declared.units.TheConstants.{FALL_UNITS}
-use Rattle.reclaim.specs.declared.release.TheConstants.{RELEASE_UNITS}
+use Rattle.count_events.specs.declared.release.TheConstants.{RELEASE_UNITS}
 use Rattle.dn_volume.specs.declared.flight.Flight.{Flight}
 use Rattle.dn_volume.specs.declared.background.Sharing.{Sharing}
 use Rattle.dn_volume.specs.declared.background.DyingPlace.{DyingPlace}
@@ -40,12 +40,12 @@ use Rattle.dn_volume.proofs.Kept.{ops_same}
 use Rattle.dn_volume.proofs.RowSlots.{balance_at}
 use Rattle.dn_volume.proofs.Tables.{is_table, running_disk}
 use Rattle.dn_volume.proofs.Times.{times_first, times_other}
-use Rattle.reclaim.specs.Released.{Stops, IsWordAfter}
+use Rattle.count_events.specs.Released.{Stops, IsWordAfter}
 use Rattle.reclaim.specs.RoomMade.{HasRoomFor}
 use Rattle.reclaim.specs.Worked.{RaisesPlace}
-use Rattle.reclaim.proofs.Event.{CountsOne, CountEvent, event_moves, event_breaks}
-use Rattle.reclaim.proofs.RowsHere.{may_raise}
-use Rattle.reclaim.proofs.Settled.{no_client}
+use Rattle.count_events.proofs.Event.{CountsOne, CountEvent, event_moves, event_breaks}
+use Rattle.count_events.proofs.RowsHere.{may_raise}
+use Rattle.count_events.proofs.Settled.{no_client}
 use Rattle.reclaim.proofs.UnitsLost.{units_dying, units_some}
 
 same_place : (p q : DyingPlace) (r : Option DyingPlace) → r ≡ Some p → r ≡ Some q → p ≡ q

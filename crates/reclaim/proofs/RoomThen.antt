@@ -88,6 +88,7 @@ module _ {D F : Type 0} (state : D → State) (w w1 : Volume D F) (made : MakesR
       images = leaves_since (state w.device) (state w1.device) made.same (state w2.device) _ is.images;
       own = is.own;
       accounts = is.accounts;
+      alone = is.alone;
       traces = record {
         more = is.traces.more;
         trace = is.traces.trace ∙ ap (λ (xs : List CountChange). xs ++ is.traces.more) made.trace;

@@ -23,7 +23,7 @@ use Rattle.dn_volume.specs.Rely.{LeavesRest, IsFor, IsWordOf}
 use Rattle.dn_volume.proofs.Stills.{still_same}
 use Rattle.dn_volume.proofs.OthersStay.{others_stay}
 use Rattle.dn_volume.proofs.MappingsMoved.{mappings_counted}
-use Rattle.reclaim.proofs.Settled.{no_client}
+use Rattle.count_events.proofs.Settled.{no_client}
 
 module _ (s t : State) (same : IsSame s t) where
   settled_same : (a : ℕ) → IsSettled s a → IsSettled t a

@@ -18,7 +18,7 @@ use Rattle.law_table_on_disk.proofs.OneWord.{one_word_stands, one_word_any_order
 use Rattle.law_dying.specs.Dying.{Step, stepped, KeepsLiving}
 use Rattle.law_dying.proofs.Stepped.{at_other, same_pointer, same_word}
 use Rattle.dn_volume.specs.Planned.{slot_of_row}
-use Rattle.dn_volume.specs.Accounts.{AccountsFor}
+use Rattle.dn_volume.specs.Accounts.{AccountsFor, KeepsAlone}
 use Rattle.dn_volume.specs.Agrees.{StandsFast, HasNoStale}
 use Rattle.dn_volume.specs.Events.{word_in}
 use Rattle.dn_volume.specs.Rely.{KeepsRest, IsWordOf, of_inode, LeavesRest}
@@ -68,15 +68,18 @@ module _ (d : Disk) (ino : ℕ) (step : Step) (field value : ℕ) (small : field
   step_pointers = none_stale_kept d e one.geometry (same_pointer d ino step)
       (λ row has. record { row = row; there = subst (λ (rs : List Row). Contains rs row) (sym living.rows_same) has; page_is = refl })
 
+  alone_then : KeepsAlone d e
+  alone_then i idx m place alone = record {
+    mapping = m;
+    place = living.live_only i idx m place;
+    alone = alone;
+    page_is = refl;
+    bytes_are = bytes_still d ino step m.block;
+  }
+
   accounts : (print : Print) → AccountsFor print d e
   accounts print = record {
-    alone = λ i idx m place alone. inl (record {
-      mapping = m;
-      place = living.live_only i idx m place;
-      alone = alone;
-      page_is = refl;
-      bytes_are = bytes_still d ino step m.block;
-    });
+    alone = λ i idx m place alone. inl (alone_then i idx m place alone);
     row_pages = λ row has. inl (record {
       was = row;
       there = subst (λ (rs : List Row). Contains rs row) living.rows_same has;
@@ -100,6 +103,7 @@ module _ (d : Disk) (ino : ℕ) (step : Step) (field value : ℕ) (small : field
       quiet = living.files_same;
       own = own;
       accounts = accounts print;
+      alone = alone_then;
       words = λ slot. ap (λ (rs : List Row). word_in rs slot) living.rows_same;
       faults = faults;
     }

@@ -25,7 +25,7 @@ use Rattle.dn_volume.specs.Agrees.{IsVolume, Agrees, agrees_with}
 use Rattle.dn_volume.specs.Events.{MovesOn, Breaks}
 use Rattle.dn_volume.specs.Works.{MayWork, ReclaimLowers, reclaim_stand}
 use Rattle.dn_volume.proofs.Tables.{is_table, running_disk}
-use Rattle.reclaim.specs.Released.{Stops}
+use Rattle.count_events.specs.Released.{Stops}
 use Rattle.reclaim.specs.Worked.{KeepsWork, Gives, DropsPlace, FreesPlace, EndsInode}
 use Rattle.reclaim.specs.Walked.{LeadsThrough}
 use Rattle.reclaim.specs.Dying.{IsAt, IsLastOf, IsUnmapped}

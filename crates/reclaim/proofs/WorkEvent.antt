@@ -25,7 +25,7 @@ use Rattle.dn_volume.specs.Flights.{IsFlight}
 use Rattle.dn_volume.specs.Shares.{IsWaiting, in_queue, is_begun}
 use Rattle.dn_volume.specs.Reclaims.{IsReclaiming}
 use Rattle.dn_volume.specs.Reserve.{HasRoom}
-use Rattle.dn_volume.specs.Accounts.{AccountsFor}
+use Rattle.dn_volume.specs.Accounts.{AccountsFor, KeepsAlone}
 use Rattle.dn_volume.specs.Agrees.{StandsFast, IsVolume, IsStopped, NamesSlots, HasHead, HasNoStale}
 use Rattle.dn_volume.specs.Events.{IsBetween, MovesOn, Breaks, word_at}
 use Rattle.dn_volume.specs.Rely.{IsFor, LeavesRest, StayInHand}
@@ -33,9 +33,9 @@ use Rattle.dn_volume.specs.Stills.{IsStillBut}
 use Rattle.dn_volume.proofs.Heads.{head_of, head_kept}
 use Rattle.dn_volume.proofs.Kept.{ops_same}
 use Rattle.dn_volume.proofs.OthersStay.{others_stay}
-use Rattle.reclaim.specs.Released.{Stops}
+use Rattle.count_events.specs.Released.{Stops}
 use Rattle.reclaim.specs.Worked.{KeepsWork}
-use Rattle.reclaim.proofs.Settled.{no_client}
+use Rattle.count_events.proofs.Settled.{no_client}
 
 -- who holds an inode, and how often its log was replaced, is what it was
 pub record KeepsNodes (old new : List InodeState) : Type 0 where
@@ -150,6 +150,7 @@ pub record WorkShown (print : Print) (d e : Disk) (s u : State) : Type 0 where
   pub quiet : IsSameFiles (files e) (files d)
   pub own : IsOwn print d → IsOwn print e
   pub accounts : AccountsFor print d e
+  pub alone : KeepsAlone d e
   pub words : (slot : ℕ) → word_at e slot ≡ word_at d slot
   pub faults : s.faults ≤ u.faults
 
@@ -163,6 +164,7 @@ module _ {D F : Type 0} (state : D → State) (print : Print) (w w' : Volume D F
       images = shown.images;
       own = shown.own;
       accounts = λ own. shown.accounts;
+      alone = λ is. shown.alone;
       traces = record { more = []; trace = ap (λ (t : _). t.items) is.kept.trace ∙ sym (append-nil w.parts.trace.items); words = shown.words };
       others = others_same w.parts w'.parts is.kept 16;
       counts = is.kept.made;

@@ -27,7 +27,7 @@ use Rattle.law_table_on_disk.proofs.Mappings.{row_page_free}
 use Rattle.law_table_on_disk.proofs.Removed.{takes, remove_own, may_take, remove_next}
 use Rattle.law_table_on_disk.proofs.Repointed.{repoint_own, may_repoint, repoint_one_word}
 use Rattle.fact_rows.specs.Gone.{cleared}
-use Rattle.dn_volume.specs.Accounts.{AccountsFor}
+use Rattle.dn_volume.specs.Accounts.{AccountsFor, KeepsAlone}
 use Rattle.dn_volume.specs.Events.{word_in, word_at}
 use Rattle.dn_volume.specs.Planned.{slot_of_row}
 use Rattle.dn_volume.specs.Rely.{KeepsRest}
@@ -128,20 +128,22 @@ unfolding page_bytes
 bytes_still d row page = refl
 
 module _ (d : Disk) (row : Row) (valid : IsValid d) (has : Contains (rows d) row) (no_reference : row.rfc ≡ 0) (no_update : row.uc ≡ 0) where
+  pub gone_alone : KeepsAlone d (cleared d row)
+  gone_alone ino idx m place alone = record {
+    mapping = m;
+    place = record {
+      in_table = place.in_table;
+      live = place.live;
+      maps = sym (maps_same d (cleared d row).chain (cleared d row).pointer ino idx) ∙ place.maps;
+    };
+    alone = alone;
+    page_is = refl;
+    bytes_are = bytes_still d row m.block;
+  }
+
   pub gone_accounts : (print : Print) → AccountsFor print d (cleared d row)
   gone_accounts print = record {
-    alone = λ ino idx m place alone. inl (record {
-      mapping = m;
-      place = record {
-        in_table = place.in_table;
-        live = place.live;
-        maps = sym (maps_same d (cleared d row).chain (cleared d row).pointer ino idx) ∙
-            place.maps;
-      };
-      alone = alone;
-      page_is = refl;
-      bytes_are = bytes_still d row m.block;
-    });
+    alone = λ ino idx m place alone. inl (gone_alone ino idx m place alone);
     row_pages = λ r listed. inl (record {
       was = r;
       there = ((gone d row valid has no_reference no_update).only r listed).0;

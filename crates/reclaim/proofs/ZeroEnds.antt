@@ -21,7 +21,7 @@ use Rattle.dn_volume.specs.Reclaims.{one_if, dying_units, IsRaised}
 use Rattle.dn_volume.specs.Agrees.{IsVolume, Agrees}
 use Rattle.dn_volume.specs.Events.{MovesOn, Breaks}
 use Rattle.dn_volume.proofs.Tables.{is_table, running_disk}
-use Rattle.reclaim.specs.Released.{Stops}
+use Rattle.count_events.specs.Released.{Stops}
 use Rattle.reclaim.specs.Worked.{Gives, Checks}
 use Rattle.reclaim.specs.Zero.{IsZero, IsZeroRow, IsCountedRow}
 use Rattle.reclaim.proofs.WorkEvent.{WorkEvent, WorkShown, work_moves, work_breaks}

@@ -32,7 +32,7 @@ use Rattle.dn_volume.specs.Rely.{IsWordOf, of_table, LeavesRest}
 use Rattle.dn_volume.proofs.Stills.{still_same, still_settles}
 use Rattle.dn_volume.proofs.Hands.{inodes_stay, dying_same, table_stays}
 use Rattle.dn_volume.proofs.InHand.{raised_stays}
-use Rattle.dn_volume.proofs.Kept.{quiet_accounts}
+use Rattle.dn_volume.proofs.Kept.{quiet_accounts, quiet_alone}
 use Rattle.dn_volume.proofs.MappingsMoved.{going_counted}
 use Rattle.dn_volume.proofs.Tables.{is_table}
 use Rattle.reclaim.specs.Worked.{Gives, Checks}
@@ -51,6 +51,7 @@ use Rattle.reclaim.proofs.ZeroDisk.{
   gone_used,
   gone_rest,
   gone_accounts,
+  gone_alone,
   gone_words,
 }
 use Rattle.reclaim.proofs.Zeroed.{
@@ -130,6 +131,7 @@ module _ (d : Disk) (b b' : Parts) (s : State) (v : IsVolume d b s) (slot : ℕ)
         quiet = λ name. refl;
         own = λ own. own;
         accounts = quiet_accounts print d;
+        alone = quiet_alone d;
         words = λ x. refl;
         faults = omega arith;
       }
@@ -225,6 +227,7 @@ module _ (d : Disk) (b : Parts) (s u : State) (v : IsVolume d b s) (slot : ℕ) 
       quiet = λ name. sym (files_same d e.chain e.pointer name);
       own = gone_own d row v.fast.valid at_slot.there no_reference no_update print;
       accounts = gone_accounts d row v.fast.valid at_slot.there no_reference no_update print;
+      alone = gone_alone d row v.fast.valid at_slot.there no_reference no_update;
       words = gone_words d row (λ r has same.
           let is : r ≡ row = distinct_same (λ (x : Row). x.slot) (rows d) v.fast.valid.rows_apart.slot r row has at_slot.there same in
           ap (λ (x : Row). count_word x.rfc x.uc) is ∙ ap (λ (n : ℕ). count_word n row.uc) no_reference ∙ ap (λ (n : ℕ). count_word 0 n) no_update);

@@ -30,7 +30,7 @@ use Rattle.dn_volume.specs.Agrees.{StandsFast, IsVolume}
 use Rattle.dn_volume.specs.Events.{IsBetween}
 use Rattle.dn_volume.proofs.CountsMoved.{SameUnderWay}
 use Rattle.dn_volume.proofs.HandsKept.{owed_same, raised_same}
-use Rattle.reclaim.specs.Released.{Stops}
+use Rattle.count_events.specs.Released.{Stops}
 use Rattle.reclaim.specs.Worked.{Checks}
 use Rattle.reclaim.proofs.RoomWorked.{MovesRoom}
 

@@ -1,6 +1,3 @@
-pub mod Released
-pub mod Raised
-pub mod Shared
 pub mod RoomMade
 pub mod Worked
 pub mod Walked

@@ -3,7 +3,7 @@ use Rattle.std.specs.Prelude.{◌≡◌, ◌⊎◌, ◌+◌, ◌^◌, ◌<◌, �
 use Rattle.std.specs.VecDeque.{deque_len, deque_capacity}
 use Rattle.pm_device.specs.State.{State, IsSame}
 use Rattle.dn_volume.specs.declared.volume.Volume.{Volume}
-use Rattle.reclaim.specs.declared.release.TheConstants.{RELEASE_UNITS}
+use Rattle.count_events.specs.declared.release.TheConstants.{RELEASE_UNITS}
 
 -- nothing else differs
 pub record MakesRoom {D F : Type 0} (state : D → State) (w w' : Volume D F) : Type 0 where

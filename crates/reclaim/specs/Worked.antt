@@ -28,7 +28,7 @@ use Rattle.dn_volume.specs.declared.volume.InodeState.{InodeState}
 use Rattle.dn_volume.specs.declared.volume.InodeUse.TheVariants as used
 use Rattle.dn_volume.specs.declared.volume.Parts.{Parts}
 use Rattle.dn_volume.specs.Events.{Counts}
-use Rattle.reclaim.specs.Released.{KeepsParts}
+use Rattle.count_events.specs.Released.{KeepsParts}
 
 -- what belongs to operations and the daemon stays
 pub record KeepsWork (b b' : Parts) : Type 0 where

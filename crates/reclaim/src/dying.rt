@@ -11,8 +11,8 @@ ghost use Rattle.reclaim.specs.Dying.{IsDyingState, IsDying, IsLeastDying, IsLas
 
 use crate::end::end_inode;
 use crate::fall::free_place;
-use crate::raise::raise_at;
-use crate::release::stop;
+use count_events::raise::raise_at;
+use count_events::release::stop;
 use dn_volume::units::FALL_UNITS;
 use dn_volume::{CountChange, DyingPlace, InodeState, InodeUse, Outcome, Parts, RECLAIM, Volume};
 use fingerprint::Fingerprint;

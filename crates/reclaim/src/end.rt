@@ -8,7 +8,7 @@ ghost use Rattle.reclaim.specs.Worked.{Gives, ChangesOne, EndsState, EndsInode};
 ghost use Rattle.reclaim.specs.Walked.{LeadsThrough, CanGiveLog};
 ghost use Rattle.reclaim.specs.Dying.{IsAt, IsUnmapped};
 
-use crate::release::stop;
+use count_events::release::stop;
 use dn_volume::{InodeState, InodeUse, Outcome, Parts, RECLAIM, Volume};
 use fingerprint::Fingerprint;
 use inode_table::{HEAD, STATE, TAIL, read_field};

@@ -8,7 +8,7 @@ ghost use Rattle.dn_volume.specs.Works.{ReclaimWorks};
 ghost use Rattle.reclaim.specs.Worked.{ChangesOne, FallsTo, DropsPlace, FreesPlace};
 ghost use Rattle.reclaim.specs.Dying.{IsAt, IsLastOf};
 
-use crate::release::stop;
+use count_events::release::stop;
 use dn_volume::units::FALL_UNITS;
 use dn_volume::{DyingPlace, InodeState, InodeUse, Outcome, Parts, RECLAIM, Volume};
 use fingerprint::Fingerprint;

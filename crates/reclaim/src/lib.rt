@@ -8,10 +8,6 @@ pub mod dying;
 pub mod end;
 pub mod fall;
 pub mod order;
-pub mod raise;
-pub mod release;
-pub mod share;
 pub mod zero;
 
 pub use order::reclaim;
-pub use release::settle_release;

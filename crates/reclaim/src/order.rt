@@ -9,8 +9,8 @@ ghost use Rattle.reclaim.specs.RoomMade.{MakesRoom, HasRoomFor};
 
 use crate::dying::next_dying;
 use crate::fall::drop_place;
-use crate::release::{RELEASE_UNITS, settle_release};
 use crate::zero::check_zero;
+use count_events::release::{RELEASE_UNITS, settle_release};
 use dn_volume::{Outcome, Volume};
 use fingerprint::Fingerprint;
 use pm_device::Pm;

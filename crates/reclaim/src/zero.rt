@@ -8,7 +8,7 @@ ghost use Rattle.dn_volume.specs.Works.{ReclaimWorks};
 ghost use Rattle.reclaim.specs.Worked.{Checks};
 ghost use Rattle.reclaim.specs.Zero.{IsZeroRow, IsCountedRow};
 
-use crate::release::stop;
+use count_events::release::stop;
 use dn_volume::units::ZERO_CHECK_UNITS;
 use dn_volume::{Outcome, Parts, RECLAIM, Volume};
 use fact_changes::remove_zero;

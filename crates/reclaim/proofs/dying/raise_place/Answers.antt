@@ -1,6 +1,6 @@
 use Rattle.dn_volume.specs.Agrees.{is_stopped}
 use Rattle.dn_volume.proofs.Tables.{running_disk}
-use Rattle.reclaim.proofs.Ends.{err_is}
+use Rattle.count_events.proofs.Ends.{err_is}
 use Rattle.reclaim.proofs.WorkEnds.{moved_agrees, some_work}
 use Rattle.reclaim.proofs.PlaceRaised.{place_row, place_waits, place_fails, place_moves, place_lowers}
 use Rattle.reclaim.proofs.dying.raise_place.Goals as goal

@@ -2,7 +2,7 @@ use Rattle.std.proofs.Common.{ℕ, ◌/◌, ◌*◌, ◌+◌, ◌≤◌, length,
 use Rattle.pm_layout.specs.Geometry.{IsAccepted}
 use Rattle.dn_volume.specs.Agrees.{is_stopped}
 use Rattle.dn_volume.proofs.Tables.{running_disk}
-use Rattle.reclaim.proofs.Ends.{err_is}
+use Rattle.count_events.proofs.Ends.{err_is}
 use Rattle.reclaim.proofs.NextPlace.{may_end}
 use Rattle.reclaim.proofs.EndedInode.{ends_since}
 use Rattle.reclaim.proofs.Zeroed.{stops_freed}

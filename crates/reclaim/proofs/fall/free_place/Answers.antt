@@ -1,7 +1,7 @@
 use Rattle.std.proofs.Common.{ℕ, ◌/◌, ◌*◌, ◌+◌, ◌≤◌, length, sym, subst, arith}
 use Rattle.dn_volume.specs.Agrees.{is_stopped}
 use Rattle.dn_volume.proofs.Tables.{running_disk}
-use Rattle.reclaim.proofs.Ends.{err_is}
+use Rattle.count_events.proofs.Ends.{err_is}
 use Rattle.reclaim.proofs.WorkEnds.{
   sets_at,
   done_at,

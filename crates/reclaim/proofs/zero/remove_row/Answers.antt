@@ -3,7 +3,7 @@ use Rattle.fact_changes.specs.Removal.{MakesRemoved}
 use Rattle.dn_volume.specs.Agrees.{is_stopped}
 use Rattle.dn_volume.proofs.Tables.{running_disk}
 use Rattle.reclaim.specs.Worked.{Gives}
-use Rattle.reclaim.proofs.Ends.{err_is}
+use Rattle.count_events.proofs.Ends.{err_is}
 use Rattle.reclaim.proofs.SpaceGained.{gives_one}
 use Rattle.reclaim.proofs.Zeroed.{checks_since, stops_since}
 use Rattle.reclaim.proofs.WorkEnds.{moved_agrees, some_work, less_work}

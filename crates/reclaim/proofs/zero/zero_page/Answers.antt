@@ -3,7 +3,7 @@ use Rattle.std.specs.Prelude.{IfNone}
 use Rattle.dn_model.specs.Table.{Row}
 use Rattle.fact_table.specs.Seen.{as_row}
 use Rattle.reclaim.specs.Zero.{IsCountedRow}
-use Rattle.reclaim.proofs.RowHere.{same_row}
+use Rattle.count_events.proofs.RowHere.{same_row}
 use Rattle.reclaim.proofs.zero.zero_page.Goals.{else-row-eq0-via-then-row-eq0+else-row-eq0-2, else-row-eq0-via-else-row-eq0}
 use Rattle.reclaim.proofs.zero.zero_page.Goals as goal
 
