@@ -1,0 +1,6 @@
+pub mod Steps
+pub mod Run
+pub mod Images
+pub mod Rest
+pub mod Working
+pub mod Headline
