@@ -18,3 +18,4 @@ pub mod Accounted
 pub mod Committed
 pub mod Known
 pub mod CutAfter
+pub mod Replied

@@ -4,5 +4,7 @@
 pub mod commit;
 pub mod ending;
 pub mod giving;
+pub mod reading;
 
 pub use commit::commit_write;
+pub use reading::read;
