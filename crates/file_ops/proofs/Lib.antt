@@ -19,3 +19,6 @@ pub mod Committed
 pub mod Known
 pub mod CutAfter
 pub mod Replied
+pub mod WriteAsks
+pub mod WritePlanned
+pub mod WriteOpened

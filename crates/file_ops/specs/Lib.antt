@@ -1,3 +1,4 @@
 pub mod Ends
 pub mod Giving
 pub mod Ending
+pub mod Asking

@@ -1,10 +1,12 @@
 //! Changes of a file's data: writes and cuts, each a row of events of which the last makes it part of the image.
 #![tactic(auto)]
 
+pub mod begin;
 pub mod commit;
 pub mod ending;
 pub mod giving;
 pub mod reading;
 
+pub use begin::begin_write;
 pub use commit::commit_write;
 pub use reading::read;
