@@ -2,3 +2,4 @@ pub mod Cutting
 pub mod Anew
 pub mod Known
 pub mod LastCut
+pub mod Sized

@@ -4,6 +4,8 @@
 pub mod advance;
 pub mod commit;
 pub mod ending;
+pub mod sizes;
 
 pub use advance::advance_cut;
 pub use commit::commit_cut;
+pub use sizes::size;
