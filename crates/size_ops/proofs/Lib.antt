@@ -3,3 +3,4 @@ pub mod Anew
 pub mod Known
 pub mod LastCut
 pub mod Sized
+pub mod Planned

@@ -26,7 +26,7 @@ module _ (d : Disk) (b : Parts) (s : State) (v : IsVolume d b s) (name : List �
   pub in_nodes : (ino : ℕ) → get b.names.map name ≡ Some ino → ino < length b.inodes.items
   in_nodes ino is = let file = named-in_table d v.fast.valid name ino (leads ino is) in omega (arith, file.1, v.inodes.all)
 
-  no_file : get b.names.map name ≡ None → IsSome (files d name) → ⊥
+  pub no_file : get b.names.map name ≡ None → IsSome (files d name) → ⊥
   no_file is some = gone (option_map (bytes d) (named d name)) (ap (option_map (bytes d)) (sym (v.names.leads name) ∙ is)) some
     where
       gone : (o : Option (List ℕ)) → o ≡ None → IsSome o → ⊥
@@ -35,7 +35,7 @@ module _ (d : Disk) (b : Parts) (s : State) (v : IsVolume d b s) (name : List �
   pub finds_file : (ino : ℕ) → get b.names.map name ≡ Some ino → IsSome (files d name)
   finds_file ino is = subst (λ (o : Option ℕ). IsSome (option_map (bytes d) o)) (sym (leads ino is)) refl
 
-  legal_one : IsLegal name → All IsLegal (name ∷ [])
+  pub legal_one : IsLegal name → All IsLegal (name ∷ [])
   legal_one legal = All-cons IsLegal name [] legal (All-nil IsLegal)
 
   -- the name is no legal one

@@ -4,6 +4,7 @@
 pub mod advance;
 pub mod commit;
 pub mod ending;
+pub mod plan;
 pub mod sizes;
 
 pub use advance::advance_cut;
