@@ -1,0 +1,3 @@
+mod RowLists
+pub mod LiveFiles
+mod InTheWay
