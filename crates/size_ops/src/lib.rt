@@ -6,6 +6,7 @@ pub mod commit;
 pub mod ending;
 pub mod plan;
 pub mod sizes;
+pub mod taking;
 
 pub use advance::advance_cut;
 pub use commit::commit_cut;
