@@ -4,8 +4,12 @@
 
 pub mod asks;
 pub mod hindrance;
+pub mod lookup;
 pub mod places;
+pub mod ready;
 
 pub use asks::{DataAsk, in_the_way};
 pub use hindrance::{Hindrance, find_hindrance};
+pub use lookup::find_file;
 pub use places::{count_rows, rows_of};
+pub use ready::{Ready, make_ready, start_data};
