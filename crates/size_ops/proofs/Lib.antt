@@ -4,3 +4,5 @@ pub mod Known
 pub mod LastCut
 pub mod Sized
 pub mod Planned
+pub mod Flown
+pub mod Readied

@@ -1,10 +1,10 @@
 -- Why a cut is refused by the files, and what it takes where it is granted.
-use Rattle.std.proofs.Common.{◌≡◌, ℕ, ◌+◌, ◌%◌, ◌/◌, ◌<◌, ◌≤◌, Bool, true, false, List, [], ◌∷◌, length, refl, sym, ◌∙◌, ap, subst, arith}
-use Rattle.std.specs.Prelude.{slice_get, slice_index, if◌then◌else◌, ◌==◌, ◌&&◌, not, nat_lt, is_some, Option, Some, None, IsSome, All}
+use Rattle.std.proofs.Common.{◌≡◌, ℕ, ◌+◌, ◌%◌, ◌/◌, ◌<◌, ◌≤◌, Bool, true, false, List, [], length, refl, sym, ◌∙◌, ap, subst, arith}
+use Rattle.std.specs.Prelude.{slice_get, slice_index, if◌then◌else◌, ◌==◌, ◌&&◌, not, nat_lt, is_some, Option, Some, None}
 use Rattle.std.specs.Option.{option_map}
 use Rattle.std.specs.FinMap.{get}
 use Rattle.std.proofs.lemmas.Bool.Decides.{nat_tests}
-use Rattle.std.proofs.lemmas.List.Elements.{All-nil, All-cons, All-head}
+use Rattle.std.proofs.lemmas.List.Elements.{All-head}
 use Rattle.pm_device.specs.State.{State}
 use Rattle.log_entry.specs.Name.{IsLegal}
 use Rattle.file_content.specs.Content.{kept}
@@ -12,8 +12,8 @@ use Rattle.file_index.specs.declared.page_map.Mapping.{Mapping}
 use Rattle.dn_model.specs.Maps.{Mapping as DiskMapping, size_of}
 use Rattle.dn_model.specs.Log.{Log, IsPaged, count, tail_at, at_tail}
 use Rattle.dn_model.specs.Disk.{Disk, IsUsed, Live, of_logs, maps}
-use Rattle.dn_model.specs.Files.{named, files}
-use Rattle.dn_model.specs.Apply.{IsGranted, bad_name, missed, too_big}
+use Rattle.dn_model.specs.Files.{named}
+use Rattle.dn_model.specs.Apply.{bad_name, missed, too_big}
 use Rattle.dn_model.specs.History.{refilled, inode_of, room, extra}
 use Rattle.dn_model.specs.declared.op.Op.{Op}
 use Rattle.dn_model.specs.declared.op.Op.TheVariants.{Cut}

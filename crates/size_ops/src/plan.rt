@@ -36,7 +36,7 @@ pub struct CutPlan {
 }
 
 // The inode of the file that is cut, or why none is.
-fn file_to_cut(parts: &Parts, op: &Op) -> Result<u64, Refusal>
+pub(crate) fn file_to_cut(parts: &Parts, op: &Op) -> Result<u64, Refusal>
     requires kind { IsCutOp op.now }
     ensures granted { IfOk result (IsCutNow parts.now op.now) }
     ensures refused { IfErr result (λ why. IsAnswerNow parts.now op.now (Refused why)) }
@@ -75,11 +75,7 @@ fn pages_for_slots(tail: u64, slots: u64) -> u64
     ensures pages { (g : Geometry) (log : Log) → IsPaged g log → tail ≡ tail_at log.pages (count log)
         → result ≡ extra slots log }
 {
-    if room_of(tail) < slots {
-        1
-    } else {
-        0
-    }
+    if room_of(tail) < slots { 1 } else { 0 }
 }
 
 // The first place that a cut to this size takes away, where so many pages are filled anew.
@@ -95,7 +91,7 @@ fn first_lost(size: u64, pages: u64) -> u64
 }
 
 // What a cut of the file of this inode takes.
-fn plan_cut<D: Pm, F: Fingerprint>(v: &Volume<D, F>, ino: u64, op: &Op) -> CutPlan
+pub(crate) fn plan_cut<D: Pm, F: Fingerprint>(v: &Volume<D, F>, ino: u64, op: &Op) -> CutPlan
     requires agrees { Agrees D.state v.now }
     requires running { v.now.parts.stopped ≡ false }
     requires cut { (d : Disk) → IsVolume d v.now.parts (D.state v.now.device) → IsCutOf d op.now ino }

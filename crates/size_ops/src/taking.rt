@@ -74,11 +74,7 @@ fn plan_pages(alloc: Global, pages: &[u64], cut: &CutPlan) -> Result<WritePlan, 
 ///
 /// # Errors
 /// `NoMemory` where memory is wanting. The free pages are as they were then.
-pub fn take_for_cut(
-    alloc: Global,
-    free: &mut FreeSet,
-    cut: &CutPlan,
-) -> Result<WritePlan, NoMemory>
+pub fn take_for_cut(alloc: Global, free: &mut FreeSet, cut: &CutPlan) -> Result<WritePlan, NoMemory>
     requires sound { IsSound cut.now }
     requires in_order { IsInOrder free.old }
     requires enough { cut.now.log_pages + cut.now.pages ≤ length free.old.free }
