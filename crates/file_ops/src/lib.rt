@@ -7,6 +7,6 @@ pub mod ending;
 pub mod fill;
 pub mod giving;
 
-pub use advance::{advance_write, next_step, DataStep};
+pub use advance::{DataStep, advance_write, next_step};
 pub use commit::commit_write;
 pub use fill::fill_page;
