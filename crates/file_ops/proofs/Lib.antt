@@ -24,3 +24,4 @@ pub mod Nexts
 pub mod Flying
 pub mod FillEnds
 pub mod NextStep
+pub mod Replied

@@ -6,7 +6,9 @@ pub mod commit;
 pub mod ending;
 pub mod fill;
 pub mod giving;
+pub mod reading;
 
 pub use advance::{DataStep, advance_write, next_step};
 pub use commit::commit_write;
 pub use fill::fill_page;
+pub use reading::read;
