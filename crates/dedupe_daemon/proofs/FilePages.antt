@@ -1,5 +1,5 @@
 -- A page of a live file is a page of the files.
-use Rattle.std.proofs.Common.{◌≡◌, inl, inr, ℕ, ◌+◌, ◌*◌, ◌/◌, ◌%◌, ◌<◌, ◌≤◌, List, length, refl, sym, ◌∙◌, ap, subst, arith, map}
+use Rattle.std.proofs.Common.{◌≡◌, inl, inr, ℕ, zero-add, ◌+◌, ◌*◌, ◌/◌, ◌%◌, ◌<◌, ◌≤◌, List, length, refl, sym, ◌∙◌, ap, subst, arith, map}
 use Rattle.std.specs.Prelude.{slice_index, Option, Some}
 use Rattle.std.specs.Option.{option_map}
 use Rattle.std.specs.List.{range_with_len}
@@ -49,8 +49,8 @@ module _ (d : Disk) (valid : IsValid d) (print : Print) (own : IsOwn print d) (i
       (length-map-range_with_len (λ k. slice_index (bytes d ino) (4096 * idx + k)) 0 4096 ∙ sym
       (length-map-range_with_len (byte_of d m.block) 0 4096))
       (λ k lt. let small : k < 4096 = omega (arith, lt, length-map-range_with_len (λ j. slice_index (bytes d ino) (4096 * idx + j)) 0 4096) in
-      get_or-map-range_with_len (λ j. slice_index (bytes d ino) (4096 * idx + j)) 0 4096 k k 0 small refl ∙ byte_same k small ∙ sym
-      (get_or-map-range_with_len (byte_of d m.block) 0 4096 k k 0 small refl))
+      get_or-map-range_with_len (λ j. slice_index (bytes d ino) (4096 * idx + j)) 0 4096 k k 0 small (zero-add k) ∙ byte_same k small ∙ sym
+      (get_or-map-range_with_len (byte_of d m.block) 0 4096 k k 0 small (zero-add k)))
 
   pub has_page : 1 ≤ ino → HasPage (files d) (page_bytes d m.block)
   has_page file =

@@ -66,7 +66,6 @@ pub record Looks (step : SharingStep) (slot word units : ℕ) (b b' : Parts) : T
   pub names : b'.names.map ≡ b.names.map
   pub names_room : b'.names.room ≡ b.names.room
   pub inodes : b'.inodes.items ≡ b.inodes.items
-  pub fact : b'.fact ≡ b.fact
   pub queue : b'.queue.items ≡ b.queue.items
   pub queue_room : b'.queue.room ≡ b.queue.room
   pub history : b'.history.items ≡ b.history.items

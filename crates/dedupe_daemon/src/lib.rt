@@ -4,4 +4,6 @@
 //! `daemon` makes one event of that work at a call. The daemon is actor 15.
 #![tactic(auto)]
 
+pub mod insert;
 pub mod page;
+pub mod place;

@@ -1,0 +1,7 @@
+pub mod FilePages
+pub mod InsertDisk
+pub mod LookedParts
+pub mod InsertEvent
+pub mod ItemFew
+pub mod Broken
+pub mod InsertEnds
