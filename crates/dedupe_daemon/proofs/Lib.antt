@@ -5,3 +5,4 @@ pub mod InsertEvent
 pub mod ItemFew
 pub mod Broken
 pub mod InsertEnds
+pub mod ShareRaised

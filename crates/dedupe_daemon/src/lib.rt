@@ -7,3 +7,4 @@
 pub mod insert;
 pub mod page;
 pub mod place;
+pub mod raise;
