@@ -44,7 +44,8 @@ use Rattle.dn_volume.specs.Works.{DaemonLowers, sharing_events}
 use Rattle.dn_volume.proofs.Tables.{is_table, running_disk}
 use Rattle.dn_volume.proofs.Kept.{ops_same}
 use Rattle.count_events.specs.Released.{Stops}
-use Rattle.dedupe_daemon.specs.Looked.{IsAtLook, IsAtPlace, IsToInsert, Looks}
+use Rattle.dedupe_daemon.proofs.AtPlace.{IsAtLook, IsAtPlace, IsToInsert}
+use Rattle.dedupe_daemon.specs.Stepped.{Looks}
 use Rattle.dedupe_daemon.proofs.FilePages.{has_page}
 use Rattle.dedupe_daemon.proofs.InsertDisk.{HasPut, may_insert, has_put, put_words}
 use Rattle.dedupe_daemon.proofs.InsertEvent.{item_begun, place_mapped, insert_volume, insert_others}

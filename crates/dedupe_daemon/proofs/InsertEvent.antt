@@ -53,7 +53,8 @@ use Rattle.dn_volume.proofs.MappingsMoved.{coming_counted}
 use Rattle.dn_volume.proofs.HandsKept.{flies_before}
 use Rattle.dn_volume.proofs.Hands.{names_stay, inodes_stay, holders_stay, space_stays, queue_stays, dying_same, table_stays}
 use Rattle.count_events.proofs.Settled.{no_client}
-use Rattle.dedupe_daemon.specs.Looked.{IsAtLook, IsAtPlace, Looks}
+use Rattle.dedupe_daemon.proofs.AtPlace.{IsAtLook, IsAtPlace}
+use Rattle.dedupe_daemon.specs.Stepped.{Looks}
 use Rattle.dedupe_daemon.proofs.InsertDisk.{HasPut}
 use Rattle.dedupe_daemon.proofs.LookedParts.{
   look_hands,

@@ -1,3 +1,4 @@
+pub mod AtPlace
 pub mod FilePages
 pub mod InsertDisk
 pub mod LookedParts

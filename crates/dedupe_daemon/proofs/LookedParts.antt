@@ -25,7 +25,8 @@ use Rattle.dn_volume.specs.Works.{MayWork, DaemonLowers, daemon_stand, sharing_e
 use Rattle.dn_volume.proofs.Hands.{SameHands}
 use Rattle.dn_volume.proofs.HandsKept.{flies_still, flies_before, owed_same}
 use Rattle.count_events.proofs.ShareParts.{same_sharing}
-use Rattle.dedupe_daemon.specs.Looked.{IsAtLook, Looks}
+use Rattle.dedupe_daemon.proofs.AtPlace.{IsAtLook}
+use Rattle.dedupe_daemon.specs.Stepped.{Looks}
 
 -- so it is where only the table came in between
 pub looks_since : (next : SharingStep) (slot word units : ℕ) (b : Parts) (t : Table) (b' : Parts)

@@ -41,7 +41,8 @@ use Rattle.count_events.specs.Released.{KeepsParts, Stops, IsWordAfter}
 use Rattle.count_events.proofs.Event.{CountsOne, CountEvent, event_moves, event_stopped, event_breaks}
 use Rattle.count_events.proofs.RowsHere.{may_raise}
 use Rattle.count_events.proofs.Settled.{no_client}
-use Rattle.dedupe_daemon.specs.Looked.{IsAtLook, IsAtPlace, IsToShare, Looks}
+use Rattle.dedupe_daemon.proofs.AtPlace.{IsAtLook, IsAtPlace, IsToShare}
+use Rattle.dedupe_daemon.specs.Stepped.{Looks}
 use Rattle.dedupe_daemon.proofs.InsertEvent.{item_begun}
 use Rattle.dedupe_daemon.proofs.ItemFew.{item_few}
 use Rattle.dedupe_daemon.proofs.LookedParts.{

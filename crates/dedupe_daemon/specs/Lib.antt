@@ -1,2 +1,3 @@
-pub mod Pages
 pub mod Looked
+pub mod Pages
+pub mod Stepped

@@ -1,14 +1,14 @@
 // A page that no row has gets one.
-ghost use Rattle.std.specs.Prelude.{◌≡◌, false};
+ghost use Rattle.std.specs.Prelude.{◌≡◌, ℕ, false};
 ghost use Rattle.dn_model.specs.Disk.{Disk};
 ghost use Rattle.dn_volume.specs.Agrees.{Agrees, IsVolume};
 ghost use Rattle.dn_volume.specs.Works.{DaemonWorks};
-ghost use Rattle.dedupe_daemon.specs.Looked.{IsToInsert};
+ghost use Rattle.dedupe_daemon.specs.Looked.{IsLooking, IsToInsert};
 
-use crate::place::{events_left, note_looked};
+use crate::step::{events_left, note_looked};
 use count_events::release::stop;
 use dn_volume::units::{LOOK_UNITS, REMAP_UNITS};
-use dn_volume::{DAEMON, Outcome, SharingStep, Volume};
+use dn_volume::{DAEMON, Outcome, Sharing, SharingStep, Volume};
 use fact_changes::insert;
 use fingerprint::{CountWord, Fingerprint};
 use pm_device::Pm;
@@ -17,13 +17,15 @@ use pm_device::Pm;
 /// update that brings the first is to be settled next. It takes no memory. `Stopped` where a fence of the device failed.
 pub fn insert_row<D: Pm, F: Fingerprint>(
     v: &mut Volume<D, F>,
+    sharing: Sharing,
     print: &[u8; 20],
     page: u64,
 ) -> Outcome
     requires agrees { Agrees D.state v.old }
     requires running { v.old.parts.stopped ≡ false }
+    requires looking { IsLooking v.old.parts sharing }
     requires place { (d : Disk) → IsVolume d v.old.parts (D.state v.old.device)
-        → IsToInsert F.print d v.old.parts print.now page }
+        → IsToInsert F.print d sharing page print.now }
     ensures agrees { Agrees D.state v.new }
     ensures event { (d : Disk) → IsVolume d v.old.parts (D.state v.old.device)
         → DaemonWorks D.state F.print v.old v.new d result }

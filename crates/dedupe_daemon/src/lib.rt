@@ -6,5 +6,5 @@
 
 pub mod insert;
 pub mod page;
-pub mod place;
+pub mod step;
 pub mod raise;

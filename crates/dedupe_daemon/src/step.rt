@@ -2,7 +2,8 @@
 ghost use Rattle.std.specs.Prelude.{◌≡◌, ◌^◌, ◌<◌, ◌≤◌, ℕ, Some, vec_len, vec_capacity};
 ghost use Rattle.dn_volume.specs.declared.background.Sharing.{Sharing as KeptSharing};
 ghost use Rattle.dn_volume.specs.Works.{sharing_events, step_events};
-ghost use Rattle.dedupe_daemon.specs.Looked.{IsAtLook, Looks};
+ghost use Rattle.dedupe_daemon.specs.Looked.{IsLooking};
+ghost use Rattle.dedupe_daemon.specs.Stepped.{Looks};
 
 use dn_volume::{CountChange, Parts, Sharing, SharingStep};
 
@@ -28,7 +29,7 @@ pub(crate) fn note_looked(
     word: u64,
     units: u64,
 )
-    requires look { IsAtLook parts.old }
+    requires look { (sharing : KeptSharing) × IsLooking parts.old sharing }
     requires trace { vec_len parts.old.trace < vec_capacity parts.old.trace }
     requires units { units ≤ parts.old.owed.units }
     requires changes { 1 ≤ parts.old.owed.trace }
