@@ -1,3 +1,5 @@
-pub mod Looked
 pub mod Pages
+pub mod Daemon
+pub mod Fronts
+pub mod Looked
 pub mod Stepped

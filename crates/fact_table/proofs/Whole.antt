@@ -17,8 +17,8 @@ use Rattle.fact_scan.specs.declared.scan.ScanFault.{ScanFault}
 use Rattle.fact_scan.specs.declared.scan.ScanFault.TheVariants.{BadTable, NoMemory}
 use Rattle.fact_scan.specs.Scan.{HasRows, IsFaultOf as IsScanFaultOf}
 use Rattle.fact_scan.proofs.Listed.{place_of, listed, get_at, chain_of}
-use Rattle.fact_table.specs.Table.{HasTable}
-use Rattle.fact_table.specs.Loaded.{ReadsAs, IsBadPointer, PointerFault, ArePointers, IsWrong, AreUnused, told, IsFaultOf}
+use Rattle.fact_table.specs.Table.{HasTable, IsTable}
+use Rattle.fact_table.specs.Loaded.{ReadsAs, IsBadPointer, PointerFault, ArePointers, IsWrong, AreUnused, HasRowsOf, told, IsFaultOf}
 
 -- what such words stand for, as far as they are read
 abbrev pub disk_of : Geometry → List ℕ → (ℕ → List Row) → Disk
@@ -149,3 +149,23 @@ all_found found P holds k default lt =
 pub told_fault : (g : Geometry) (words : List ℕ) (fault : ScanFault) → IsScanFaultOf g words fault → IsFaultOf g words (told fault)
 told_fault g words (BadTable slot) is = is
 told_fault g words NoMemory is = tt
+
+-- rows that were read are the table's, and the set has the slots that none of them has
+pub table_of : (d : Disk) (g : Geometry) (words : List ℕ) (rs : List Row) (free : FreePages) → IsAccepted g → HasRowsOf d g words rs
+    → AreUnused g rs free → IsTable d words (record { geometry = g; free = free })
+table_of d g words rs free accepted has unused = record {
+  geometry = has.geometry;
+  accepted = accepted;
+  size = has.size;
+  says = has.says;
+  good = has.good;
+  set = unused.all;
+  free = λ k in_set row there is. unused.free k in_set row (subst (λ (xs : List Row). Contains xs row) has.rows_are there) is;
+  taken = λ k lt not_in. let row = unused.taken k lt not_in in record {
+    row = row.0;
+    is = record {
+      there = subst (λ (xs : List Row). Contains xs row.0) (sym has.rows_are) row.1;
+      slot_is = row.2;
+    };
+  };
+}

@@ -6,6 +6,7 @@ use Rattle.std.specs.Prelude.{
   ℕ,
   ◌+◌,
   ◌-◌,
+  ◌*◌,
   ◌<◌,
   ◌≤◌,
   Bool,
@@ -24,8 +25,8 @@ use Rattle.pm_layout.specs.declared.Geometry.{Geometry}
 use Rattle.pm_layout.specs.Geometry.{directs, slots, pointer_word}
 use Rattle.page_alloc.specs.Free.{FreePages}
 use Rattle.dn_model.specs.Table.{Row}
-use Rattle.dn_model.specs.Disk.{Disk, ChainsSay, PointersSay, rows}
-use Rattle.dn_model.specs.Valid.{IsRow, AreApart}
+use Rattle.dn_model.specs.Disk.{Disk, ChainsSay, PointersSay, TableSays, rows}
+use Rattle.dn_model.specs.Valid.{IsRow, AreApart, HasGoodRows}
 use Rattle.dn_model.specs.Faults.{IsLeast, TableFault}
 use Rattle.fact_scan.specs.declared.scan.ScanFault.{ScanFault}
 use Rattle.fact_scan.specs.declared.scan.ScanFault.TheVariants.{
@@ -93,3 +94,11 @@ pub record AreUnused (g : Geometry) (rs : List Row) (set : FreePages) : Type 0 w
       → row.slot ≢ directs g + k
   pub taken : (k : ℕ) → k < g.pages → ¬ Contains set.free k
       → (row : Row) × Contains rs row × (row.slot ≡ directs g + k)
+
+-- the words read as the table of d, whose rows are these
+pub record HasRowsOf (d : Disk) (g : Geometry) (words : List ℕ) (rs : List Row) : Type 0 where
+  pub geometry : d.geometry ≡ g
+  pub size : length words ≡ 512 * g.pages
+  pub says : Reads (TableSays d) words
+  pub good : HasGoodRows d
+  pub rows_are : rows d ≡ rs

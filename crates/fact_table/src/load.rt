@@ -1,10 +1,11 @@
 // A table is loaded from a device's words.
-ghost use Rattle.std.specs.Prelude.{◌≡◌, ◌+◌, ◌-◌, ◌*◌, ◌<◌, ◌≤◌, ◌↔◌, ℕ, map, length, slice_index_or, false, IfOk, IfErr, IfSome, IfNone, IsTrue, Contains, All};
+ghost use Rattle.std.specs.Prelude.{◌≡◌, ◌+◌, ◌-◌, ◌*◌, ◌<◌, ◌≤◌, ◌↔◌, ℕ, map, length, slice_index_or, false, IfOk, IfErr, List, IfSome, IfNone, IsTrue, Contains, All};
 ghost use Rattle.pm_layout.specs.Geometry.{IsAccepted, slots};
 ghost use Rattle.dn_model.specs.Faults.{IsLeast};
 ghost use Rattle.fact_table.specs.Seen.{as_row};
-ghost use Rattle.fact_table.specs.Table.{HasTable};
-ghost use Rattle.fact_table.specs.Loaded.{IsFaultOf, ArePointers, IsWrong, AreUsed, AreUnused};
+ghost use Rattle.dn_model.specs.Disk.{Disk};
+ghost use Rattle.fact_table.specs.Table.{HasTable, IsTable};
+ghost use Rattle.fact_table.specs.Loaded.{IsFaultOf, ArePointers, IsWrong, AreUsed, AreUnused, HasRowsOf};
 
 use crate::fact::Fact;
 use fact_scan::{Row, ScanFault, scan_rows};
@@ -168,6 +169,19 @@ impl Fact {
             return Err(FactFault::BadPointer { page });
         }
         let free = unused_slots(alloc, g, &rows)?;
+        Ok(Fact::of_parts(*g, free))
+    }
+
+    /// The table whose rows were read already: all that have a fingerprint in the device's words. It looks at no word,
+    /// so that a mount reads each chain once. `AllocError` where there is no memory for the unused slots.
+    pub fn of_rows(alloc: Global, g: &Geometry, rows: &[Row]) -> Result<Fact, AllocError>
+        requires accepted { IsAccepted g.now }
+        requires slots { All (λ row. row.slot < slots g.now) rows.now }
+        ensures geometry { IfOk result (λ fact. fact.geometry ≡ g.now) }
+        ensures table { IfOk result (λ fact. (d : Disk) (words : List ℕ) → HasRowsOf d g.now words (map as_row rows.now)
+            → IsTable d words fact) }
+    {
+        let free = unused_slots(alloc, g, rows)?;
         Ok(Fact::of_parts(*g, free))
     }
 }
