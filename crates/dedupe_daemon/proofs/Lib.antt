@@ -7,3 +7,9 @@ pub mod ItemFew
 pub mod Broken
 pub mod InsertEnds
 pub mod ShareRaised
+pub mod ShareAppended
+pub mod ShareTaken
+pub mod PlaceFound
+pub mod ShareDisk
+pub mod ShareEvent
+pub mod ShareEnds

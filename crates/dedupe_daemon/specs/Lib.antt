@@ -3,3 +3,4 @@ pub mod Daemon
 pub mod Fronts
 pub mod Looked
 pub mod Stepped
+pub mod Remapped

@@ -8,3 +8,4 @@ pub mod insert;
 pub mod page;
 pub mod step;
 pub mod raise;
+pub mod remap;

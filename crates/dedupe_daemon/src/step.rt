@@ -8,7 +8,7 @@ ghost use Rattle.dedupe_daemon.specs.Stepped.{Looks};
 use dn_volume::{CountChange, Parts, Sharing, SharingStep};
 
 // The item, with this to come next at its place.
-fn at_step(sharing: Sharing, step: SharingStep) -> Sharing
+pub(crate) fn at_step(sharing: Sharing, step: SharingStep) -> Sharing
     ensures { result ≡ record sharing { step = step } }
 {
     Sharing {
