@@ -1,0 +1,17 @@
+pub mod Items
+pub mod ItemAt
+pub mod DaemonEvent
+pub mod DaemonRoom
+pub mod QuietEvent
+pub mod RelogDisk
+pub mod FlagDisk
+pub mod Passed
+pub mod Holding
+pub mod PassEnds
+pub mod Ended
+pub mod EndEnds
+pub mod Fronts
+pub mod Begun
+pub mod BeginEnds
+pub mod RoomSince
+pub mod Stale
