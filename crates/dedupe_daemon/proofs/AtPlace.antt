@@ -43,7 +43,6 @@ pub record IsToShare (d : Disk) (b : Parts) (slot : ℕ) : Type 0 where
   pub at_slot : IsAtSlot d slot row
   pub equal : page_bytes d row.page ≡ page_bytes d page
 
-
 module _ (b : Parts) (sharing : Sharing) (looking : looked.IsLooking b sharing) where
   abbrev pub at_look : IsAtLook b
   at_look = record { sharing = sharing; begun = looking.begun; step = looking.step; some = looking.some }
@@ -58,7 +57,8 @@ module _ (b : Parts) (sharing : Sharing) (looking : looked.IsLooking b sharing) 
     no_row = is.no_row;
   }
 
-  pub to_insert : (make : Print) (d : Disk) (page : ℕ) (print : List ℕ) → looked.IsToInsert make d sharing page print → IsToInsert make d b print page
+  pub to_insert : (make : Print) (d : Disk) (page : ℕ) (print : List ℕ) → looked.IsToInsert make d sharing page print → IsToInsert make d b print
+      page
   to_insert make d page print is = record { place = at_place d page is.place; new_print = is.new_print; print_is = is.print_is }
 
   pub to_share : (d : Disk) (page slot : ℕ) → looked.IsToShare d sharing page slot → IsToShare d b slot

@@ -1,6 +1,6 @@
 -- A fence failed in an event that changes no file.
-use Rattle.std.proofs.Common.{◌≡◌, ℕ, ◌-◌, ◌*◌, ◌<◌, ◌≤◌, List, [], length, sym, ◌∙◌, ap, subst}
-use Rattle.std.specs.Prelude.{Option, Some, None, All}
+use Rattle.std.proofs.Common.{ℕ, ◌-◌, ◌*◌, ◌<◌, ◌≤◌, List, [], sym, ◌∙◌, ap, subst}
+use Rattle.std.specs.Prelude.{Option, None, All}
 use Rattle.std.proofs.lemmas.List.{append-nil}
 use Rattle.pm_device.specs.State.{State, Rose}
 use Rattle.pm_device.specs.Settled.{LeavesOnly, StoresOnly}
@@ -19,7 +19,8 @@ use Rattle.dn_volume.proofs.Heads.{head_of, head_kept}
 use Rattle.dn_volume.proofs.Kept.{ops_same}
 use Rattle.count_events.specs.Released.{Stops}
 
-module _ {D F : Type 0} (state : D → State) (w w' : Volume D F) (d : Disk) (v : IsVolume d w.parts (state w.device)) (stops : Stops w.parts w'.parts)
+module _ {D F : Type 0} (state : D → State) (w w' : Volume D F) (d : Disk) (v : IsVolume d w.parts (state w.device)) (stops : Stops w.parts
+    w'.parts)
     (W : ℕ → Type 0) (only : StoresOnly W (state w.device) (state w'.device)) (high : (a : ℕ) → a < 4 → W a → ⊥) where
   pub stopped_after : IsStopped w'.parts (state w'.device)
   stopped_after = record {

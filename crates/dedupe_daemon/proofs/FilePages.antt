@@ -1,6 +1,6 @@
 -- A page of a live file is a page of the files.
-use Rattle.std.proofs.Common.{◌≡◌, inl, inr, ℕ, zero-add, ◌+◌, ◌*◌, ◌/◌, ◌%◌, ◌<◌, ◌≤◌, List, length, refl, sym, ◌∙◌, ap, subst, arith, map}
-use Rattle.std.specs.Prelude.{slice_index, Option, Some}
+use Rattle.std.proofs.Common.{◌≡◌, inl, inr, ℕ, zero-add, ◌+◌, ◌*◌, ◌/◌, ◌<◌, ◌≤◌, sym, ◌∙◌, ap, subst, arith, map}
+use Rattle.std.specs.Prelude.{slice_index, Some}
 use Rattle.std.specs.Option.{option_map}
 use Rattle.std.specs.List.{range_with_len}
 use Rattle.std.proofs.lemmas.Bool.{cases_lt}
@@ -8,9 +8,8 @@ use Rattle.std.proofs.lemmas.Grind.{same_number_lists}
 use Rattle.std.proofs.lemmas.List.{get_or_past}
 use Rattle.std.proofs.lemmas.List.FromFn.{get_or-map-range_with_len, length-map-range_with_len}
 use Rattle.log_entry.specs.Spelling.{pages_of}
-use Rattle.dn_model.specs.Log.{Log}
 use Rattle.dn_model.specs.Maps.{Mapping, mapping, size_of}
-use Rattle.dn_model.specs.Disk.{Disk, Use, Live, maps, maps_by_use}
+use Rattle.dn_model.specs.Disk.{Disk, Use, maps, maps_by_use}
 use Rattle.dn_model.specs.Files.{files, bytes, byte_of, mapped_byte}
 use Rattle.dn_model.specs.Own.{Print, page_bytes, file_page, LivePlace, IsOwn}
 use Rattle.dn_model.specs.Valid.{IsValid, IsLinked, HasOneName}

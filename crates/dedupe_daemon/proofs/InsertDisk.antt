@@ -1,20 +1,19 @@
 -- A row comes in for a page that is mapped: the disk of after, and that of the pointer alone.
 use Rattle.std.proofs.Common.{◌≡◌, ◌≢◌, ◌⊎◌, inl, inr, ⊎_elim, ℕ, ◌+◌, ◌<◌, ◌≤◌, Bool, List, [], ◌∷◌, refl, sym, ◌∙◌, ap, subst, arith}
-use Rattle.std.specs.Prelude.{Some, None, IsSome, IsNone, Contains, if◌then◌else◌, ◌==◌}
+use Rattle.std.specs.Prelude.{Some, IsSome, IsNone, Contains, if◌then◌else◌, ◌==◌}
 use Rattle.std.proofs.lemmas.Bool.{cases_eq}
 use Rattle.pm_device.specs.State.{State}
 use Rattle.pm_layout.specs.declared.Geometry.{Geometry}
 use Rattle.pm_layout.specs.Geometry.{InData, directs, slots}
 use Rattle.fingerprint.specs.Count.{count_word}
 use Rattle.fingerprint.specs.Print.{IsPrint}
-use Rattle.dn_model.specs.Maps.{Mapping}
 use Rattle.dn_model.specs.Table.{Row, row_of, prefix_of}
-use Rattle.dn_model.specs.Disk.{Disk, IsMapped, maps, rows}
+use Rattle.dn_model.specs.Disk.{Disk, IsMapped, rows}
 use Rattle.dn_model.specs.Own.{Print, IsOwn, page_bytes}
 use Rattle.dn_model.specs.Valid.{IsValid}
 use Rattle.law_write.specs.Events.{IsReadPage}
 use Rattle.law_write.proofs.Unread.{read_in_data}
-use Rattle.law_table.specs.Changes.{with_table, repointed, opened, linked}
+use Rattle.law_table.specs.Changes.{with_table, opened, linked}
 use Rattle.law_table.specs.Rows.{PutsRow}
 use Rattle.law_table.proofs.Rows.{same_test, other_test, none_listed, listed_here, listed_later, listed_cases, distinct_same}
 use Rattle.law_table.proofs.Pointed.{rows_repointed}
@@ -24,8 +23,8 @@ use Rattle.law_table_on_disk.proofs.Repointed.{repoint_own, repoint_one_word}
 use Rattle.law_table_on_disk.proofs.PutPointers.{may_point, pointed_puts}
 use Rattle.law_table_on_disk.proofs.PutRows.{open_one_word, open_own, link_one_word, link_own}
 use Rattle.fact_table.specs.Chained.{HasNoRow}
-use Rattle.fact_table.specs.Table.{Table, IsTable, HasNoneAt, HasNoneOf, TakesSlot}
-use Rattle.fact_rows.specs.Put.{new_row, pointed, opened_with, linked_with}
+use Rattle.fact_table.specs.Table.{Table, IsTable, HasNoneAt, HasNoneOf}
+use Rattle.fact_rows.specs.Put.{new_row, pointed}
 use Rattle.fact_changes.specs.Insertion.{MayInsert, Inserts, opens, links}
 use Rattle.fact_changes.proofs.Slotted.{prefix_lt, rows_direct, none_taken, slot_small, rows_chained}
 use Rattle.dn_volume.specs.Events.{word_in, word_at, word_after}

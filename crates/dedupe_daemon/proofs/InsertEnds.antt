@@ -1,28 +1,24 @@
 -- The event of a row that comes in, from what its calls give.
-use Rattle.std.proofs.Common.{◌≡◌, ◌⊎◌, inl, inr, ⊎_elim, ℕ, ◌+◌, ◌*◌, ◌-◌, ◌^◌, ◌<◌, ◌≤◌, false, List, [], ◌∷◌, length, refl, sym, ◌∙◌, ap, subst, arith}
-use Rattle.std.specs.Prelude.{Option, Some, None, All, Contains, slice_index, vec_len, vec_capacity}
-use Rattle.std.proofs.lemmas.List.{append-nil}
+use Rattle.std.proofs.Common.{◌≡◌, inl, inr, ⊎_elim, ℕ, ◌+◌, ◌*◌, ◌^◌, ◌<◌, ◌≤◌, false, List, [], ◌∷◌, length, refl, sym, ◌∙◌, ap, subst, arith}
+use Rattle.std.specs.Prelude.{Some, None, Contains, slice_index, vec_len, vec_capacity}
 use Rattle.std.proofs.lemmas.List.Elements.{All-from_get_or}
 use Rattle.pm_device.specs.Past.{Left, moment}
 use Rattle.pm_device.specs.State.{State, Agree, Rose}
 use Rattle.pm_device.specs.Settled.{LeavesOnly, StoresOnly, KeepsFlushed, Others, SettlesAll}
 use Rattle.pm_device.specs.Reading.{Stands}
 use Rattle.pm_layout.specs.declared.Geometry.{Geometry}
-use Rattle.fingerprint.specs.Count.{count_word}
 use Rattle.fingerprint.specs.Print.{IsPrint}
-use Rattle.dn_model.specs.Maps.{Mapping}
 use Rattle.dn_model.specs.Table.{Row, prefix_of}
-use Rattle.dn_model.specs.Disk.{Disk, TableSays, maps, rows}
+use Rattle.dn_model.specs.Disk.{Disk, TableSays, rows}
 use Rattle.dn_model.specs.Files.{files, IsSameFiles}
-use Rattle.dn_model.specs.Image.{StandsFor}
-use Rattle.dn_model.specs.Own.{Print, IsOwn, LivePlace, page_bytes}
+use Rattle.dn_model.specs.Own.{Print, IsOwn, page_bytes}
 use Rattle.law_table.specs.Changes.{with_table}
 use Rattle.law_table.specs.Words.{IsTableWord, HoldsTable}
 use Rattle.law_table_on_disk.specs.TableLaws.{IsNextDisk}
 use Rattle.law_table_on_disk.proofs.Frame.{maps_same, files_same}
 use Rattle.law_table_on_disk.proofs.NextDisk.{table_said, image_of_table}
 use Rattle.fact_table.specs.Table.{Table, IsTable}
-use Rattle.fact_rows.specs.Put.{new_row, pointed, HoldsOneOf}
+use Rattle.fact_rows.specs.Put.{new_row, pointed}
 use Rattle.fact_changes.specs.Insertion.{MayInsert, CanInsert, Inserts, IsInserting, HasInserted, IsInsertWord, LeavesInserted, MakesInserted}
 use Rattle.fact_changes.proofs.Slotted.{prefix_lt}
 use Rattle.law_write.proofs.Unread.{slot_word_low, pointer_word_low}
@@ -30,7 +26,7 @@ use Rattle.pm_device.specs.Words.{IsIn}
 use Rattle.pm_layout.specs.Geometry.{slot_word, pointer_word, slots}
 use Rattle.pm_device.proofs.Only.{stores_only-weaken}
 use Rattle.pm_device.proofs.Flushed.{keeps-weaken}
-use Rattle.dn_volume.specs.declared.units.TheConstants.{LOOK_UNITS, REMAP_UNITS, PLACE_UNITS}
+use Rattle.dn_volume.specs.declared.units.TheConstants.{LOOK_UNITS, REMAP_UNITS}
 use Rattle.dn_volume.specs.declared.background.Sharing.{Sharing}
 use Rattle.dn_volume.specs.declared.background.SharingStep.TheVariants.{Settle}
 use Rattle.dn_volume.specs.declared.volume.Parts.{Parts}
@@ -38,7 +34,7 @@ use Rattle.dn_volume.specs.declared.volume.Volume.{Volume}
 use Rattle.dn_volume.specs.Accounts.{HasPage, AccountsFor}
 use Rattle.dn_volume.specs.Shares.{IsBegun}
 use Rattle.dedupe_daemon.proofs.Broken.{stopped_after, breaks_at}
-use Rattle.dn_volume.specs.Agrees.{IsVolume, IsStopped, Agrees, agrees_with, is_stopped}
+use Rattle.dn_volume.specs.Agrees.{IsVolume, Agrees, agrees_with, is_stopped}
 use Rattle.dn_volume.specs.Events.{IsBetween, MovesOn, Breaks}
 use Rattle.dn_volume.specs.Works.{DaemonLowers, sharing_events}
 use Rattle.dn_volume.proofs.Tables.{is_table, running_disk}
@@ -181,7 +177,8 @@ module _ {D F : Type 0} (state : D → State) (print : Print) (w : Volume D F) (
       high a low within = omega (arith, low, within.0)
 
       pub insert_breaks : Rose (state w.device).faults (state w'.device).faults → Breaks state print 15 None w w' d
-      insert_breaks rose = breaks_at state w w' d v stops (IsTableWord d.geometry) stores high print 15 d (insert_images d) (λ name. refl) faults rose
+      insert_breaks rose = breaks_at state w w' d v stops (IsTableWord d.geometry) stores high print 15 d (insert_images d) (λ name. refl) faults
+          rose
 
       pub insert_stops : Agrees state w'
       insert_stops = is_stopped (stopped_after state w w' d v stops (IsTableWord d.geometry) stores high)
@@ -251,9 +248,9 @@ module _ {D F : Type 0} (state : D → State) (print : Print) (w : Volume D F) (
 
       volume : IsVolume e w'.parts (state w'.device)
       volume = insert_volume d w.parts (state w.device) v fp page (at d v) slot is.disk.chain is.disk.pointer put w'.parts (state w'.device) t'
-              change fact stores (keeps-weaken (Others 15) (Others 15) _ _ (state w.device) (state w'.device) (λ q other. other)
-              (insert_within d (state w.device).now w.parts.fact t' fp page (may d v)) others)
-              own settled table spare
+          change fact stores (keeps-weaken (Others 15) (Others 15) _ _ (state w.device) (state w'.device) (λ q other. other)
+          (insert_within d (state w.device).now w.parts.fact t' fp page (may d v)) others)
+          own settled table spare
 
       pub insert_moves : MovesOn state print 15 w w' d
       insert_moves = record {

@@ -1,6 +1,6 @@
 -- The event of a row that comes in: the volume of after.
-use Rattle.std.proofs.Common.{◌≡◌, ◌≢◌, ◌⊎◌, inl, inr, ⊎_elim, ℕ, ◌+◌, ◌-◌, ◌*◌, ◌<◌, ◌≤◌, Bool, List, [], ◌∷◌, ◌++◌, length, refl, sym, ◌∙◌, ap, subst, arith}
-use Rattle.std.specs.Prelude.{Option, Some, None, IsSome, IsNone, All, Contains, if◌then◌else◌, ◌==◌}
+use Rattle.std.proofs.Common.{◌≡◌, ◌≢◌, inl, inr, ⊎_elim, ℕ, ◌+◌, ◌-◌, ◌<◌, ◌≤◌, Bool, List, [], ◌∷◌, length, refl, sym, ◌∙◌, ap, subst, arith}
+use Rattle.std.specs.Prelude.{Option, Some, IsSome, All, Contains, if◌then◌else◌}
 use Rattle.std.specs.FinMap.{FinMap}
 use Rattle.std.specs.Ordering.{nat_cmp}
 use Rattle.std.specs.Cmp.Lexicographic.{slice_cmp}
@@ -20,10 +20,9 @@ use Rattle.dn_model.specs.Own.{IsAlone, HasRow as PageHasRow}
 use Rattle.dn_model.specs.declared.op.CountChange.{CountChange}
 use Rattle.law_write.specs.Events.{IsUnused}
 use Rattle.law_write.proofs.MappedPlaces.{maps-in_file}
-use Rattle.law_write.proofs.WriteValid.{mapped_counts}
 use Rattle.law_table.specs.Changes.{with_table}
 use Rattle.law_table.specs.Words.{IsTableWord}
-use Rattle.law_table.proofs.Rows.{same_test, other_test, listed_cases, none_found, none_listed, row_listed, row_found}
+use Rattle.law_table.proofs.Rows.{other_test, listed_cases, none_found, none_listed, row_listed, row_found}
 use Rattle.law_table_on_disk.proofs.Frame.{maps_same, mappings_same, named_same, free_kept, free_only}
 use Rattle.law_table_on_disk.proofs.Mappings.{mapped_once, one_place}
 use Rattle.law_table_on_disk.proofs.NextDisk.{standing_table}
@@ -33,17 +32,15 @@ use Rattle.dn_volume.specs.declared.units.TheConstants.{LOOK_UNITS, REMAP_UNITS}
 use Rattle.dn_volume.specs.declared.flight.Flight.{Flight}
 use Rattle.dn_volume.specs.declared.background.Sharing.{Sharing}
 use Rattle.dn_volume.specs.declared.background.SharingStep.TheVariants.{Settle}
-use Rattle.dn_volume.specs.declared.background.DyingPlace.{DyingPlace}
 use Rattle.dn_volume.specs.declared.volume.InodeState.{InodeState}
 use Rattle.dn_volume.specs.declared.volume.Parts.{Parts}
 use Rattle.dn_volume.specs.Parties.{Flies, by_daemon, SameOthers, flight_at}
 use Rattle.dn_volume.specs.Inodes.{AreNamesOf, AreInodesOf}
 use Rattle.dn_volume.specs.Space.{AreSlotsOf}
-use Rattle.dn_volume.specs.Balance.{times, added_at, raised, added, dropped, AreCounted}
+use Rattle.dn_volume.specs.Balance.{times, raised, added, dropped, AreCounted}
 use Rattle.dn_volume.specs.Planned.{slot_of_row}
 use Rattle.dn_volume.specs.Flights.{IsFlight, AreFlights}
 use Rattle.dn_volume.specs.Shares.{IsSharing, IsBegun, Shares}
-use Rattle.dn_volume.specs.Reclaims.{one_if, dying_units}
 use Rattle.dn_volume.specs.Agrees.{StandsFast, HasNoStale, NamesSlots, IsVolume}
 use Rattle.dn_volume.specs.Rely.{KeepsRest, LeavesRest, IsFor, StayInHand, of_table}
 use Rattle.dn_volume.proofs.OthersStay.{others_stay}
@@ -53,23 +50,11 @@ use Rattle.dn_volume.proofs.MappingsMoved.{coming_counted}
 use Rattle.dn_volume.proofs.HandsKept.{flies_before}
 use Rattle.dn_volume.proofs.Hands.{names_stay, inodes_stay, holders_stay, space_stays, queue_stays, dying_same, table_stays}
 use Rattle.count_events.proofs.Settled.{no_client}
-use Rattle.dedupe_daemon.proofs.AtPlace.{IsAtLook, IsAtPlace}
+use Rattle.dedupe_daemon.proofs.AtPlace.{IsAtPlace}
 use Rattle.dedupe_daemon.specs.Stepped.{Looks}
 use Rattle.dedupe_daemon.proofs.InsertDisk.{HasPut}
-use Rattle.dedupe_daemon.proofs.LookedParts.{
-  look_hands,
-  now_is,
-  same_now,
-  raised_more,
-  added_was,
-  added_now,
-  dropped_still,
-  one_raised,
-  one_zero,
-  long_still,
-  owed_still,
-  look_room,
-}
+use Rattle.dedupe_daemon.proofs.LookedParts.{look_hands, same_now, raised_more, added_was, added_now, dropped_still, one_raised, one_zero,
+    long_still, owed_still, look_room}
 
 -- the place that is looked up is mapped to its page, which nothing else is
 module _ (d : Disk) (b : Parts) (s : State) (v : IsVolume d b s) (page : ℕ) (at : IsAtPlace d b page) where

@@ -1,8 +1,7 @@
 -- The item that is begun has few places.
-use Rattle.std.proofs.Common.{◌≡◌, ⊎_elim, ℕ, ◌+◌, ◌^◌, ◌<◌, ◌≤◌, List, [], ◌∷◌, length, ap, subst, arith}
+use Rattle.std.proofs.Common.{◌≡◌, ⊎_elim, ℕ, ◌+◌, ◌^◌, ◌<◌, List, [], ◌∷◌, length, ap, subst, arith}
 use Rattle.std.specs.Prelude.{Contains}
 use Rattle.std.proofs.lemmas.List.Elements.{All-contains}
-use Rattle.pm_device.specs.State.{State}
 use Rattle.log_entry.specs.Spelling.{IsSpelled, spelling}
 use Rattle.log_entry.specs.declared.item.LogItem.{LogItem}
 use Rattle.log_entry.specs.declared.item.LogItem.TheVariants.{Write}
@@ -11,9 +10,7 @@ use Rattle.dn_model.specs.Log.{Log, Placed, placed, placed_from}
 use Rattle.dn_model.specs.Disk.{Disk, Use, Live, IsUsed}
 use Rattle.law_table.proofs.Rows.{listed_here, listed_later, listed_cases}
 use Rattle.dn_volume.specs.declared.background.Sharing.{Sharing}
-use Rattle.dn_volume.specs.declared.volume.Parts.{Parts}
 use Rattle.dn_volume.specs.Shares.{IsBegun}
-use Rattle.dn_volume.specs.Agrees.{IsVolume}
 use Rattle.dn_model.specs.Valid.{IsValid}
 
 placed_item : (pages : List ℕ) (k : ℕ) (items : List LogItem) (p : Placed) → Contains (placed_from pages k items) p → Contains items p.item
@@ -33,7 +30,8 @@ module _ (d : Disk) (valid : IsValid d) (item : Sharing) (begun : IsBegun d item
       sym' u is = cc
 
   pub item_spelled : IsSpelled (Write item.first item.count begun.block begun.size InProcess begun.mask)
-  item_spelled = All-contains IsSpelled (d.inode item.work.ino).log.items _ (valid.logs item.work.ino begun.in_table (live_used _ begun.live)).spelled
+  item_spelled = All-contains IsSpelled (d.inode item.work.ino).log.items _ (valid.logs item.work.ino begun.in_table (live_used _
+      begun.live)).spelled
       (log_item (d.inode item.work.ino).log _ begun.item)
 
   pub item_few : item.count < 2 ^ 32

@@ -1,5 +1,5 @@
 -- The place that is to be mapped to the page of the row that was raised for it.
-use Rattle.std.proofs.Common.{◌≡◌, ◌≢◌, ◌⊎◌, inl, inr, ⊎_elim, ℕ, ◌+◌, ◌-◌, ◌*◌, ◌^◌, ◌<◌, ◌≤◌, false, List, [], ◌∷◌, length, get_or, refl, sym, ◌∙◌, ap, subst, arith}
+use Rattle.std.proofs.Common.{◌≡◌, ◌≢◌, ℕ, ◌+◌, ◌-◌, ◌*◌, ◌<◌, ◌≤◌, List, [], ◌∷◌, length, refl, sym, ◌∙◌, ap, subst, arith}
 use Rattle.std.specs.Prelude.{Option, Some, None, IsNone, Contains, slice_get, slice_index}
 use Rattle.std.specs.Option.{option_map}
 use Rattle.std.specs.FinMap.{get}
@@ -10,17 +10,17 @@ use Rattle.file_index.specs.declared.page_map.Mapping.{Mapping as KeptMapping}
 use Rattle.file_content.specs.Content.{kept}
 use Rattle.page_alloc.specs.Free.{FreePages}
 use Rattle.dn_model.specs.Log.{count, tail_at, at_tail}
-use Rattle.dn_model.specs.Maps.{Mapping, size_of}
+use Rattle.dn_model.specs.Maps.{Mapping}
 use Rattle.dn_model.specs.Table.{Row, row_of}
-use Rattle.dn_model.specs.Disk.{Disk, MapsTo, IsMapped, Live, IsUsed, maps, rows, of_logs}
+use Rattle.dn_model.specs.Disk.{Disk, IsMapped, Live, IsUsed, maps, rows, of_logs}
 use Rattle.dn_model.specs.Counts.{mappings, IsFree}
 use Rattle.dn_model.specs.Own.{page_bytes}
 use Rattle.law_write.specs.Events.{IsUnused}
 use Rattle.law_write.proofs.MappedPlaces.{maps-in_file}
 use Rattle.law_write.proofs.WriteValid.{mapped_counts}
 use Rattle.law_table.proofs.Rows.{distinct_same, none_listed, listed_here}
-use Rattle.law_share.specs.Sharing.{MayShare, IsLeft, was_free, was_place}
-use Rattle.fact_table.specs.Table.{IsAtSlot, HasTable}
+use Rattle.law_share.specs.Sharing.{MayShare, was_free, was_place}
+use Rattle.fact_table.specs.Table.{IsAtSlot}
 use Rattle.fact_counts.proofs.Counting.{row_small}
 use Rattle.dn_volume.specs.declared.units.TheConstants.{END_UNITS, PLACE_UNITS, LOOK_UNITS, REMAP_UNITS}
 use Rattle.dn_volume.specs.declared.background.Sharing.{Sharing}
@@ -35,7 +35,7 @@ use Rattle.dn_volume.specs.Agrees.{IsVolume}
 use Rattle.dn_volume.proofs.RowSlots.{balance_at}
 use Rattle.dn_volume.proofs.Tables.{is_table}
 use Rattle.dn_volume.proofs.Times.{times_first}
-use Rattle.reclaim.proofs.NodesChanged.{there_at, same_some}
+use Rattle.reclaim.proofs.NodesChanged.{same_some}
 use Rattle.dedupe_daemon.specs.declared.remap.NewPlace.{NewPlace}
 use Rattle.dedupe_daemon.specs.Remapped.{IsNewPlace, taken_pages, TakesFor}
 use Rattle.dedupe_daemon.proofs.ShareTaken.{AreTaken, are_taken, has_room}
@@ -113,7 +113,8 @@ module _ (d : Disk) (b : Parts) (s : State) (v : IsVolume d b s) (sharing : Shar
 
   raised_one : 1 ≤ raised b slot
   raised_one =
-      let shared : times slot (raised_to_share b.sharing) ≡ times slot (slot ∷ []) = ap (λ (r : Option Sharing). times slot (raised_to_share r)) begun
+      let shared : times slot (raised_to_share b.sharing) ≡ times slot (slot ∷ []) = ap (λ (r : Option Sharing). times slot (raised_to_share r))
+          begun
       ∙ ap (λ (st : SharingStep). times slot (raised_at st)) step in
       omega (arith, shared, times_first slot [])
 
@@ -139,7 +140,8 @@ module _ (d : Disk) (b : Parts) (s : State) (v : IsVolume d b s) (sharing : Shar
     by_no_row = subst (λ (m : Mapping). IsNone (row_of (rows d) m.block)) (sym by_is) to_remap.no_row
 
     equal : page_bytes d is.row.page ≡ page_bytes d is.by.block
-    equal = ap (λ (r : Row). page_bytes d r.page) (one_row is.row is.at_slot) ∙ to_remap.equal ∙ ap (λ (m : Mapping). page_bytes d m.block) (sym by_is)
+    equal = ap (λ (r : Row). page_bytes d r.page) (one_row is.row is.at_slot) ∙ to_remap.equal ∙ ap (λ (m : Mapping). page_bytes d m.block) (sym
+        by_is)
 
     raised_there : mappings d is.row.page + 1 ≤ is.row.rfc + is.row.uc
     raised_there = let balance = balance_at d b s v slot is.row is.at_slot in omega (arith, balance.updates, balance.references, raised_one)
@@ -149,7 +151,8 @@ module _ (d : Disk) (b : Parts) (s : State) (v : IsVolume d b s) (sharing : Shar
     not_row p unused same = none_listed (rows d) p unused.no_row is.row is.at_slot.there (sym same)
 
     pub not_was : (p : ℕ) → IsFree d p → p ≢ is.by.block
-    not_was p free same = absurd (no_count (mappings d p) (subst (λ (q : ℕ). 1 ≤ mappings d q) (sym (same ∙ is.was)) (mapped_counts d n.was was_mapped))
+    not_was p free same = absurd (no_count (mappings d p) (subst (λ (q : ℕ). 1 ≤ mappings d q) (sym (same ∙ is.was)) (mapped_counts d n.was
+        was_mapped))
         free.unmapped)
       where
         no_count : (k : ℕ) → 1 ≤ k → k ≡ 0 → ⊥

@@ -1,9 +1,8 @@
 -- The item of a place that comes to share a page is prepared, and the tail moves.
-use Rattle.std.proofs.Common.{◌≡◌, ◌⊎◌, inl, inr, ⊎_elim, ℕ, ◌+◌, ◌*◌, ◌<◌, List, [], ◌∷◌, ◌++◌, length, refl, sym, ◌∙◌, ap, subst, arith}
-use Rattle.std.specs.Prelude.{Contains}
+use Rattle.std.proofs.Common.{◌≡◌, ◌⊎◌, inl, inr, ℕ, ◌*◌, ◌<◌, List, [], ◌∷◌, length, refl, sym, ◌∙◌, ap, subst}
 use Rattle.pm_device.specs.State.{State, Agree}
 use Rattle.pm_device.specs.Settled.{StoresOnly, LeavesOnly, IsSettled, KeepsFlushed, Anyone, Others}
-use Rattle.pm_device.specs.Reading.{Said, Stands, IsReady}
+use Rattle.pm_device.specs.Reading.{Said, Stands}
 use Rattle.pm_device.specs.Commit.{IsCommitted, IsDone}
 use Rattle.pm_device.proofs.OneWord.{stands-stores}
 use Rattle.pm_device.proofs.Only.{stores_only-then, stores_only-weaken}
@@ -11,9 +10,8 @@ use Rattle.pm_device.proofs.Layers.{leaves_only-then, leaves_only-stores}
 use Rattle.pm_device.proofs.Flushed.{keeps-then, keeps-weaken}
 use Rattle.pm_layout.specs.declared.Geometry.{Geometry}
 use Rattle.pm_layout.specs.Geometry.{inode_word}
-use Rattle.log_entry.specs.Spelling.{spelling, spelled}
+use Rattle.log_entry.specs.Spelling.{spelling}
 use Rattle.log_entry.specs.declared.item.Flag.TheVariants.{Complete}
-use Rattle.log_entry.specs.declared.item.LogItem.{LogItem}
 use Rattle.log_entry.specs.declared.item.LogItem.TheVariants.{Write}
 use Rattle.dn_model.specs.Log.{Log, IsPaged, count, tail_at, at_tail}
 use Rattle.dn_model.specs.Growth.{IsGrown, Prepared}
@@ -51,7 +49,8 @@ module _ (d : Disk) (ino idx : ℕ) (row : Row) (fresh : List ℕ) (may : MaySha
   pub share_paged : IsPaged d.geometry log
   share_paged =
       let is : IsLog new.geometry ino (new.inode ino).log = (shared_valid d ino idx row fresh may).logs ino
-      (subst (λ (g : Geometry). ino < g.inodes) (sym (same_geometry d ino log)) may.in_table) (subst IsUsed (sym (use_same d ino log ino)) share_used)
+      (subst (λ (g : Geometry). ino < g.inodes) (sym (same_geometry d ino log)) may.in_table) (subst IsUsed (sym (use_same d ino log ino))
+          share_used)
       in
       subst (λ (g : Geometry). IsPaged g log) (same_geometry d ino log) (subst (IsPaged new.geometry) (log_here d ino log) is.paged)
 

@@ -1,7 +1,7 @@
 -- The disk on which a place has come to share a page: what it leaves, and what leads there.
-use Rattle.std.proofs.Common.{◌≡◌, ◌≢◌, ◌⊎◌, inl, inr, ⊎_elim, ℕ, ◌+◌, ◌-◌, ◌*◌, ◌/◌, ◌%◌, ◌<◌, ◌≤◌, Bool, true, false, List, [], ◌∷◌, ◌++◌, length, refl, sym, ◌∙◌, ap, subst, arith, zero-add}
-use Rattle.std.specs.Prelude.{Option, Some, None, IsSome, IsNone, Contains, slice_index, if◌then◌else◌, ◌&&◌, nat_le, nat_lt, IsBitSet}
-use Rattle.std.specs.Option.{option_map}
+use Rattle.std.proofs.Common.{◌≡◌, ◌≢◌, ◌⊎◌, inl, inr, ⊎_elim, ℕ, ◌+◌, ◌-◌, ◌*◌, ◌/◌, ◌%◌, ◌<◌, ◌≤◌, Bool, true, List, [], ◌∷◌, length, refl, sym,
+    ◌∙◌, ap, subst, arith}
+use Rattle.std.specs.Prelude.{Option, Some, IsNone, Contains, slice_index, if◌then◌else◌, ◌&&◌, nat_le, nat_lt, IsBitSet}
 use Rattle.std.proofs.lemmas.Bool.{cases_eq}
 use Rattle.std.proofs.lemmas.Bool.Decides.{nat_tests}
 use Rattle.std.proofs.lemmas.List.Elements.{Contains-append_cases, Contains-append_left, Contains-get_or}
@@ -15,16 +15,14 @@ use Rattle.log_entry.specs.Spelling.{spelling, spelled, pages_of}
 use Rattle.log_entry.specs.declared.item.Flag.TheVariants.{Complete}
 use Rattle.log_entry.specs.declared.item.LogItem.{LogItem}
 use Rattle.log_entry.specs.declared.item.LogItem.TheVariants.{Write}
-use Rattle.file_index.specs.declared.page_map.Mapping.{Mapping as KeptMapping}
 use Rattle.file_content.specs.Content.{kept}
 use Rattle.dn_model.specs.Growth.{IsGrown, Prepared, new_head, new_footer, new_slot}
 use Rattle.dn_model.specs.Log.{Log, Placed, placed, placed_from, count, slot_name}
 use Rattle.dn_model.specs.Maps.{Mapping, mapping, cut_to, size_of}
 use Rattle.dn_model.specs.Table.{Row, row_of}
-use Rattle.dn_model.specs.Disk.{Disk, Inode, Use, Live, IsUsed, maps, rows}
+use Rattle.dn_model.specs.Disk.{Disk, Use, Live, maps, rows}
 use Rattle.dn_model.specs.Counts.{total, IsFree}
-use Rattle.dn_model.specs.Files.{named, files, IsSameFiles}
-use Rattle.dn_model.specs.Own.{Print, IsOwn, IsAlone, LivePlace, page_bytes}
+use Rattle.dn_model.specs.Own.{Print, IsAlone, LivePlace, page_bytes}
 use Rattle.dn_model.proofs.Append.{page-grown}
 use Rattle.law_write.specs.Events.{IsUnused}
 use Rattle.law_write.specs.WithLog.{with_log}
@@ -32,11 +30,10 @@ use Rattle.law_write.proofs.Counting.{total-same}
 use Rattle.law_write.proofs.Mapped.{placed_from-append, mapping-grown}
 use Rattle.log_entry.proofs.Spelled.{length-spelled-cons, spelling_some}
 use Rattle.law_write.proofs.MappedPlaces.{mapping-below, uncut}
-use Rattle.law_table.proofs.Rows.{listed_here, listed_cases, none_listed, row_found}
-use Rattle.law_log_swap.specs.Relogged.{relogged}
+use Rattle.law_table.proofs.Rows.{listed_here, none_listed}
 use Rattle.law_log_swap.proofs.Relogged.{log_here, at_other, use_same, same_geometry, same_word, same_rows, maps_others, maps_here, maps_before}
 use Rattle.law_share.specs.Sharing.{MayShare, SharesPlace, FreesPage, shared_log, shared_disk}
-use Rattle.law_share.proofs.Shared.{shares_place, keeps_files, own_kept, frees_page, names_same}
+use Rattle.law_share.proofs.Shared.{shares_place, frees_page, names_same}
 use Rattle.dn_volume.specs.Accounts.{AccountsFor}
 use Rattle.dn_volume.specs.Planned.{slot_of_row}
 use Rattle.dn_volume.specs.Reclaims.{units_by_use, mapped_places, dying_units}
@@ -57,7 +54,8 @@ placed_longer old new end k (x ∷ xs) same le =
     (λ i. record { slot = same k (omega arith) i * 64 + k % 63; item = x } ∷ placed_longer old new end (k + length (spelling x)) xs same
     (omega arith) i)
 
-some_size : (size idx : ℕ) (t : Bool) (x : Mapping) (m : Option Mapping) → t ≡ true → idx < pages_of size → cut_to size idx (if t then Some x else m) ≡ Some x
+some_size : (size idx : ℕ) (t : Bool) (x : Mapping) (m : Option Mapping) → t ≡ true → idx < pages_of size → cut_to size idx (if t then Some x else
+    m) ≡ Some x
 some_size size idx t x m is lt = ap (λ (b : Bool). cut_to size idx (if b then Some x else m)) is ∙ uncut size idx (Some x) lt
 
 inside : (i : ℕ) → (nat_le i i && nat_lt i (i + 1)) ≡ true
@@ -148,10 +146,13 @@ module _ (d : Disk) (ino idx : ℕ) (row : Row) (fresh : List ℕ) (may : MaySha
 
   pub unused_back : (p : ℕ) → IsUnused e p → (IsUnused d p × (Contains fresh p → ⊥)) ⊎ (p ≡ was)
   unused_back p unused = ⊎_elim
-      (λ (free : IsFree d p). inl (record {
-        free = free;
-        no_row = subst (λ (rs : List Row). IsNone (row_of rs p)) rows_still unused.no_row;
-      }, (λ taken. freed.fresh_taken p taken unused.free)))
+      (λ (free : IsFree d p). inl (
+        record {
+          free = free;
+          no_row = subst (λ (rs : List Row). IsNone (row_of rs p)) rows_still unused.no_row;
+        },
+        (λ taken. freed.fresh_taken p taken unused.free),
+      ))
       (λ (same : p ≡ was). inr same) (freed.only p unused.free)
 
   -- dying files have the places that they had
@@ -168,7 +169,8 @@ module _ (d : Disk) (ino idx : ℕ) (row : Row) (fresh : List ℕ) (may : MaySha
   ]
 
   pub units_still : total e.geometry.inodes (dying_units e) ≡ total d.geometry.inodes (dying_units d)
-  units_still = ap (λ (n : ℕ). total n (dying_units e)) (ap (λ (g : Geometry). g.inodes) geometry_still) ∙ total-same (dying_units d) (dying_units e)
+  units_still = ap (λ (n : ℕ). total n (dying_units e)) (ap (λ (g : Geometry). g.inodes) geometry_still) ∙ total-same (dying_units d) (dying_units
+      e)
       d.geometry.inodes (λ i lt. units_each i)
 
   -- what others have
@@ -197,7 +199,8 @@ module _ (d : Disk) (ino idx : ℕ) (row : Row) (fresh : List ℕ) (may : MaySha
 
   page_word : (page a : ℕ) → Contains log.pages page → IsInPage page a → IsWordOf (ino ∷ []) fresh d a
   page_word page a listed here = ⊎_elim
-      (λ (old : Contains (d.inode ino).log.pages page). of_log ino page (listed_here ino []) may.in_table (share_used d ino idx row fresh may) old here)
+      (λ (old : Contains (d.inode ino).log.pages page). of_log ino page (listed_here ino []) may.in_table (share_used d ino idx row fresh may) old
+          here)
       (λ (new : Contains fresh page). of_page page new here) (Contains-append_cases (d.inode ino).log.pages fresh page listed)
 
   head_word : (field a : ℕ) → field < 16 → a ≡ inode_word ino field → IsWordOf (ino ∷ []) fresh d a

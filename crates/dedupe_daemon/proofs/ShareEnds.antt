@@ -1,36 +1,27 @@
 -- The event of a place that comes to share a page, from what its calls give.
-use Rattle.std.proofs.Common.{◌≡◌, ◌≢◌, ◌⊎◌, inl, inr, ⊎_elim, ℕ, zero, suc, ◌+◌, ◌-◌, ◌*◌, ◌/◌, ◌%◌, ◌^◌, ◌<◌, ◌≤◌, Bool, true, false, List, [], ◌∷◌, ◌++◌, length, refl, sym, ◌∙◌, ap, subst, arith}
-use Rattle.std.specs.Prelude.{Option, Some, None, IfSome, IsSome, All, Contains, slice_get, slice_index, nat_lt, if◌then◌else◌}
+use Rattle.std.proofs.Common.{◌≡◌, inl, ℕ, zero, suc, ◌+◌, ◌-◌, ◌*◌, ◌/◌, ◌^◌, ◌<◌, ◌≤◌, Bool, true, false, List, [], ◌∷◌, length, refl, sym, ◌∙◌,
+    ap, subst, arith}
+use Rattle.std.specs.Prelude.{Option, Some, None, IfSome, IsSome, Contains, slice_get, slice_index, nat_lt, if◌then◌else◌}
 use Rattle.std.specs.FinMap.{get}
 use Rattle.std.proofs.lemmas.Bool.Decides.{nat_tests}
 use Rattle.std.proofs.lemmas.List.{append-nil}
-use Rattle.std.proofs.lemmas.List.Elements.{All-contains, Contains-get_or}
-use Rattle.pm_device.specs.State.{State, Agree, Rose}
+use Rattle.pm_device.specs.State.{State, Rose}
 use Rattle.pm_device.specs.Settled.{LeavesOnly, SettlesAll}
-use Rattle.pm_device.specs.Reading.{Stands}
-use Rattle.pm_device.specs.Words.{IsIn}
-use Rattle.pm_device.proofs.Only.{stores_only-weaken}
-use Rattle.pm_layout.specs.declared.Geometry.{Geometry}
 use Rattle.page_alloc.specs.Free.{FreePages}
 use Rattle.file_index.specs.declared.page_map.Mapping.{Mapping as KeptMapping}
-use Rattle.file_content.specs.Content.{kept}
-use Rattle.dedupe_queue.specs.declared.Work.{Work}
-use Rattle.dn_model.specs.Log.{Log, IsPaged, count, tail_at}
+use Rattle.dn_model.specs.Log.{IsPaged, count, tail_at}
 use Rattle.dn_model.specs.Table.{Row}
-use Rattle.dn_model.specs.Disk.{Disk, DiskSays, rows}
+use Rattle.dn_model.specs.Disk.{Disk}
 use Rattle.dn_model.specs.Files.{files, IsSameFiles}
-use Rattle.dn_model.specs.Image.{StandsFor}
 use Rattle.dn_model.specs.Own.{Print, IsOwn}
-use Rattle.law_write.specs.Events.{IsUnused}
 use Rattle.law_write.proofs.Unread.{read_in_data}
 use Rattle.law_share.specs.Sharing.{MayShare, shared_disk}
 use Rattle.law_share.proofs.Shared.{keeps_files, own_kept}
 use Rattle.dn_volume.specs.declared.units.TheConstants.{REMAP_UNITS}
 use Rattle.dn_volume.specs.declared.background.Sharing.{Sharing}
 use Rattle.dn_volume.specs.declared.background.SharingStep.{SharingStep}
-use Rattle.dn_volume.specs.declared.background.SharingStep.TheVariants.{Remap, Settle}
+use Rattle.dn_volume.specs.declared.background.SharingStep.TheVariants.{Remap}
 use Rattle.dn_volume.specs.declared.volume.InodeState.{InodeState}
-use Rattle.dn_volume.specs.declared.volume.Parts.{Parts}
 use Rattle.dn_volume.specs.declared.volume.Volume.{Volume}
 use Rattle.dn_volume.specs.Agrees.{IsVolume, Agrees, agrees_with, is_stopped}
 use Rattle.dn_volume.specs.Events.{IsBetween, MovesOn, Breaks, word_in}
@@ -60,23 +51,10 @@ use Rattle.dedupe_daemon.proofs.Broken.{stopped_after, breaks_at}
 use Rattle.dedupe_daemon.proofs.ItemFew.{item_few}
 use Rattle.dedupe_daemon.proofs.ShareTaken.{AreTaken}
 use Rattle.dedupe_daemon.proofs.ShareAppended.{share_used}
-use Rattle.dedupe_daemon.proofs.PlaceFound.{
-  to_remap,
-  remap_begun,
-  idx_small,
-  node_there,
-  ino_in,
-  kept_at,
-  remap_owes,
-  remap_spare,
-  was_mapped,
-  not_was,
-  taken,
-  fresh_unused,
-  may_share,
-}
+use Rattle.dedupe_daemon.proofs.PlaceFound.{to_remap, idx_small, node_there, ino_in, kept_at, remap_owes, remap_spare, was_mapped, not_was, taken,
+    fresh_unused, may_share}
 use Rattle.dedupe_daemon.proofs.ShareDisk as disk
-use Rattle.dedupe_daemon.proofs.ShareEvent.{remapped_now, flights_same, remap_others, remap_volume}
+use Rattle.dedupe_daemon.proofs.ShareEvent.{remap_others, remap_volume}
 
 -- no word of the event is the head's
 module _ (d : Disk) (ino idx : ℕ) (row : Row) (fresh : List ℕ) (may : MayShare d ino idx row fresh) where
@@ -210,10 +188,12 @@ module _ {D F : Type 0} (state : D → State) (w : Volume D F) (sharing : Sharin
 
     module _ (stops : Stops w.parts w'.parts) where
       pub remap_stops : Agrees state w'
-      remap_stops = is_stopped (stopped_after state w w' d v stops _ stores.only (share_high d n.ino n.idx (at d v).row (taken_pages fresh) (may d v)))
+      remap_stops = is_stopped (stopped_after state w w' d v stops _ stores.only (share_high d n.ino n.idx (at d v).row (taken_pages fresh) (may d
+          v)))
 
       pub remap_breaks : Rose (state w.device).faults (state w'.device).faults → Breaks state print 15 None w w' d
-      remap_breaks rose = breaks_at state w w' d v stops _ stores.only (share_high d n.ino n.idx (at d v).row (taken_pages fresh) (may d v)) print 15
+      remap_breaks rose = breaks_at state w w' d v stops _ stores.only (share_high d n.ino n.idx (at d v).row (taken_pages fresh) (may d v)) print
+          15
           e between quiet faults rose
 
     module _ (done : SharesNew w.parts.geometry n.ino n.idx n.size n.page (taken_pages fresh) (state w.device) (state w'.device))

@@ -1,6 +1,6 @@
 -- The event of a place that comes to share a page: the volume of after.
-use Rattle.std.proofs.Common.{◌≡◌, ◌≢◌, ◌⊎◌, inl, inr, ⊎_elim, ℕ, ◌+◌, ◌-◌, ◌*◌, ◌<◌, ◌≤◌, List, [], ◌∷◌, ◌++◌, length, refl, sym, ◌∙◌, ap, subst, arith}
-use Rattle.std.specs.Prelude.{Option, Some, None, IsSome, IsNone, All, Contains, slice_get, vec_len, vec_capacity}
+use Rattle.std.proofs.Common.{◌≡◌, ◌≢◌, inl, inr, ⊎_elim, ℕ, ◌+◌, ◌-◌, ◌*◌, ◌<◌, ◌≤◌, List, [], ◌∷◌, length, refl, sym, ◌∙◌, ap, subst, arith}
+use Rattle.std.specs.Prelude.{Option, Some, IsSome, All, Contains, slice_get, vec_len, vec_capacity}
 use Rattle.std.specs.VecDeque.{deque_len, deque_capacity}
 use Rattle.std.specs.Option.{option_map}
 use Rattle.std.specs.FinMap.{get}
@@ -11,17 +11,15 @@ use Rattle.pm_device.specs.Reading.{Stands}
 use Rattle.pm_layout.specs.declared.Geometry.{Geometry}
 use Rattle.pm_layout.specs.Geometry.{slots}
 use Rattle.page_alloc.specs.Free.{FreePages}
-use Rattle.log_entry.specs.declared.item.Flag.TheVariants.{Complete, InProcess}
+use Rattle.log_entry.specs.declared.item.Flag.TheVariants.{InProcess}
 use Rattle.log_entry.specs.declared.item.LogItem.TheVariants.{Write}
 use Rattle.file_index.specs.declared.page_map.Mapping.{Mapping as KeptMapping}
 use Rattle.file_content.specs.Content.{kept}
-use Rattle.dedupe_queue.specs.declared.Work.{Work}
-use Rattle.dn_model.specs.Log.{Log, Placed, placed}
+use Rattle.dn_model.specs.Log.{Placed, placed}
 use Rattle.dn_model.specs.Maps.{Mapping}
 use Rattle.dn_model.specs.Table.{Row, row_of}
-use Rattle.dn_model.specs.Disk.{Disk, DiskSays, Use, Live, IsUsed, maps, rows}
+use Rattle.dn_model.specs.Disk.{Disk, DiskSays, IsUsed, maps, rows}
 use Rattle.dn_model.specs.Counts.{total, mappings}
-use Rattle.dn_model.specs.Files.{named}
 use Rattle.dn_model.specs.Own.{IsAlone, LivePlace, HasRow as PageHasRow}
 use Rattle.dn_model.specs.declared.op.CountChange.{CountChange}
 use Rattle.law_write.specs.Events.{IsUnused}
@@ -29,7 +27,6 @@ use Rattle.law_table.proofs.Rows.{none_listed, distinct_same, listed_cases}
 use Rattle.law_log_swap.proofs.Relogged.{at_other, use_same, maps_others}
 use Rattle.law_share.specs.Sharing.{MayShare, shared_disk}
 use Rattle.law_share.proofs.Shared.{shared_valid, names_same}
-use Rattle.fact_table.specs.Table.{HasRow}
 use Rattle.dn_volume.specs.declared.units.TheConstants.{END_UNITS, PLACE_UNITS, LOOK_UNITS, REMAP_UNITS}
 use Rattle.dn_volume.specs.declared.flight.Flight.{Flight}
 use Rattle.dn_volume.specs.declared.flight.Change.TheVariants.{Data}
@@ -37,19 +34,18 @@ use Rattle.dn_volume.specs.declared.flight.DataChange.{DataChange}
 use Rattle.dn_volume.specs.declared.background.Sharing.{Sharing}
 use Rattle.dn_volume.specs.declared.background.SharingStep.{SharingStep}
 use Rattle.dn_volume.specs.declared.background.SharingStep.TheVariants.{Remap, Settle}
-use Rattle.dn_volume.specs.declared.background.DyingPlace.{DyingPlace}
 use Rattle.dn_volume.specs.declared.volume.InodeState.{InodeState}
 use Rattle.dn_volume.specs.declared.volume.Parts.{Parts}
 use Rattle.dn_volume.specs.declared.volume.Room.{Room}
 use Rattle.dn_volume.specs.Parties.{Flies, Holds, by_client, by_daemon, Takes, for_client, SameOthers, flight_at}
 use Rattle.dn_volume.specs.Inodes.{as_use, IsInodeOf, AreInodesOf, AreHolders}
 use Rattle.dn_volume.specs.Space.{HasSpace}
-use Rattle.dn_volume.specs.Balance.{times, raised_by, raised_at, added_at, raised_to_share, added_to_share, raised_to_die, raised, added, dropped, AreCounted}
+use Rattle.dn_volume.specs.Balance.{times, raised_by, raised_at, added_at, raised_to_share, added_to_share, raised_to_die, added, AreCounted}
 use Rattle.dn_volume.specs.Flights.{IsFlight, AreFlights}
 use Rattle.dn_volume.specs.Shares.{IsWaiting, in_queue, is_begun, IsQueued, IsSharing, IsBegun, Shares}
-use Rattle.dn_volume.specs.Reclaims.{one_if, dying_units, IsReclaiming}
+use Rattle.dn_volume.specs.Reclaims.{one_if, IsReclaiming}
 use Rattle.dn_volume.specs.Reserve.{owed_sum, units_to_share, changes_to_share, units_spent, changes_spent, Owes, HasRoom}
-use Rattle.dn_volume.specs.Agrees.{StandsFast, HasNoStale, NamesSlots, IsVolume}
+use Rattle.dn_volume.specs.Agrees.{StandsFast, NamesSlots, IsVolume}
 use Rattle.dn_volume.specs.Rely.{LeavesRest, IsFor, StayInHand}
 use Rattle.dn_volume.proofs.Heads.{none_stale_kept}
 use Rattle.dn_volume.proofs.OthersStay.{others_stay}
@@ -66,7 +62,7 @@ use Rattle.dedupe_daemon.specs.declared.remap.NewPlace.{NewPlace}
 use Rattle.dedupe_daemon.specs.Remapped.{IsNewPlace, taken_pages, TakesFor, IsItemSlot, SharesOnly, MapsPlace, RemapsPart}
 use Rattle.dedupe_daemon.proofs.ShareTaken.{AreTaken}
 use Rattle.dedupe_daemon.proofs.ShareAppended.{share_used}
-use Rattle.dedupe_daemon.proofs.PlaceFound.{to_remap, remap_begun, node_there, remap_owes, was_mapped, not_was, taken, fresh_unused, may_share, may_by}
+use Rattle.dedupe_daemon.proofs.PlaceFound.{to_remap, remap_begun, remap_owes, not_was, taken, may_share, may_by}
 use Rattle.dedupe_daemon.proofs.ShareDisk as disk
 
 module _ (d : Disk) (b : Parts) (s : State) (v : IsVolume d b s) (sharing : Sharing) (begun : b.sharing ≡ Some sharing) (slot : ℕ)
@@ -136,7 +132,8 @@ module _ (d : Disk) (b : Parts) (s : State) (v : IsVolume d b s) (sharing : Shar
       places = λ j. elim (cases_eq j n.idx) [
         | inl here ↦
             ap (get y.map.map) here ∙ maps_it.here ∙ ap Some (sym here_now)
-            ∙ ap (option_map kept) (sym (disk.maps_now d n.ino n.idx is.row pages may)) ∙ ap (λ (k : ℕ). option_map kept (maps e n.ino k)) (sym here)
+            ∙ ap (option_map kept) (sym (disk.maps_now d n.ino n.idx is.row pages may)) ∙ ap (λ (k : ℕ). option_map kept (maps e n.ino k)) (sym
+                here)
         | inr ne ↦
             maps_it.others j ne ∙ was.places j
             ∙ ap (option_map kept) (sym ((disk.place d n.ino n.idx is.row pages may).remaps.other_places j ne))
@@ -224,7 +221,8 @@ module _ (d : Disk) (b : Parts) (s : State) (v : IsVolume d b s) (sharing : Shar
 
     space_after : HasSpace e b'
     space_after = record {
-      pages = change.free.pages ∙ its.pages ∙ v.space.pages ∙ ap (λ (g : Geometry). g.pages) (sym (disk.geometry_still d n.ino n.idx is.row pages may));
+      pages = change.free.pages ∙ its.pages ∙ v.space.pages ∙ ap (λ (g : Geometry). g.pages) (sym (disk.geometry_still d n.ino n.idx is.row pages
+          may));
       in_order = change.in_order;
       taker = v.space.taker;
       free = λ p. (free_to p, free_from p);
@@ -316,7 +314,8 @@ module _ (d : Disk) (b : Parts) (s : State) (v : IsVolume d b s) (sharing : Shar
     item_now = record {
       begun = record {
         file = its_begun.file;
-        in_table = subst (λ (g : Geometry). sharing.work.ino < g.inodes) (sym (disk.geometry_still d n.ino n.idx is.row pages may)) its_begun.in_table;
+        in_table = subst (λ (g : Geometry). sharing.work.ino < g.inodes) (sym (disk.geometry_still d n.ino n.idx is.row pages may))
+            its_begun.in_table;
         live = use_same d n.ino (disk.log d n.ino n.idx is.row pages may) sharing.work.ino ∙ its_begun.live;
         block = its_begun.block;
         size = its_begun.size;
@@ -383,7 +382,8 @@ module _ (d : Disk) (b : Parts) (s : State) (v : IsVolume d b s) (sharing : Shar
       releases = omega (arith, v.room.owes.releases, owed_still (λ room. room.releases), one_raised, owed_releases);
     }
 
-    room_at : (f : Flight) (c : DataChange) (who : ℕ) (y : InodeState) → Flies b' who f → f.change ≡ Data c → slice_get b'.inodes.items f.ino ≡ Some y
+    room_at : (f : Flight) (c : DataChange) (who : ℕ) (y : InodeState) → Flies b' who f → f.change ≡ Data c → slice_get b'.inodes.items f.ino ≡ Some
+        y
         → length c.blocks.items ≤ y.map.room
     room_at f c who y flies kind at = elim (cases_eq f.ino n.ino) [
       | inl same ↦

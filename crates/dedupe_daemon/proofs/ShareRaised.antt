@@ -1,21 +1,18 @@
 -- The daemon has raised the row of a page that is to be shared.
-use Rattle.std.proofs.Common.{◌≡◌, ◌≢◌, inl, inr, ⊎_elim, ℕ, ◌+◌, ◌*◌, ◌-◌, ◌^◌, ◌<◌, ◌≤◌, false, List, [], ◌∷◌, length, refl, sym, ◌∙◌, ap, subst, arith}
-use Rattle.std.specs.Prelude.{Option, Some, None, Contains, IsSome, vec_len, vec_capacity}
+use Rattle.std.proofs.Common.{◌≡◌, inl, inr, ⊎_elim, ℕ, ◌+◌, ◌-◌, ◌^◌, ◌<◌, ◌≤◌, false, List, [], ◌∷◌, length, refl, sym, ◌∙◌, ap, subst, arith}
+use Rattle.std.specs.Prelude.{Option, Some, None, IsSome, vec_len, vec_capacity}
 use Rattle.pm_device.specs.State.{State, Agree, Rose}
 use Rattle.pm_device.specs.Settled.{StoresOnly, KeepsFlushed, Others, SettlesAll}
 use Rattle.pm_layout.specs.Geometry.{slot_word}
-use Rattle.dn_model.specs.Maps.{Mapping}
 use Rattle.dn_model.specs.Table.{Row, row_of}
-use Rattle.dn_model.specs.Disk.{Disk, maps, rows}
+use Rattle.dn_model.specs.Disk.{Disk, rows}
 use Rattle.dn_model.specs.Own.{Print, IsAlone, page_bytes, HasRow as PageHasRow}
 use Rattle.law_table.specs.Changes.{recount}
 use Rattle.law_table.proofs.Rows.{row_found, row_listed, none_found, none_listed}
 use Rattle.law_table.proofs.Counted.{recounts_rows}
-use Rattle.law_table_on_disk.specs.CountLaws.{MayRecount}
 use Rattle.law_table_on_disk.specs.BalanceLaws.{RecountsBalanced}
 use Rattle.law_table_on_disk.proofs.Balanced.{raise_balance}
 use Rattle.law_table_on_disk.proofs.Frame.{maps_same}
-use Rattle.fact_table.specs.Table.{IsAtSlot}
 use Rattle.fact_counts.specs.Standing.{HasRowWith}
 use Rattle.fact_counts.specs.Counted.{raised as raised_row, MayRaise, LeavesTables, SettlesTable, count_changed}
 use Rattle.dn_volume.specs.declared.units.TheConstants.{LOOK_UNITS}

@@ -1,12 +1,13 @@
 -- A page is taken for an item where the page of the tail has no room.
-use Rattle.std.proofs.Common.{◌≡◌, ◌≢◌, ◌⊎◌, inl, inr, ⊎_elim, ℕ, zero, suc, ◌+◌, ◌*◌, ◌/◌, ◌%◌, ◌<◌, ◌≤◌, List, [], ◌∷◌, ◌++◌, length, refl, sym, ◌∙◌, ap, subst, arith, length-append}
+use Rattle.std.proofs.Common.{◌≡◌, ◌≢◌, ◌⊎◌, inl, inr, ⊎_elim, ℕ, zero, suc, ◌+◌, ◌*◌, ◌/◌, ◌%◌, ◌≤◌, List, [], ◌∷◌, ◌++◌, length, refl, sym, ap,
+    subst, arith, length-append}
 use Rattle.std.specs.Prelude.{Option, Some, None, Contains, slice_index}
 use Rattle.std.proofs.lemmas.Bool.{cases_eq}
 use Rattle.pm_layout.specs.declared.Geometry.{Geometry}
-use Rattle.page_alloc.specs.Free.{FreePages, IsInOrder, Takes}
+use Rattle.page_alloc.specs.Free.{FreePages, IsInOrder}
 use Rattle.dn_model.specs.Log.{Log, IsPaged, count, tail_at}
 use Rattle.inode_log.specs.Prepare.{IsFull}
-use Rattle.law_table.proofs.Rows.{listed_here, listed_later, listed_cases}
+use Rattle.law_table.proofs.Rows.{listed_here, listed_cases}
 use Rattle.dedupe_daemon.specs.Remapped.{taken_pages, TakesFor}
 
 -- these pages are taken from the free ones, one at most
@@ -23,7 +24,8 @@ pub record AreTaken (fresh : List ℕ) (old new : FreePages) : Type 0 where
 one_listed : (page p : ℕ) → Contains (page ∷ []) p → page ≡ p
 one_listed page p has = ⊎_elim (λ (first : page ≡ p). first) (λ (none : Contains [] p). absurd (omega (arith, none.1))) (listed_cases page [] p has)
 
-pub are_taken : (tail : ℕ) (old new : FreePages) (fresh : Option ℕ) → IsInOrder old → TakesFor tail old new fresh → AreTaken (taken_pages fresh) old new
+pub are_taken : (tail : ℕ) (old new : FreePages) (fresh : Option ℕ) → IsInOrder old → TakesFor tail old new fresh → AreTaken (taken_pages fresh) old
+    new
 are_taken tail old new None order takes = record {
   pages = ap (λ (f : FreePages). f.pages) takes.1;
   in_order = subst IsInOrder (sym takes.1) order;

@@ -1,26 +1,5 @@
 -- The daemon maps a place to the page of a row that has the same bytes.
-use Rattle.std.specs.Prelude.{
-  ◌≡◌,
-  ◌≢◌,
-  ◌⊎◌,
-  ◌↔◌,
-  ℕ,
-  ◌+◌,
-  ◌-◌,
-  ◌≤◌,
-  List,
-  [],
-  ◌∷◌,
-  ◌++◌,
-  length,
-  Option,
-  Some,
-  None,
-  Contains,
-  vec_len,
-  vec_capacity,
-}
-use Rattle.std.specs.VecDeque.{deque_len, deque_capacity}
+use Rattle.std.specs.Prelude.{◌≡◌, ◌≢◌, ◌⊎◌, ℕ, ◌+◌, ◌-◌, ◌≤◌, List, [], ◌∷◌, ◌++◌, Option, Some, None}
 use Rattle.std.specs.FinMap.{get}
 use Rattle.pm_device.specs.State.{State}
 use Rattle.pm_device.specs.Settled.{LeavesOnly, StoresOnly, KeepsFlushed, Others}
@@ -92,6 +71,7 @@ pub record IsReadyToShare (g : Geometry) (ino idx size : ℕ) (page : ℕ) (fres
   pub page_is : row.page ≡ page
   pub size_is : size_of (d.inode ino).log ≡ size
 
+-- so it is for some disk
 pub record CanShare (g : Geometry) (ino idx size page : ℕ) (fresh : List ℕ) (s : State) : Type 0
   where
     pub disk : Disk
@@ -121,6 +101,7 @@ pub record SharesOnly (ino idx page : ℕ) (fresh : List ℕ) (d : Disk) (s t : 
   pub only : StoresOnly (IsShareWord d ino idx page fresh) s t
   pub others : KeepsFlushed (Others 15) (IsShareWord d ino idx page fresh) s t
 
+-- so it is from each such disk
 abbrev pub SharesThere : Geometry → (ino idx size page : ℕ) → List ℕ → State → State → Type 0
 SharesThere g ino idx size page fresh s t = (d : Disk) (row : Row)
     → IsReadyToShare g ino idx size page fresh d row s

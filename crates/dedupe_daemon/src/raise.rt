@@ -15,7 +15,11 @@ use pm_device::Pm;
 
 /// The row at this slot, whose page has the bytes of the place that is looked up, gets an update more under way: the place
 /// is to be mapped to that page next. It takes no memory. `Stopped` where a fence of the device failed.
-pub fn raise_share<D: Pm, F: Fingerprint>(v: &mut Volume<D, F>, sharing: Sharing, slot: u64) -> Outcome
+pub fn raise_share<D: Pm, F: Fingerprint>(
+    v: &mut Volume<D, F>,
+    sharing: Sharing,
+    slot: u64,
+) -> Outcome
     requires agrees { Agrees D.state v.old }
     requires running { v.old.parts.stopped ≡ false }
     requires looking { IsLooking v.old.parts sharing }

@@ -23,6 +23,7 @@ use fingerprint::Fingerprint;
 use inode_log::log::{COMMIT_LOG_UNITS, commit_log};
 use inode_log::prepare::{PREPARE_UNITS, is_full, prepare};
 use inode_table::{TAIL, read_field};
+use log_entry::Flag;
 use page_alloc::FreeSet;
 use pm_device::{Failed, Pm};
 use pm_layout::Geometry;
@@ -44,15 +45,14 @@ pub struct NewPlace {
     pub tail: u64,
 }
 
-// The kind of a Write's slot, and the number of the flag that tells that a place is shared.
+// The kind of a Write's slot.
 const WRITE: u64 = 1;
-const COMPLETE: u64 = 3;
 
 // The slot of the item that maps one place of a file of this size to this page.
 fn share_slot(idx: u64, page: u64, size: u64) -> [u64; 8]
     ensures { result ∷ [] ≡ ShareSlots idx page size }
 {
-    [WRITE, idx, 1, page, size, COMPLETE, 0, 0]
+    [WRITE, idx, 1, page, size, Flag::Complete.number(), 0, 0]
 }
 
 // Appends the item to the file's log, on these fresh pages where its last page has no room.
@@ -178,11 +178,7 @@ fn note_remapped(parts: &mut Parts, n: &NewPlace, mapping: Mapping, slot: u64)
 }
 
 // The place that is to be mapped to the page of the row at this slot.
-fn place_to_remap<D: Pm, F: Fingerprint>(
-    v: &Volume<D, F>,
-    sharing: Sharing,
-    slot: u64,
-) -> NewPlace
+fn place_to_remap<D: Pm, F: Fingerprint>(v: &Volume<D, F>, sharing: Sharing, slot: u64) -> NewPlace
     requires agrees { Agrees D.state v.now }
     requires running { v.now.parts.stopped ≡ false }
     requires begun { v.now.parts.sharing ≡ Some sharing }

@@ -22,13 +22,7 @@ pub(crate) fn at_step(sharing: Sharing, step: SharingStep) -> Sharing
 
 // The place was looked up: this comes next at it. The row at the slot has this word, and so many units are no longer
 // owed.
-pub(crate) fn note_looked(
-    parts: &mut Parts,
-    step: SharingStep,
-    slot: u64,
-    word: u64,
-    units: u64,
-)
+pub(crate) fn note_looked(parts: &mut Parts, step: SharingStep, slot: u64, word: u64, units: u64)
     requires look { (sharing : KeptSharing) × IsLooking parts.old sharing }
     requires trace { vec_len parts.old.trace < vec_capacity parts.old.trace }
     requires units { units ≤ parts.old.owed.units }

@@ -1,4 +1,4 @@
-use Rattle.std.proofs.Common.{◌≡◌, ℕ, ◌++◌, List, [], ◌∷◌, sym, ◌∙◌, ap, add-zero}
+use Rattle.std.proofs.Common.{ℕ, ◌++◌, [], ◌∷◌, sym, ◌∙◌, ap, add-zero}
 use Rattle.std.specs.Prelude.{Option}
 use Rattle.dn_model.specs.Log.{count, slot_name}
 use Rattle.dedupe_daemon.specs.Remapped.{taken_pages}

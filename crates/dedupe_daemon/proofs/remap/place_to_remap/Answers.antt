@@ -1,6 +1,4 @@
-use Rattle.std.proofs.Common.{◌≡◌, ℕ, length, refl, sym, ◌∙◌, subst, arith}
-use Rattle.std.specs.Prelude.{Option, Some, None, slice_get}
-use Rattle.std.specs.FinMap.{get}
+use Rattle.std.proofs.Common.{length, refl, sym, ◌∙◌, arith}
 use Rattle.std.proofs.lemmas.Option.{slice_get_read}
 use Rattle.dn_volume.proofs.Tables.{is_table, running_disk}
 use Rattle.dedupe_daemon.proofs.PlaceFound.{to_remap, idx_small, row_slot_small, node_there, ino_in, kept_at, place_found, no_mapping}
