@@ -1,0 +1,4 @@
+mod Found
+pub mod RoomKept
+pub mod Loose
+pub mod Answered
