@@ -114,7 +114,7 @@ unfolding spelling
 length-forget name items = length-spelled-cons (Forget name) items ∙ (let more = length-more name 5 (more_count name) in omega (arith, more))
 
 -- the slots of an operation on names
-abbrev op_slots : Op → ℕ
+abbrev pub op_slots : Op → ℕ
 op_slots (Create name) = name_slots name
 op_slots (Write name at text) = 0
 op_slots (Read name at count') = 0
@@ -125,18 +125,18 @@ op_slots (Size name) = 0
 op_slots ListAll = 0
 
 -- They are those of its items. There are some, and they fit a page. The pages that it needs are for them alone.
-record HasSlots (d : Disk) (op : Op) (change : DiskChange) : Type 0 where
-  slots : length (spelled change.more) ≡ op_slots op
-  some : 1 ≤ op_slots op
-  few : op_slots op ≤ 63
-  needs : needed d op ≡ (if nat_lt (63 * length (d.inode 0).log.pages - count (d.inode 0).log) (op_slots op) then 1 else 0)
+pub record HasSlots (d : Disk) (op : Op) (change : DiskChange) : Type 0 where
+  pub slots : length (spelled change.more) ≡ op_slots op
+  pub some : 1 ≤ op_slots op
+  pub few : op_slots op ≤ 63
+  pub needs : needed d op ≡ (if nat_lt (63 * length (d.inode 0).log.pages - count (d.inode 0).log) (op_slots op) then 1 else 0)
 
 renaming_more : (from to : List ℕ) (ino : ℕ) (replaced : Option ℕ) (fresh : List ℕ) → (renaming from to ino replaced fresh).more ≡ Forget from ∷ Add
     ino to ∷ []
 renaming_more from to ino None fresh = refl
 renaming_more from to ino (Some other) fresh = refl
 
-has_slots : (d : Disk) (f : Flight) (change : DiskChange) (op : Op) → PlansNames d f change op → HasSlots d op change
+pub has_slots : (d : Disk) (f : Flight) (change : DiskChange) (op : Op) → PlansNames d f change op → HasSlots d op change
 has_slots d f change (Create name) plan = record {
   slots = ap (λ (x : DiskChange). length (spelled x.more)) plan.is ∙ length-add change.ino name [] ∙ (let zero' : name_slots name + 0 ≡ name_slots
       name = omega arith in zero');

@@ -4,3 +4,5 @@ pub mod LandedChange
 pub mod Answering
 pub mod Prepared
 pub mod Begun
+pub mod Stored
+pub mod Kept
