@@ -6,3 +6,7 @@ pub mod Prepared
 pub mod Begun
 pub mod Stored
 pub mod Kept
+pub mod Words
+pub mod GivenPages
+pub mod Counted
+pub mod Put

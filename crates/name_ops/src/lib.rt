@@ -1,5 +1,7 @@
 //! Operations on names: files are created, removed and renamed. Each call is one event of a volume.
 #![tactic(auto)]
 
+pub mod commit;
+pub mod ending;
 pub mod laws;
 pub mod prepare;
