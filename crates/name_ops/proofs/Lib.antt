@@ -10,3 +10,4 @@ pub mod Words
 pub mod GivenPages
 pub mod Counted
 pub mod Put
+pub mod Committed
