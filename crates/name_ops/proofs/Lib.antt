@@ -1,6 +1,6 @@
 pub mod Landed
-pub mod Created
+pub mod NameFlight
+pub mod LandedChange
 pub mod Answering
-pub mod Planned
 pub mod Prepared
 pub mod Begun

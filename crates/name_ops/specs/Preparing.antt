@@ -1,6 +1,6 @@
 -- What the first advance of an operation on names stores, and what it does to what is kept in
 -- memory.
-use Rattle.std.specs.Prelude.{◌≡◌, ℕ, ◌+◌, ◌*◌, ◌≤◌, true, false, List, [], ◌∷◌, length}
+use Rattle.std.specs.Prelude.{◌≡◌, ℕ, ◌+◌, ◌*◌, ◌≤◌, true, false}
 use Rattle.pm_device.specs.State.{State, Agree}
 use Rattle.pm_device.specs.Settled.{FlushesAll}
 use Rattle.pm_device.specs.Lines.{StoresRun}
@@ -9,9 +9,8 @@ use Rattle.inode_log.specs.Prepare.{IsPreparedBy}
 use Rattle.dn_model.specs.Log.{count, tail_at}
 use Rattle.dn_model.specs.Disk.{Disk}
 use Rattle.dn_model.specs.Own.{Print}
-use Rattle.dn_model.specs.declared.op.Op.TheVariants.{Create}
 use Rattle.law_names.specs.NameChange.{NameChange as DiskChange, root_after}
-use Rattle.law_names.specs.Operations.{creation}
+use Rattle.law_names.specs.NameChange.{turn_field, turn_words}
 use Rattle.dn_volume.specs.declared.units.TheConstants.{SLOT_UNITS, TURN_UNITS}
 use Rattle.dn_volume.specs.Reserve.{slots_of}
 use Rattle.dn_volume.specs.declared.flight.Flight.{Flight}
@@ -21,16 +20,18 @@ use Rattle.dn_volume.specs.declared.flight.NameChange.{NameChange}
 use Rattle.dn_volume.specs.declared.volume.Parts.{Parts}
 use Rattle.dn_volume.specs.declared.volume.Volume.{Volume}
 use Rattle.dn_volume.specs.Parties.{Flies}
+use Rattle.dn_volume.specs.Flights.{IsNameFlight}
 use Rattle.dn_volume.specs.Steps.{StepsOn}
 use Rattle.dn_volume.specs.Agrees.{IsVolume}
 use Rattle.dn_volume.specs.Events.{Counts, MovesOn}
 
--- the slots of the new name and their links were stored and flushed, and then the new inode was
--- cleared
-pub record StoresCreation (d : Disk) (who : ℕ) (change : DiskChange) (units : ℕ) (s u t : State) :
+-- the slots of the operation's items and their links were stored and flushed, and then the words of
+-- the inode that turns
+pub record StoresNames (d : Disk) (who : ℕ) (change : DiskChange) (units : ℕ) (s u t : State) :
     Type 0 where
   pub prepared : IsPreparedBy who 0 (d.inode 0).log (root_after d change) s u
-  pub cleared : StoresRun who (inode_word change.ino 1) (0 ∷ 0 ∷ 0 ∷ []) u t
+  pub turned : StoresRun who (inode_word change.ino (turn_field change.turn))
+      (turn_words change.turn (d.inode change.ino).log) u t
   pub flushes : FlushesAll who s t
   pub spare : s.spare ≤ t.spare + units
   pub faults : s.faults ≤ t.faults
@@ -68,22 +69,21 @@ pub record Prepares (who : ℕ) (f : Flight) (c : NameChange) (tail : ℕ) (b b'
   pub owed_queue : b'.owed.queue ≡ b.owed.queue
   pub owed_releases : b'.owed.releases ≡ b.owed.releases
 
-pub record IsToPrepareCreate (b : Parts) (who : ℕ) (f : Flight) (name : List ℕ) (c : NameChange) :
-    Type 0 where
+-- an operation on names is in flight, and nothing of it was stored
+pub record IsToPrepare (b : Parts) (who : ℕ) (f : Flight) (c : NameChange) : Type 0 where
   pub flies : Flies b who f
-  pub op_is : f.op ≡ Create name
   pub change_is : f.change ≡ Names c
   pub unprepared : c.prepared ≡ false
 
--- so the first advance of a creation goes on
-abbrev pub CreationsPrepare : (D F : Type 0) → (D → State) → Type 0
-CreationsPrepare D F state = (print : Print) (v v' : Volume D F) (u : State) (d : Disk) (who : ℕ)
-    (f : Flight) (name : List ℕ) (c : NameChange) (tail : ℕ)
+-- so the first advance of an operation on names goes on
+abbrev pub NamesPrepare : (D F : Type 0) → (D → State) → Type 0
+NamesPrepare D F state = (print : Print) (v v' : Volume D F) (u : State) (d : Disk) (who : ℕ)
+    (f : Flight) (c : NameChange) (tail : ℕ)
+    (flight : IsNameFlight d who f c (state v.device))
     → IsVolume d v.parts (state v.device) → Agree u.now u.past → Agree (state v'.device).now
-    (state v'.device).past → IsToPrepareCreate v.parts who f name c
-    → StoresCreation d who (creation name c.node f.fresh.items)
-    (SLOT_UNITS * slots_of f + TURN_UNITS) (state v.device) u (state v'.device)
-    → tail ≡ tail_at (root_after d (creation name c.node f.fresh.items)).pages
-    (count (root_after d (creation name c.node f.fresh.items)))
+    (state v'.device).past → IsToPrepare v.parts who f c
+    → StoresNames d who flight.change (SLOT_UNITS * slots_of f + TURN_UNITS) (state v.device) u
+    (state v'.device)
+    → tail ≡ tail_at (root_after d flight.change).pages (count (root_after d flight.change))
     → Prepares who f c tail v.parts v'.parts → Counts v.parts v'.parts
     → MovesOn state print who v v' d
