@@ -4,3 +4,7 @@ pub mod LandedChange
 pub mod Answering
 pub mod Prepared
 pub mod Begun
+pub mod Aimed
+pub mod RootLog
+pub mod FoundFiles
+pub mod MayOpen

@@ -1,3 +1,4 @@
 pub mod Landing
 pub mod Preparing
 pub mod Beginning
+pub mod Finding

@@ -1,4 +1,9 @@
 //! Operations on names: files are created, removed and renamed. Each call is one event of a volume.
 #![tactic(auto)]
 
+pub mod found;
 pub mod laws;
+pub mod opening;
+pub mod plan;
+pub mod remove;
+pub mod rename;
