@@ -104,6 +104,7 @@ use Rattle.name_ops.specs.Landing.{
   names_after,
   Turned,
   TurnsInode,
+  places_in,
   places_kept,
   turn_units,
   LandsChange,
@@ -192,7 +193,7 @@ units_turned x k turn is can places = subst (λ (z : DiskTurn). units_by_use (tu
 
 -- the places that are kept of an inode are those that are mapped
 places_same : (d : Disk) (ino : ℕ) (n : InodeState) → IsInodeOf d ino n → places_kept n ≡ mapped_places d ino
-unfolding mapped_places places_kept
+unfolding mapped_places places_in
 places_same d ino n is = total-same _ _ 4096 (λ idx lt. ap (λ m. if is_some m then 1 else 0) (is.places idx) ∙ some_kept (maps d ino idx))
   where
     one : Bool → ℕ

@@ -8,3 +8,9 @@ pub mod Aimed
 pub mod RootLog
 pub mod FoundFiles
 pub mod MayOpen
+pub mod Stored
+pub mod Kept
+pub mod Words
+pub mod GivenPages
+pub mod Counted
+pub mod Put

@@ -27,7 +27,7 @@ use Rattle.std.proofs.Common.{
   None,
   length-append,
 }
-use Rattle.std.specs.Prelude.{◌/◌, ◌↔◌, Contains, true}
+use Rattle.std.specs.Prelude.{◌/◌, ◌-◌, ◌*◌, ◌↔◌, Bool, true, false, nat_lt, if◌then◌else◌, Contains}
 use Rattle.std.specs.List.Sorted.{IsStrictlyIncreasing}
 use Rattle.std.proofs.lemmas.List.{get_or_append_left}
 use Rattle.std.proofs.lemmas.List.Elements.{Contains-append_left}
@@ -68,12 +68,20 @@ use Rattle.dn_volume.specs.declared.flight.Flight.{Flight}
 use Rattle.dn_volume.specs.declared.flight.Change.TheVariants.{Names}
 use Rattle.dn_volume.specs.declared.flight.NameChange.{NameChange}
 use Rattle.dn_volume.specs.declared.volume.Parts.{Parts}
-use Rattle.dn_volume.specs.Parties.{Flies, Takes, for_client, blocks_of}
+use Rattle.dn_volume.specs.Parties.{Flies, Takes, for_client, blocks_of, flight_at}
 use Rattle.dn_volume.specs.PlannedNames.{PlansCreate, PlansRemove, PlansRename, PlansNames, inode_list}
 use Rattle.dn_volume.specs.Flights.{IsFlightOf, IsNameFlight, as_turn}
 use Rattle.dn_volume.specs.Agrees.{IsVolume}
 use Rattle.dn_volume.proofs.FlightsGranted.{flights_granted}
+use Rattle.count_events.proofs.Flown.{in_range}
+use Rattle.law_write.proofs.Counting.{term-le}
+use Rattle.dn_model.specs.History.{needed}
+use Rattle.dn_volume.specs.declared.units.TheConstants.{SLOT_UNITS, TURN_UNITS, NAMES_UNITS}
+use Rattle.dn_volume.specs.declared.volume.Room.{Room}
+use Rattle.dn_volume.specs.Reserve.{slots_of, prepared_units, units_by, owed_to, owed_sum}
 use Rattle.name_ops.specs.Landing.{names_after, flight_changes}
+use Rattle.name_ops.specs.Finding.{op_slots}
+use Rattle.name_ops.proofs.Begun.{has_slots}
 
 apart_left : (xs ys : List ℕ) → AreApart (xs ++ ys) → AreApart xs
 apart_left xs ys apart i j il jl same =
@@ -287,3 +295,43 @@ module _ (d : Disk) (b : Parts) (s : State) (who : ℕ) (f : Flight) (c : NameCh
     where
       both : (x y : ℕ) → x ≡ y → (xs ys : List Word) → xs ≡ ys → record { at = inode_word 0 2; value = y } ∷ xs ≡ record { at = inode_word 0 2; value = x } ∷ ys
       both x y one xs ys other = ap (λ (n : ℕ). record { at = inode_word 0 2; value = n } ∷ xs) (sym one) ∙ ap (λ (zs : List Word). record { at = inode_word 0 2; value = x } ∷ zs) other
+
+  -- the client's place
+  pub who_few : who ≤ 14
+  who_few = let lt = in_range b who f flies in let all = volume.flights.clients in omega (arith, lt, all)
+
+  -- what it is owed is part of what is owed to all
+  pub owed_part : (kind : Room → ℕ) → kind (owed_to (Some f)) ≤ owed_sum b kind
+  owed_part kind =
+      let client = flies.client in
+      let few = who_few in
+      let at = term-le (λ k. kind (owed_to (flight_at b.flights.items k))) 14 (who - 1) (omega (arith, client, few)) in
+      let here : kind (owed_to (flight_at b.flights.items (who - 1))) ≡ kind (owed_to (Some f)) = ap (λ r. kind (owed_to r)) flies.is in
+      omega (arith, at, here)
+
+  pub units_are : (owed_to (Some f)).units ≡ prepared_units c.prepared (slots_of f) + NAMES_UNITS
+  units_are = ap (units_by f) change_is
+
+  pub units_owed : prepared_units c.prepared (slots_of f) + NAMES_UNITS ≤ b.owed.units
+  units_owed =
+      let part = owed_part (λ r. r.units) in
+      let is = units_are in
+      let all = volume.room.owes.units in
+      omega (arith, part, is, all)
+
+  -- its slots and pages are few
+  pub few_units : SLOT_UNITS * slots_of f + TURN_UNITS < 1024
+  few_units =
+      let has = has_slots d f change f.op flight.plans in
+      let slots : length f.slots.items ≡ op_slots f.op = sym (ap length flight.slots) ∙ has.slots in
+      let few = has.few in
+      let taken = flight.grows.takes in
+      let needs : needed d f.op ≤ 1 = subst (λ n. n ≤ 1) (sym has.needs) (one_or_none (nat_lt (63 * length (d.inode 0).log.pages - count
+      (d.inode 0).log) (op_slots f.op))) in
+      let long = length-append f.fresh.items f.spare.items in
+      let longer = length-append (f.fresh.items ++ f.spare.items) (blocks_of f.change) in
+      omega (arith, slots, few, taken, needs, long, longer)
+    where
+      one_or_none : (x : Bool) → (if x then 1 else 0) ≤ 1
+      one_or_none true = omega arith
+      one_or_none false = omega arith

@@ -2,7 +2,9 @@
 use Rattle.std.specs.Prelude.{◌≡◌, ◌≢◌, ◌⊎◌, ◌↔◌, ℕ, ◌+◌, ◌-◌, ◌*◌, ◌≤◌, true, false, is_some}
 use Rattle.std.specs.Prelude.{List, [], ◌∷◌, ◌++◌, length, slice_get, if◌then◌else◌}
 use Rattle.std.specs.Prelude.{Option, Some, None, Contains, vec_len, vec_capacity}
-use Rattle.std.specs.FinMap.{get}
+use Rattle.std.specs.Ordering.{nat_cmp}
+use Rattle.std.specs.FinMap.{FinMap, get}
+use Rattle.file_index.specs.declared.page_map.Mapping.{Mapping}
 use Rattle.pm_device.specs.State.{State, Agree}
 use Rattle.pm_device.specs.State.{Rose}
 use Rattle.pm_device.specs.Settled.{LeavesOnly, StoresOnly, KeepsFlushed, Others, SettlesAll}
@@ -108,9 +110,12 @@ pub record TurnsInode (change : NameChange) (ino : ℕ) (n n' : InodeState) : Ty
   pub here : ino ≡ change.node → Turned change.turn n n'
   pub elsewhere : ino ≢ change.node → (n'.used ≡ n.used) × (n'.size ≡ n.size)
 
--- how many places of an inode are mapped, as it is kept
-unfoldable pub places_kept : InodeState → ℕ
-places_kept n = total 4096 (λ idx. if is_some (get n.map.map idx) then 1 else 0)
+-- how many places of a file are mapped, as they are kept
+unfoldable pub places_in : FinMap nat_cmp Mapping → ℕ
+places_in map = total 4096 (λ idx. if is_some (get map idx) then 1 else 0)
+
+abbrev pub places_kept : InodeState → ℕ
+places_kept n = places_in n.map.map
 
 -- the units of work that reclaim gets: one for an inode that is dying, and four for each place
 abbrev pub turn_units : Turn → ℕ → ℕ
@@ -138,6 +143,12 @@ pub record IsToCommit (b : Parts) (who : ℕ) (f : Flight) (c : NameChange) : Ty
   pub flies : Flies b who f
   pub change_is : f.change ≡ Names c
   pub prepared : c.prepared ≡ true
+
+-- the state of an inode that turns
+abbrev pub state_value : Turn → Option ℕ
+state_value turn.Stays = None
+state_value turn.Comes = Some 1
+state_value turn.Goes = Some 2
 
 -- the words that its commit changes: the root's tail, and the state of the inode that turns
 abbrev pub flight_changes : NameChange → List Change

@@ -2,3 +2,4 @@ pub mod Landing
 pub mod Preparing
 pub mod Beginning
 pub mod Finding
+pub mod Ending
