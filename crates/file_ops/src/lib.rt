@@ -1,8 +1,12 @@
 //! Changes of a file's data: writes and cuts, each a row of events of which the last makes it part of the image.
 #![tactic(auto)]
 
+pub mod advance;
 pub mod commit;
 pub mod ending;
+pub mod fill;
 pub mod giving;
 
+pub use advance::{advance_write, next_step, DataStep};
 pub use commit::commit_write;
+pub use fill::fill_page;

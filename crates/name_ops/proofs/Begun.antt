@@ -88,10 +88,11 @@ use Rattle.dn_volume.proofs.Stills.{still_same}
 use Rattle.dn_volume.proofs.OthersStay.{others_stay}
 use Rattle.dn_volume.proofs.Shorts.{one_flight}
 use Rattle.name_ops.proofs.Landed.{contains_or_not}
+use Rattle.name_ops.specs.Finding.{op_slots}
 use Rattle.name_ops.specs.Beginning.{IsPlanned, TakesHold, Begins, NamesBegin}
 
 -- a log with k slots more, on one page more where its last hasn't the room
-grown_fits : (pages n k fresh : ℕ) → 1 ≤ k → k ≤ 63 → pages ≡ (n + 62) / 63 → fresh ≡ (if nat_lt (63 * pages - n) k then 1 else 0)
+pub grown_fits : (pages n k fresh : ℕ) → 1 ≤ k → k ≤ 63 → pages ≡ (n + 62) / 63 → fresh ≡ (if nat_lt (63 * pages - n) k then 1 else 0)
     → pages + fresh ≡ (n + k + 62) / 63
 grown_fits pages n k fresh some few fits needs = ⊎_elim
     (λ (lt : 63 * pages - n < k). let one : fresh ≡ 1 = needs ∙ cond-true (nat_lt (63 * pages - n) k) 1 0 (lt-ltb (63 * pages - n) k lt) in
@@ -112,17 +113,6 @@ length-add ino name items = length-spelled-cons (Add ino name) items ∙ (let mo
 length-forget : (name : List ℕ) (items : List LogItem) → length (spelled (Forget name ∷ items)) ≡ name_slots name + length (spelled items)
 unfolding spelling
 length-forget name items = length-spelled-cons (Forget name) items ∙ (let more = length-more name 5 (more_count name) in omega (arith, more))
-
--- the slots of an operation on names
-abbrev pub op_slots : Op → ℕ
-op_slots (Create name) = name_slots name
-op_slots (Write name at text) = 0
-op_slots (Read name at count') = 0
-op_slots (Cut name to) = 0
-op_slots (Remove name) = name_slots name
-op_slots (Rename from to) = name_slots from + name_slots to
-op_slots (Size name) = 0
-op_slots ListAll = 0
 
 -- They are those of its items. There are some, and they fit a page. The pages that it needs are for them alone.
 pub record HasSlots (d : Disk) (op : Op) (change : DiskChange) : Type 0 where

@@ -4,6 +4,10 @@ pub mod LandedChange
 pub mod Answering
 pub mod Prepared
 pub mod Begun
+pub mod Aimed
+pub mod RootLog
+pub mod FoundFiles
+pub mod MayOpen
 pub mod Stored
 pub mod Kept
 pub mod Words

@@ -3,5 +3,10 @@
 
 pub mod commit;
 pub mod ending;
+pub mod found;
 pub mod laws;
+pub mod opening;
+pub mod plan;
 pub mod prepare;
+pub mod remove;
+pub mod rename;
