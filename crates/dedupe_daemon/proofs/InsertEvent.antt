@@ -53,8 +53,19 @@ use Rattle.count_events.proofs.Settled.{no_client}
 use Rattle.dedupe_daemon.proofs.AtPlace.{IsAtPlace}
 use Rattle.dedupe_daemon.specs.Stepped.{Looks}
 use Rattle.dedupe_daemon.proofs.InsertDisk.{HasPut}
-use Rattle.dedupe_daemon.proofs.LookedParts.{look_hands, same_now, raised_more, added_was, added_now, dropped_still, one_raised, one_zero,
-    long_still, owed_still, look_room}
+use Rattle.dedupe_daemon.proofs.LookedParts.{
+  look_hands,
+  same_now,
+  raised_more,
+  added_was,
+  added_now,
+  dropped_still,
+  one_raised,
+  one_zero,
+  long_still,
+  owed_still,
+  look_room,
+}
 
 -- the place that is looked up is mapped to its page, which nothing else is
 module _ (d : Disk) (b : Parts) (s : State) (v : IsVolume d b s) (page : ℕ) (at : IsAtPlace d b page) where

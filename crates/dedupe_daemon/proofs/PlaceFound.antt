@@ -114,7 +114,7 @@ module _ (d : Disk) (b : Parts) (s : State) (v : IsVolume d b s) (sharing : Shar
   raised_one : 1 ≤ raised b slot
   raised_one =
       let shared : times slot (raised_to_share b.sharing) ≡ times slot (slot ∷ []) = ap (λ (r : Option Sharing). times slot (raised_to_share r))
-          begun
+      begun
       ∙ ap (λ (st : SharingStep). times slot (raised_at st)) step in
       omega (arith, shared, times_first slot [])
 

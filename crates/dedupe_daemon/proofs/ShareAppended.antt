@@ -50,7 +50,7 @@ module _ (d : Disk) (ino idx : ℕ) (row : Row) (fresh : List ℕ) (may : MaySha
   share_paged =
       let is : IsLog new.geometry ino (new.inode ino).log = (shared_valid d ino idx row fresh may).logs ino
       (subst (λ (g : Geometry). ino < g.inodes) (sym (same_geometry d ino log)) may.in_table) (subst IsUsed (sym (use_same d ino log ino))
-          share_used)
+      share_used)
       in
       subst (λ (g : Geometry). IsPaged g log) (same_geometry d ino log) (subst (IsPaged new.geometry) (log_here d ino log) is.paged)
 

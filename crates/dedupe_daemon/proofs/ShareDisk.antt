@@ -1,6 +1,32 @@
 -- The disk on which a place has come to share a page: what it leaves, and what leads there.
-use Rattle.std.proofs.Common.{◌≡◌, ◌≢◌, ◌⊎◌, inl, inr, ⊎_elim, ℕ, ◌+◌, ◌-◌, ◌*◌, ◌/◌, ◌%◌, ◌<◌, ◌≤◌, Bool, true, List, [], ◌∷◌, length, refl, sym,
-    ◌∙◌, ap, subst, arith}
+use Rattle.std.proofs.Common.{
+  ◌≡◌,
+  ◌≢◌,
+  ◌⊎◌,
+  inl,
+  inr,
+  ⊎_elim,
+  ℕ,
+  ◌+◌,
+  ◌-◌,
+  ◌*◌,
+  ◌/◌,
+  ◌%◌,
+  ◌<◌,
+  ◌≤◌,
+  Bool,
+  true,
+  List,
+  [],
+  ◌∷◌,
+  length,
+  refl,
+  sym,
+  ◌∙◌,
+  ap,
+  subst,
+  arith,
+}
 use Rattle.std.specs.Prelude.{Option, Some, IsNone, Contains, slice_index, if◌then◌else◌, ◌&&◌, nat_le, nat_lt, IsBitSet}
 use Rattle.std.proofs.lemmas.Bool.{cases_eq}
 use Rattle.std.proofs.lemmas.Bool.Decides.{nat_tests}
@@ -200,7 +226,7 @@ module _ (d : Disk) (ino idx : ℕ) (row : Row) (fresh : List ℕ) (may : MaySha
   page_word : (page a : ℕ) → Contains log.pages page → IsInPage page a → IsWordOf (ino ∷ []) fresh d a
   page_word page a listed here = ⊎_elim
       (λ (old : Contains (d.inode ino).log.pages page). of_log ino page (listed_here ino []) may.in_table (share_used d ino idx row fresh may) old
-          here)
+      here)
       (λ (new : Contains fresh page). of_page page new here) (Contains-append_cases (d.inode ino).log.pages fresh page listed)
 
   head_word : (field a : ℕ) → field < 16 → a ≡ inode_word ino field → IsWordOf (ino ∷ []) fresh d a

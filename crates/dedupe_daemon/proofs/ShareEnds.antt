@@ -1,6 +1,31 @@
 -- The event of a place that comes to share a page, from what its calls give.
-use Rattle.std.proofs.Common.{◌≡◌, inl, ℕ, zero, suc, ◌+◌, ◌-◌, ◌*◌, ◌/◌, ◌^◌, ◌<◌, ◌≤◌, Bool, true, false, List, [], ◌∷◌, length, refl, sym, ◌∙◌,
-    ap, subst, arith}
+use Rattle.std.proofs.Common.{
+  ◌≡◌,
+  inl,
+  ℕ,
+  zero,
+  suc,
+  ◌+◌,
+  ◌-◌,
+  ◌*◌,
+  ◌/◌,
+  ◌^◌,
+  ◌<◌,
+  ◌≤◌,
+  Bool,
+  true,
+  false,
+  List,
+  [],
+  ◌∷◌,
+  length,
+  refl,
+  sym,
+  ◌∙◌,
+  ap,
+  subst,
+  arith,
+}
 use Rattle.std.specs.Prelude.{Option, Some, None, IfSome, IsSome, Contains, slice_get, slice_index, nat_lt, if◌then◌else◌}
 use Rattle.std.specs.FinMap.{get}
 use Rattle.std.proofs.lemmas.Bool.Decides.{nat_tests}
@@ -51,8 +76,20 @@ use Rattle.dedupe_daemon.proofs.Broken.{stopped_after, breaks_at}
 use Rattle.dedupe_daemon.proofs.ItemFew.{item_few}
 use Rattle.dedupe_daemon.proofs.ShareTaken.{AreTaken}
 use Rattle.dedupe_daemon.proofs.ShareAppended.{share_used}
-use Rattle.dedupe_daemon.proofs.PlaceFound.{to_remap, idx_small, node_there, ino_in, kept_at, remap_owes, remap_spare, was_mapped, not_was, taken,
-    fresh_unused, may_share}
+use Rattle.dedupe_daemon.proofs.PlaceFound.{
+  to_remap,
+  idx_small,
+  node_there,
+  ino_in,
+  kept_at,
+  remap_owes,
+  remap_spare,
+  was_mapped,
+  not_was,
+  taken,
+  fresh_unused,
+  may_share,
+}
 use Rattle.dedupe_daemon.proofs.ShareDisk as disk
 use Rattle.dedupe_daemon.proofs.ShareEvent.{remap_others, remap_volume}
 

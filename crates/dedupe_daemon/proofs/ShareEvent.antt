@@ -133,7 +133,7 @@ module _ (d : Disk) (b : Parts) (s : State) (v : IsVolume d b s) (sharing : Shar
         | inl here ↦
             ap (get y.map.map) here ∙ maps_it.here ∙ ap Some (sym here_now)
             ∙ ap (option_map kept) (sym (disk.maps_now d n.ino n.idx is.row pages may)) ∙ ap (λ (k : ℕ). option_map kept (maps e n.ino k)) (sym
-                here)
+            here)
         | inr ne ↦
             maps_it.others j ne ∙ was.places j
             ∙ ap (option_map kept) (sym ((disk.place d n.ino n.idx is.row pages may).remaps.other_places j ne))

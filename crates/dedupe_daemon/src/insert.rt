@@ -13,8 +13,9 @@ use fact_changes::insert;
 use fingerprint::{CountWord, Fingerprint};
 use pm_device::Pm;
 
-/// The page of the place that is looked up gets a row with its fingerprint, which no row has: no reference yet, and the
-/// update that brings the first is to be settled next. It takes no memory. `Stopped` where a fence of the device failed.
+/// The page of the place that is looked at gets a row with its fingerprint, which no row has: no reference yet, and the
+/// update that brings the first is to be settled next (DeNova, IPDPS 2022). It takes no memory. `Stopped` where a fence
+/// of the device failed.
 pub fn insert_row<D: Pm, F: Fingerprint>(
     v: &mut Volume<D, F>,
     sharing: Sharing,

@@ -13,8 +13,9 @@ use dn_volume::{DAEMON, Outcome, Sharing, SharingStep, Volume};
 use fingerprint::Fingerprint;
 use pm_device::Pm;
 
-/// The row at this slot, whose page has the bytes of the place that is looked up, gets an update more under way: the place
-/// is to be mapped to that page next. It takes no memory. `Stopped` where a fence of the device failed.
+/// The row at this slot, whose page has the bytes of the place that is looked at, gets an update more under way: the
+/// place is to be mapped to that page next (DeNova, IPDPS 2022). It takes no memory. `Stopped` where a fence of the
+/// device failed.
 pub fn raise_share<D: Pm, F: Fingerprint>(
     v: &mut Volume<D, F>,
     sharing: Sharing,

@@ -27,12 +27,12 @@ use Rattle.dedupe_daemon.proofs.insert.insert_row.Goals as goal
 pub insert-requires-clause-can : goal.insert-requires-clause-can
 insert-requires-clause-can g c = insert_can g.D.Pm.state g.F.Fingerprint.print c.args.v.now c.args.print.now c.args.page
     (twenty_bytes c.args.print.now c.told-print c.fits-print) (λ d v. to_insert c.args.v.now.parts c.args.sharing c.requires.looking
-        g.F.Fingerprint.print d c.args.page c.args.print.now (c.requires.place d v)) c.requires.agrees c.requires.running
+    g.F.Fingerprint.print d c.args.page c.args.print.now (c.requires.place d v)) c.requires.agrees c.requires.running
 
 pub insert-requires-clause-room : goal.insert-requires-clause-room
 insert-requires-clause-room g c = insert_spare g.D.Pm.state g.F.Fingerprint.print c.args.v.now c.args.print.now c.args.page
     (twenty_bytes c.args.print.now c.told-print c.fits-print) (λ d v. to_insert c.args.v.now.parts c.args.sharing c.requires.looking
-        g.F.Fingerprint.print d c.args.page c.args.print.now (c.requires.place d v)) c.requires.agrees c.requires.running
+    g.F.Fingerprint.print d c.args.page c.args.print.now (c.requires.place d v)) c.requires.agrees c.requires.running
 
 pub note_looked-requires-clause-look : goal.note_looked-requires-clause-look
 note_looked-requires-clause-look g c =
@@ -41,22 +41,22 @@ note_looked-requires-clause-look g c =
 pub note_looked-requires-clause-trace : goal.note_looked-requires-clause-trace
 note_looked-requires-clause-trace g c = insert_trace g.D.Pm.state g.F.Fingerprint.print c.args.v.now c.args.print.now c.args.page
     (twenty_bytes c.args.print.now c.told-print c.fits-print) (λ d v. to_insert c.args.v.now.parts c.args.sharing c.requires.looking
-        g.F.Fingerprint.print d c.args.page c.args.print.now (c.requires.place d v)) c.requires.agrees c.requires.running
+    g.F.Fingerprint.print d c.args.page c.args.print.now (c.requires.place d v)) c.requires.agrees c.requires.running
 
 pub note_looked-requires-clause-units : goal.note_looked-requires-clause-units
 note_looked-requires-clause-units g c = insert_units g.D.Pm.state g.F.Fingerprint.print c.args.v.now c.args.print.now c.args.page
     (twenty_bytes c.args.print.now c.told-print c.fits-print) (λ d v. to_insert c.args.v.now.parts c.args.sharing c.requires.looking
-        g.F.Fingerprint.print d c.args.page c.args.print.now (c.requires.place d v)) c.requires.agrees c.requires.running
+    g.F.Fingerprint.print d c.args.page c.args.print.now (c.requires.place d v)) c.requires.agrees c.requires.running
 
 pub note_looked-requires-clause-changes : goal.note_looked-requires-clause-changes
 note_looked-requires-clause-changes g c = insert_change g.D.Pm.state g.F.Fingerprint.print c.args.v.now c.args.print.now c.args.page
     (twenty_bytes c.args.print.now c.told-print c.fits-print) (λ d v. to_insert c.args.v.now.parts c.args.sharing c.requires.looking
-        g.F.Fingerprint.print d c.args.page c.args.print.now (c.requires.place d v)) c.requires.agrees c.requires.running
+    g.F.Fingerprint.print d c.args.page c.args.print.now (c.requires.place d v)) c.requires.agrees c.requires.running
 
 pub events_left-requires : goal.events_left-requires
 events_left-requires g c = insert_few g.D.Pm.state g.F.Fingerprint.print c.args.v.now c.args.print.now c.args.page
     (twenty_bytes c.args.print.now c.told-print c.fits-print) (λ d v. to_insert c.args.v.now.parts c.args.sharing c.requires.looking
-        g.F.Fingerprint.print d c.args.page c.args.print.now (c.requires.place d v)) c.requires.agrees c.requires.running c.note_looked.new.parts
+    g.F.Fingerprint.print d c.args.page c.args.print.now (c.requires.place d v)) c.requires.agrees c.requires.running c.note_looked.new.parts
     c.in-Ok.slot c.word-word.result (LOOK_UNITS + REMAP_UNITS) (looks_since (Settle c.in-Ok.slot) c.in-Ok.slot c.word-word.result
     (LOOK_UNITS + REMAP_UNITS) c.args.v.now.parts c.insert.new.fact c.note_looked.new.parts c.note_looked.ensures.looks)
 
@@ -66,7 +66,7 @@ returns-in-Ok-clause-agrees g c =
     let found = running_disk S c.args.v.now c.requires.running c.requires.agrees in
     insert_agrees S g.F.Fingerprint.print c.args.v.now c.args.print.now c.args.page (twenty_bytes c.args.print.now c.told-print c.fits-print)
     (λ d v. to_insert c.args.v.now.parts c.args.sharing c.requires.looking g.F.Fingerprint.print d c.args.page c.args.print.now (c.requires.place d
-        v)) (record { device = c.insert.new.device; print = c.args.v.now.print; parts = c.note_looked.new.parts }) c.insert.new.fact
+    v)) (record { device = c.insert.new.device; print = c.args.v.now.print; parts = c.note_looked.new.parts }) c.insert.new.fact
     c.insert.ensures.only c.insert.ensures.images (g.met.D.Pm.agree c.insert.new.device) c.insert.ensures.faults found.0 found.1 c.in-Ok.slot
     c.in-Ok.ensures.done c.insert.ensures.others c.in-Ok.ensures.settles c.insert.ensures.spare
     (subst (λ (word : ℕ). Looks (Settle c.in-Ok.slot) c.in-Ok.slot word (LOOK_UNITS + REMAP_UNITS) c.args.v.now.parts c.note_looked.new.parts)
@@ -81,7 +81,7 @@ returns-in-Ok-clause-event g c = λ d v.
     c.args.v.now.parts c.insert.new.fact c.note_looked.new.parts c.note_looked.ensures.looks) in (
       insert_moves S g.F.Fingerprint.print c.args.v.now c.args.print.now c.args.page
           (twenty_bytes c.args.print.now c.told-print c.fits-print) (λ d v. to_insert c.args.v.now.parts c.args.sharing c.requires.looking
-              g.F.Fingerprint.print d c.args.page c.args.print.now (c.requires.place d v))
+          g.F.Fingerprint.print d c.args.page c.args.print.now (c.requires.place d v))
           (record { device = c.insert.new.device; print = c.args.v.now.print; parts = c.note_looked.new.parts }) c.insert.new.fact
           c.insert.ensures.only c.insert.ensures.images (g.met.D.Pm.agree c.insert.new.device) c.insert.ensures.faults d v c.in-Ok.slot
           c.in-Ok.ensures.done c.insert.ensures.others c.in-Ok.ensures.settles c.insert.ensures.spare change c.note_looked.ensures.fact,
@@ -89,7 +89,7 @@ returns-in-Ok-clause-event g c = λ d v.
       subst (λ (n : ℕ). DaemonLowers c.args.v.now.parts c.note_looked.new.parts n) (sym c.events_left.ensures)
           (insert_lowers S g.F.Fingerprint.print c.args.v.now c.args.print.now c.args.page
           (twenty_bytes c.args.print.now c.told-print c.fits-print) (λ d v. to_insert c.args.v.now.parts c.args.sharing c.requires.looking
-              g.F.Fingerprint.print d c.args.page c.args.print.now (c.requires.place d v))
+          g.F.Fingerprint.print d c.args.page c.args.print.now (c.requires.place d v))
           (record { device = c.insert.new.device; print = c.args.v.now.print; parts = c.note_looked.new.parts }) c.insert.new.fact
           c.insert.ensures.only c.insert.ensures.images (g.met.D.Pm.agree c.insert.new.device) c.insert.ensures.faults d v c.in-Ok.slot
           c.in-Ok.ensures.done c.insert.ensures.others c.in-Ok.ensures.settles c.insert.ensures.spare change c.note_looked.ensures.fact),
@@ -101,7 +101,7 @@ returns-in-Err-clause-agrees g c =
     let found = running_disk S c.args.v.now c.requires.running c.requires.agrees in
     insert_stops S g.F.Fingerprint.print c.args.v.now c.args.print.now c.args.page (twenty_bytes c.args.print.now c.told-print c.fits-print)
     (λ d v. to_insert c.args.v.now.parts c.args.sharing c.requires.looking g.F.Fingerprint.print d c.args.page c.args.print.now (c.requires.place d
-        v)) (record { device = c.insert.new.device; print = c.args.v.now.print; parts = c.stop.new.parts }) c.insert.new.fact
+    v)) (record { device = c.insert.new.device; print = c.args.v.now.print; parts = c.stop.new.parts }) c.insert.new.fact
     c.insert.ensures.only c.insert.ensures.images (g.met.D.Pm.agree c.insert.new.device) c.insert.ensures.faults found.0 found.1
     (stops_since c.args.v.now.parts c.insert.new.fact c.stop.new.parts c.stop.ensures)
 
@@ -110,7 +110,7 @@ returns-in-Err-clause-event g c = λ d v.
     let S = g.D.Pm.state in (
       insert_breaks S g.F.Fingerprint.print c.args.v.now c.args.print.now c.args.page
           (twenty_bytes c.args.print.now c.told-print c.fits-print) (λ d v. to_insert c.args.v.now.parts c.args.sharing c.requires.looking
-              g.F.Fingerprint.print d c.args.page c.args.print.now (c.requires.place d v))
+          g.F.Fingerprint.print d c.args.page c.args.print.now (c.requires.place d v))
           (record { device = c.insert.new.device; print = c.args.v.now.print; parts = c.stop.new.parts }) c.insert.new.fact
           c.insert.ensures.only c.insert.ensures.images (g.met.D.Pm.agree c.insert.new.device) c.insert.ensures.faults d v
           (stops_since c.args.v.now.parts c.insert.new.fact c.stop.new.parts c.stop.ensures)

@@ -21,12 +21,12 @@ returns-clause-images g c =
     λ d row is.
     let to = to_prepare _ _ _ _ _ _ d row _ is _ c.share_slot.ensures in
     images _ _ _ _ _ _ d row _ is _ c.share_slot.ensures (S c.prepare-tail.new.device) (c.prepare-tail.ensures.prepared _ _ to) c.requires.size
-        c.prepare-tail.result
+    c.prepare-tail.result
     (S c.commit_log.new.device)
     (c.prepare-tail.ensures.tail _ _ to) c.commit_log.ensures.only (g.met.D.Pm.agree c.prepare-tail.new.device)
     (g.met.D.Pm.agree c.commit_log.new.device)
     (c.commit_log.ensures.committed (tail_settled _ _ _ _ _ _ d row _ is _ c.share_slot.ensures (S c.prepare-tail.new.device)
-        (c.prepare-tail.ensures.prepared _ _ to)))
+    (c.prepare-tail.ensures.prepared _ _ to)))
 
 pub returns-clause-done : goal.returns-clause-done
 returns-clause-done g c =
@@ -34,7 +34,7 @@ returns-clause-done g c =
     on_ok_map c.commit_log.result _ _ (λ done. λ d row is.
     let to = to_prepare _ _ _ _ _ _ d row _ is _ c.share_slot.ensures in
     stands_new _ _ _ _ _ _ d row _ is _ c.share_slot.ensures (S c.prepare-tail.new.device) (c.prepare-tail.ensures.prepared _ _ to) c.requires.size
-        c.prepare-tail.result
+    c.prepare-tail.result
     (S c.commit_log.new.device)
     (c.prepare-tail.ensures.tail _ _ to) c.commit_log.ensures.only done) c.commit_log.ensures.done
 
@@ -44,7 +44,7 @@ returns-clause-only g c =
     λ d row is.
     let to = to_prepare _ _ _ _ _ _ d row _ is _ c.share_slot.ensures in
     stores _ _ _ _ _ _ d row _ is _ c.share_slot.ensures (S c.prepare-tail.new.device) (c.prepare-tail.ensures.prepared _ _ to) c.requires.size
-        c.prepare-tail.result
+    c.prepare-tail.result
     (S c.commit_log.new.device)
     (c.prepare-tail.ensures.tail _ _ to) c.commit_log.ensures.only c.commit_log.ensures.others
 

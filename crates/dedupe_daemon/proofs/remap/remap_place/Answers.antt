@@ -96,7 +96,7 @@ events_left-requires g c = (
     c.note_remapped.ensures.sharing c.args.sharing c.requires.begun,
     remap_few g.D.Pm.state c.args.v.now c.args.sharing c.requires.begun c.args.slot c.requires.step c.place_to_remap-n.result
         c.place_to_remap-n.ensures c.take_for-fresh.new.free c.take_for-fresh.result c.take_for-fresh.ensures.takes c.requires.agrees
-            c.requires.running,
+        c.requires.running,
   ),
 )
 
@@ -106,27 +106,27 @@ returns-in-Ok-clause-agrees g c =
     remap_agrees g.D.Pm.state c.args.v.now c.args.sharing c.requires.begun c.args.slot c.requires.step c.place_to_remap-n.result
     c.place_to_remap-n.ensures c.take_for-fresh.new.free c.take_for-fresh.result c.take_for-fresh.ensures.takes g.F.Fingerprint.print
     (record { device = c.append_with.new.device; print = c.args.v.now.print; parts = c.note_remapped.new.parts }) c.append_with.ensures.images
-        c.append_with.ensures.only
+    c.append_with.ensures.only
     c.append_with.ensures.faults found.0 found.1 c.in-Ok.ensures.done c.in-Ok.ensures.settles c.append_with.ensures.spare c.item_slot.result
-        c.item_slot.ensures c.note_remapped.ensures
+    c.item_slot.ensures c.note_remapped.ensures
 
 pub returns-in-Ok-clause-event : goal.returns-in-Ok-clause-event
 returns-in-Ok-clause-event g c = λ d v. (
   remap_moves g.D.Pm.state c.args.v.now c.args.sharing c.requires.begun c.args.slot c.requires.step c.place_to_remap-n.result
       c.place_to_remap-n.ensures c.take_for-fresh.new.free c.take_for-fresh.result c.take_for-fresh.ensures.takes g.F.Fingerprint.print
       (record { device = c.append_with.new.device; print = c.args.v.now.print; parts = c.note_remapped.new.parts }) c.append_with.ensures.images
-          c.append_with.ensures.only
+      c.append_with.ensures.only
       c.append_with.ensures.faults d v c.in-Ok.ensures.done c.in-Ok.ensures.settles c.append_with.ensures.spare c.item_slot.result
-          c.item_slot.ensures c.note_remapped.ensures,
+      c.item_slot.ensures c.note_remapped.ensures,
   remap_work g.D.Pm.state c.args.v.now c.args.sharing c.requires.begun c.args.slot c.requires.step c.place_to_remap-n.result
       c.place_to_remap-n.ensures c.take_for-fresh.new.free c.take_for-fresh.result c.take_for-fresh.ensures.takes d,
   subst (λ (n : ℕ). DaemonLowers c.args.v.now.parts c.note_remapped.new.parts n) (sym c.events_left.ensures)
       (remap_lowers g.D.Pm.state c.args.v.now c.args.sharing c.requires.begun c.args.slot c.requires.step c.place_to_remap-n.result
       c.place_to_remap-n.ensures c.take_for-fresh.new.free c.take_for-fresh.result c.take_for-fresh.ensures.takes g.F.Fingerprint.print
       (record { device = c.append_with.new.device; print = c.args.v.now.print; parts = c.note_remapped.new.parts }) c.append_with.ensures.images
-          c.append_with.ensures.only
+      c.append_with.ensures.only
       c.append_with.ensures.faults d v c.in-Ok.ensures.done c.in-Ok.ensures.settles c.append_with.ensures.spare c.item_slot.result
-          c.item_slot.ensures c.note_remapped.ensures),
+      c.item_slot.ensures c.note_remapped.ensures),
 )
 
 pub returns-in-Err-clause-agrees : goal.returns-in-Err-clause-agrees
@@ -135,7 +135,7 @@ returns-in-Err-clause-agrees g c =
     remap_stops g.D.Pm.state c.args.v.now c.args.sharing c.requires.begun c.args.slot c.requires.step c.place_to_remap-n.result
     c.place_to_remap-n.ensures c.take_for-fresh.new.free c.take_for-fresh.result c.take_for-fresh.ensures.takes g.F.Fingerprint.print
     (record { device = c.append_with.new.device; print = c.args.v.now.print; parts = c.stop.new.parts }) c.append_with.ensures.images
-        c.append_with.ensures.only
+    c.append_with.ensures.only
     c.append_with.ensures.faults found.0 found.1 (stops_freed c.args.v.now.parts c.take_for-fresh.new.free c.stop.new.parts c.stop.ensures)
 
 pub returns-in-Err-clause-event : goal.returns-in-Err-clause-event
@@ -143,9 +143,9 @@ returns-in-Err-clause-event g c = λ d v. (
   remap_breaks g.D.Pm.state c.args.v.now c.args.sharing c.requires.begun c.args.slot c.requires.step c.place_to_remap-n.result
       c.place_to_remap-n.ensures c.take_for-fresh.new.free c.take_for-fresh.result c.take_for-fresh.ensures.takes g.F.Fingerprint.print
       (record { device = c.append_with.new.device; print = c.args.v.now.print; parts = c.stop.new.parts }) c.append_with.ensures.images
-          c.append_with.ensures.only
+      c.append_with.ensures.only
       c.append_with.ensures.faults d v (stops_freed c.args.v.now.parts c.take_for-fresh.new.free c.stop.new.parts c.stop.ensures)
-          (c.append_with.ensures.failed (err_is c.append_with.result _ c.in-Err.is)),
+      (c.append_with.ensures.failed (err_is c.append_with.result _ c.in-Err.is)),
   remap_work g.D.Pm.state c.args.v.now c.args.sharing c.requires.begun c.args.slot c.requires.step c.place_to_remap-n.result
       c.place_to_remap-n.ensures c.take_for-fresh.new.free c.take_for-fresh.result c.take_for-fresh.ensures.takes d,
 )

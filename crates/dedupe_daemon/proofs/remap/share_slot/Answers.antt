@@ -1,4 +1,4 @@
-use Rattle.std.proofs.Common.{◌≡◌, ℕ, List, [], ◌∷◌, ◌∙◌, ap}
+use Rattle.std.proofs.Common.{ℕ, [], ◌∷◌, ◌∙◌, ap}
 use Rattle.dedupe_daemon.proofs.ShareAppended.{slot_spelled}
 use Rattle.dedupe_daemon.proofs.remap.share_slot.Goals as goal
 
