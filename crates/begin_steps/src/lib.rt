@@ -5,7 +5,11 @@
 pub mod answers;
 pub mod holders;
 pub mod names;
+pub mod room;
+pub mod starts;
 
 pub use answers::answer;
 pub use holders::first_holder;
 pub use names::find_inode;
+pub use room::{make_place_room, make_room};
+pub use starts::{left_of, room_of, start};
