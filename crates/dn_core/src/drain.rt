@@ -14,9 +14,11 @@ use crate::step::step;
 use dn_volume::{Outcome, Volume};
 use fingerprint::Fingerprint;
 use pm_device::Pm;
+use std::alloc::Global;
 
 // One event of the daemon or of reclaim: whether it had nothing to do.
 fn work_once<D: Pm, F: Fingerprint, M: Machines<D, F>>(
+    alloc: Global,
     v: &mut Volume<D, F>,
     event: Event,
 ) -> Result<bool, DrainFault>
@@ -26,7 +28,7 @@ fn work_once<D: Pm, F: Fingerprint, M: Machines<D, F>>(
     ensures agrees { Agrees D.state v.new }
     ensures once { WorksOnce D.state F.print event v.old v.new result }
 {
-    match step::<D, F, M>(v, event) {
+    match step::<D, F, M>(alloc, v, event) {
         Outcome::Idle => Ok(true),
         Outcome::Running { .. } => Ok(false),
         Outcome::NoMemory => Err(DrainFault::NoMemory),
@@ -41,6 +43,7 @@ fn work_once<D: Pm, F: Fingerprint, M: Machines<D, F>>(
 /// # Errors
 /// `NoMemory` where an event found no memory. `Stopped` where the volume was stopped, or a fence of the device failed.
 pub fn drain<D: Pm, F: Fingerprint, M: Machines<D, F>>(
+    alloc: Global,
     v: &mut Volume<D, F>,
 ) -> Result<(), DrainFault>
     requires agrees { Agrees D.state v.old }
@@ -55,8 +58,8 @@ pub fn drain<D: Pm, F: Fingerprint, M: Machines<D, F>>(
         → Sound D.state F.print base v.new }
 {
     loop {
-        let reclaim_rests = work_once::<D, F, M>(v, Event::Reclaim)?;
-        let daemon_rests = work_once::<D, F, M>(v, Event::Daemon)?;
+        let reclaim_rests = work_once::<D, F, M>(alloc, v, Event::Reclaim)?;
+        let daemon_rests = work_once::<D, F, M>(alloc, v, Event::Daemon)?;
         if reclaim_rests & daemon_rests {
             return Ok(());
         }

@@ -14,9 +14,10 @@ use dn_model::Op;
 use dn_volume::{Outcome, Volume};
 use fingerprint::Fingerprint;
 use pm_device::Pm;
+use std::alloc::Global;
 
 pub trait Machines<D: Pm, F: Fingerprint> {
-    fn begin_write(v: &mut Volume<D, F>, who: u32, op: Op) -> Outcome
+    fn begin_write(alloc: Global, v: &mut Volume<D, F>, who: u32, op: Op) -> Outcome
         requires agrees { Agrees D.state v.old }
         requires running { v.old.parts.stopped ≡ false }
         requires begins { MayBegin v.old.parts who }
@@ -25,7 +26,7 @@ pub trait Machines<D: Pm, F: Fingerprint> {
         ensures event { (d : Disk) → IsVolume d v.old.parts (D.state v.old.device)
             → Begins D.state who op v.old v.new d result };
 
-    fn read(v: &mut Volume<D, F>, who: u32, op: Op) -> Outcome
+    fn read(alloc: Global, v: &mut Volume<D, F>, who: u32, op: Op) -> Outcome
         requires agrees { Agrees D.state v.old }
         requires running { v.old.parts.stopped ≡ false }
         requires begins { MayBegin v.old.parts who }
@@ -34,7 +35,7 @@ pub trait Machines<D: Pm, F: Fingerprint> {
         ensures event { (d : Disk) → IsVolume d v.old.parts (D.state v.old.device)
             → Begins D.state who op v.old v.new d result };
 
-    fn begin_cut(v: &mut Volume<D, F>, who: u32, op: Op) -> Outcome
+    fn begin_cut(alloc: Global, v: &mut Volume<D, F>, who: u32, op: Op) -> Outcome
         requires agrees { Agrees D.state v.old }
         requires running { v.old.parts.stopped ≡ false }
         requires begins { MayBegin v.old.parts who }
@@ -43,7 +44,7 @@ pub trait Machines<D: Pm, F: Fingerprint> {
         ensures event { (d : Disk) → IsVolume d v.old.parts (D.state v.old.device)
             → Begins D.state who op v.old v.new d result };
 
-    fn size(v: &mut Volume<D, F>, who: u32, op: Op) -> Outcome
+    fn size(alloc: Global, v: &mut Volume<D, F>, who: u32, op: Op) -> Outcome
         requires agrees { Agrees D.state v.old }
         requires running { v.old.parts.stopped ≡ false }
         requires begins { MayBegin v.old.parts who }
@@ -52,7 +53,7 @@ pub trait Machines<D: Pm, F: Fingerprint> {
         ensures event { (d : Disk) → IsVolume d v.old.parts (D.state v.old.device)
             → Begins D.state who op v.old v.new d result };
 
-    fn begin_name(v: &mut Volume<D, F>, who: u32, op: Op) -> Outcome
+    fn begin_name(alloc: Global, v: &mut Volume<D, F>, who: u32, op: Op) -> Outcome
         requires agrees { Agrees D.state v.old }
         requires running { v.old.parts.stopped ≡ false }
         requires begins { MayBegin v.old.parts who }
@@ -61,7 +62,7 @@ pub trait Machines<D: Pm, F: Fingerprint> {
         ensures event { (d : Disk) → IsVolume d v.old.parts (D.state v.old.device)
             → Begins D.state who op v.old v.new d result };
 
-    fn list(v: &mut Volume<D, F>, who: u32) -> Outcome
+    fn list(alloc: Global, v: &mut Volume<D, F>, who: u32) -> Outcome
         requires agrees { Agrees D.state v.old }
         requires running { v.old.parts.stopped ≡ false }
         requires begins { MayBegin v.old.parts who }

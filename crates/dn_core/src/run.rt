@@ -30,7 +30,7 @@ pub fn run_events<D: Pm, F: Fingerprint, M: Machines<D, F>>(
 {
     let mut outcomes = Vec::with_capacity(alloc, events.len())?;
     for event in events {
-        let outcome = step::<D, F, M>(v, event);
+        let outcome = step::<D, F, M>(alloc, v, event);
         outcomes.push_reserved(outcome);
     }
     Ok(outcomes)

@@ -23,6 +23,7 @@ use dn_volume::{FlightKind, Outcome, Volume};
 use fingerprint::Fingerprint;
 use pm_device::Pm;
 use reclaim::reclaim;
+use std::alloc::Global;
 
 // Whether this is a client that has nothing in flight.
 fn may_begin<D: Pm, F: Fingerprint>(v: &Volume<D, F>, who: u32) -> bool
@@ -33,6 +34,7 @@ fn may_begin<D: Pm, F: Fingerprint>(v: &Volume<D, F>, who: u32) -> bool
 
 // The begin by the machine that serves this kind of operation.
 fn begin_served<D: Pm, F: Fingerprint, M: Machines<D, F>>(
+    alloc: Global,
     v: &mut Volume<D, F>,
     who: u32,
     op: Op,
@@ -45,12 +47,12 @@ fn begin_served<D: Pm, F: Fingerprint, M: Machines<D, F>>(
         → Begins D.state who op v.old v.new d result }
 {
     match op {
-        Op::Create { .. } | Op::Remove { .. } | Op::Rename { .. } => M::begin_name(v, who, op),
-        Op::Write { .. } => M::begin_write(v, who, op),
-        Op::Read { .. } => M::read(v, who, op),
-        Op::Cut { .. } => M::begin_cut(v, who, op),
-        Op::Size { .. } => M::size(v, who, op),
-        Op::List => M::list(v, who),
+        Op::Create { .. } | Op::Remove { .. } | Op::Rename { .. } => M::begin_name(alloc, v, who, op),
+        Op::Write { .. } => M::begin_write(alloc, v, who, op),
+        Op::Read { .. } => M::read(alloc, v, who, op),
+        Op::Cut { .. } => M::begin_cut(alloc, v, who, op),
+        Op::Size { .. } => M::size(alloc, v, who, op),
+        Op::List => M::list(alloc, v, who),
     }
 }
 
@@ -73,6 +75,7 @@ fn release_instead<D: Pm, F: Fingerprint>(v: &mut Volume<D, F>) -> Outcome
 
 // A begin by a client that may.
 fn begin_by<D: Pm, F: Fingerprint, M: Machines<D, F>>(
+    alloc: Global,
     v: &mut Volume<D, F>,
     who: u32,
     op: Op,
@@ -84,7 +87,7 @@ fn begin_by<D: Pm, F: Fingerprint, M: Machines<D, F>>(
     ensures event { (d : Disk) → IsVolume d v.old.parts (D.state v.old.device)
         → Opens D.state F.print who op v.old v.new d result }
 {
-    match begin_served::<D, F, M>(v, who, op) {
+    match begin_served::<D, F, M>(alloc, v, who, op) {
         Outcome::Released { .. } => release_instead(v),
         outcome => outcome,
     }
@@ -109,6 +112,7 @@ fn advance_by<D: Pm, F: Fingerprint, M: Machines<D, F>>(v: &mut Volume<D, F>, wh
 
 // A begin on a volume that isn't stopped.
 fn begin<D: Pm, F: Fingerprint, M: Machines<D, F>>(
+    alloc: Global,
     v: &mut Volume<D, F>,
     who: u32,
     op: Op,
@@ -119,7 +123,7 @@ fn begin<D: Pm, F: Fingerprint, M: Machines<D, F>>(
     ensures event { Steps D.state F.print (Event.Begin who op) v.old v.new result }
 {
     if may_begin(v, who) {
-        begin_by::<D, F, M>(v, who, op)
+        begin_by::<D, F, M>(alloc, v, who, op)
     } else {
         Outcome::NotYours
     }
@@ -141,6 +145,7 @@ fn advance<D: Pm, F: Fingerprint, M: Machines<D, F>>(v: &mut Volume<D, F>, who: 
 
 // Makes one event.
 fn step_once<D: Pm, F: Fingerprint, M: Machines<D, F>>(
+    alloc: Global,
     v: &mut Volume<D, F>,
     event: Event,
 ) -> Outcome
@@ -152,7 +157,7 @@ fn step_once<D: Pm, F: Fingerprint, M: Machines<D, F>>(
         return Outcome::Stopped;
     }
     match event {
-        Event::Begin { who, op } => begin::<D, F, M>(v, who, op),
+        Event::Begin { who, op } => begin::<D, F, M>(alloc, v, who, op),
         Event::Advance { who } => advance::<D, F, M>(v, who),
         Event::Daemon => M::daemon(v),
         Event::Reclaim => reclaim(v),
@@ -160,7 +165,11 @@ fn step_once<D: Pm, F: Fingerprint, M: Machines<D, F>>(
 }
 
 /// Makes one event of a client, of the daemon or of reclaim, and answers how it went.
-pub fn step<D: Pm, F: Fingerprint, M: Machines<D, F>>(v: &mut Volume<D, F>, event: Event) -> Outcome
+pub fn step<D: Pm, F: Fingerprint, M: Machines<D, F>>(
+    alloc: Global,
+    v: &mut Volume<D, F>,
+    event: Event,
+) -> Outcome
     requires agrees { Agrees D.state v.old }
     ensures agrees { Agrees D.state v.new }
     ensures event { Steps D.state F.print event v.old v.new result }
@@ -174,5 +183,5 @@ pub fn step<D: Pm, F: Fingerprint, M: Machines<D, F>>(v: &mut Volume<D, F>, even
         → Run D.state F.print u events outcomes v.old → v.old.parts.stopped ≡ false
         → Headline D.state F.print base events outcomes v.old v.new event result }
 {
-    step_once::<D, F, M>(v, event)
+    step_once::<D, F, M>(alloc, v, event)
 }
