@@ -18,11 +18,16 @@ ghost use Rattle.dn_core.specs.Steps.{Steps, Opens, GoesOn, ReleasesInstead};
 
 use crate::event::Event;
 use crate::machines::Machines;
+use dedupe_daemon::daemon;
 use dn_model::{CLIENTS, Op};
 use dn_volume::{FlightKind, Outcome, Volume};
+use file_ops::{advance_write, begin_write, read};
 use fingerprint::Fingerprint;
+use name_ops::list::list;
+use name_ops::names::begin_name;
 use pm_device::Pm;
 use reclaim::reclaim;
+use size_ops::{advance_cut, begin_cut, size};
 use std::alloc::Global;
 
 // Whether this is a client that has nothing in flight.
@@ -47,12 +52,12 @@ fn begin_served<D: Pm, F: Fingerprint, M: Machines<D, F>>(
         → Begins D.state who op v.old v.new d result }
 {
     match op {
-        Op::Create { .. } | Op::Remove { .. } | Op::Rename { .. } => M::begin_name(alloc, v, who, op),
-        Op::Write { .. } => M::begin_write(alloc, v, who, op),
-        Op::Read { .. } => M::read(alloc, v, who, op),
-        Op::Cut { .. } => M::begin_cut(alloc, v, who, op),
-        Op::Size { .. } => M::size(alloc, v, who, op),
-        Op::List => M::list(alloc, v, who),
+        Op::Create { .. } | Op::Remove { .. } | Op::Rename { .. } => begin_name(alloc, v, who, op),
+        Op::Write { .. } => begin_write(alloc, v, who, op),
+        Op::Read { .. } => read(alloc, v, who, op),
+        Op::Cut { .. } => begin_cut(alloc, v, who, op),
+        Op::Size { .. } => size(alloc, v, who, op),
+        Op::List => list(alloc, v, who),
     }
 }
 
@@ -103,8 +108,8 @@ fn advance_by<D: Pm, F: Fingerprint, M: Machines<D, F>>(v: &mut Volume<D, F>, wh
         → GoesOn D.state F.print who v.old v.new d result }
 {
     match v.kind_in_flight(who) {
-        Some(FlightKind::Write) => M::advance_write(v, who),
-        Some(FlightKind::Cut) => M::advance_cut(v, who),
+        Some(FlightKind::Write) => advance_write(v, who),
+        Some(FlightKind::Cut) => advance_cut(v, who),
         Some(FlightKind::Names) => M::advance_name(v, who),
         None => unreachable!(),
     }
@@ -159,7 +164,7 @@ fn step_once<D: Pm, F: Fingerprint, M: Machines<D, F>>(
     match event {
         Event::Begin { who, op } => begin::<D, F, M>(alloc, v, who, op),
         Event::Advance { who } => advance::<D, F, M>(v, who),
-        Event::Daemon => M::daemon(v),
+        Event::Daemon => daemon(v),
         Event::Reclaim => reclaim(v),
     }
 }
