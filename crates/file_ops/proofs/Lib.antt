@@ -22,3 +22,9 @@ pub mod Replied
 pub mod WriteAsks
 pub mod WritePlanned
 pub mod WriteOpened
+pub mod Filled
+pub mod FillBytes
+pub mod Nexts
+pub mod Flying
+pub mod FillEnds
+pub mod NextStep

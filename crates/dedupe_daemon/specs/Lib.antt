@@ -1,0 +1,4 @@
+pub mod Pages
+pub mod Daemon
+pub mod Fronts
+pub mod Looked

@@ -1,0 +1,4 @@
+pub mod Cutting
+pub mod Anew
+pub mod Known
+pub mod LastCut
