@@ -11,13 +11,13 @@ ghost use Rattle.dn_volume.specs.Begins.{IsCutOp};
 ghost use Rattle.size_ops.specs.Sizing.{IsAnswerNow};
 ghost use Rattle.size_ops.specs.Planning.{IsCutNow, IsCutOf, IsStateOf, IsPlanOf, lost_from};
 
-use begin_steps::find_inode;
+use data_begins::find_file;
 use dn_model::{Op, Refusal};
 use dn_volume::{InodeState, Parts, Volume};
 use file_write::take::room_of;
 use fingerprint::Fingerprint;
 use inode_table::TAIL;
-use log_entry::{MOST_SIZE, is_legal};
+use log_entry::MOST_SIZE;
 use pm_device::Pm;
 
 /// What a cut of a file takes.
@@ -44,12 +44,7 @@ pub(crate) fn file_to_cut(parts: &Parts, op: &Op) -> Result<u64, Refusal>
     let Op::Cut { name, size } = op else {
         unreachable!()
     };
-    if !is_legal(name.bytes()) {
-        return Err(Refusal::BadName);
-    }
-    let Some(ino) = find_inode(&parts.names, name.bytes()) else {
-        return Err(Refusal::NotFound);
-    };
+    let ino = find_file(&parts.names, name.bytes())?;
     if *size > MOST_SIZE {
         return Err(Refusal::TooBig);
     }
