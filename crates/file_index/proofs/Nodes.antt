@@ -19,7 +19,8 @@ module _ {X : Type 0} where
       → cells (set nodes (q / 64) w) ≡ written (cells nodes) q cell
   unfolding written
   written_by nodes q cell v w in_root read is =
-      let there : v.items ≡ get_or (cells nodes) (q / 64) [] = ap (λ v. v.items) read ∙ sym (get_or-map (λ (v : Vec (Option X) Global). v.items) nodes (q / 64) v [] in_root) in
+      let there : v.items ≡ get_or (cells nodes) (q / 64) [] =
+      ap (λ v. v.items) read ∙ sym (get_or-map (λ (v : Vec (Option X) Global). v.items) nodes (q / 64) v [] in_root) in
       map-set (λ (v : Vec (Option X) Global). v.items) nodes (q / 64) w
       ∙ ap (set (cells nodes) (q / 64)) (is ∙ ap (λ n. set n (q % 64) cell) there)
 
@@ -33,11 +34,13 @@ module _ {X : Type 0} where
         elim (cases_eq (q / 64) at) [
           | inl same ↦
               look_in (set nodes at node) q ∙ ap (λ i. get_or (get_or (set nodes at node) i []) (q % 64) None) same
-              ∙ ap (λ n. get_or n (q % 64) None) (get_or-set_same nodes at node [] within ∙ (All-pop IsFresh spare rest (Some node) popped valid.fresh).1)
+              ∙ ap (λ n. get_or n (q % 64) None)
+              (get_or-set_same nodes at node [] within ∙ (All-pop IsFresh spare rest (Some node) popped valid.fresh).1)
               ∙ get_or-replicate 64 (q % 64) None None (omega arith)
               ∙ sym (look_outside nodes q (ap (λ i. length (get_or nodes i [])) same ∙ none))
           | inr differ ↦
-              look_in (set nodes at node) q ∙ ap (λ n. get_or n (q % 64) None) (get_or-set_other nodes at (q / 64) node [] differ) ∙ sym (look_in nodes q)
+              look_in (set nodes at node) q ∙ ap (λ n. get_or n (q % 64) None) (get_or-set_other nodes at (q / 64) node [] differ)
+              ∙ sym (look_in nodes q)
         ]
 
     one_more : filled (set nodes at node) ≡ filled nodes + 1
@@ -55,14 +58,16 @@ module _ {X : Type 0} where
       };
       long = ap length (get_or-set_same nodes at node [] within) ∙ long_node;
       same = same_look;
-      room = room_more (filled nodes) (length spare) (filled (set nodes at node)) (length rest) 1 (omega (arith, one_less)) (λ full. omega (arith, one_less, one_more));
+      room = room_more (filled nodes) (length spare) (filled (set nodes at node)) (length rest) 1
+          (omega (arith, one_less)) (λ full. omega (arith, one_less, one_more));
       room_stays = λ some. absurd (omega arith);
     }
 
   filled_none : (nodes : List (List (Option X))) → All (λ n. length n ≡ 0) nodes → filled nodes ≡ 0
   unfolding filled
   filled_none [] none = refl
-  filled_none (n ∷ ns) none = omega (arith, occupied_none n (All-head (λ n. length n ≡ 0) n ns none), filled_none ns (All-tail (λ n. length n ≡ 0) n ns none))
+  filled_none (n ∷ ns) none =
+      omega (arith, occupied_none n (All-head (λ n. length n ≡ 0) n ns none), filled_none ns (All-tail (λ n. length n ≡ 0) n ns none))
 
   none_there : (nodes : List (List (Option X))) (k : ℕ) → All (λ n. length n ≡ 0) nodes → length (get_or nodes k []) ≡ 0
   none_there nodes k none =
@@ -79,20 +84,24 @@ module _ {X : Type 0} where
     filled = filled_none nodes none ∙ sym (filled_none [] (All-nil (λ n. length n ≡ 0)));
   }
 
-  filled_next : (nodes : List (List (Option X))) (i : ℕ) → i < length nodes → filled (take (suc i) nodes) ≡ filled (take i nodes) + occupied (get_or nodes i [])
+  filled_next : (nodes : List (List (Option X))) (i : ℕ) → i < length nodes
+      → filled (take (suc i) nodes) ≡ filled (take i nodes) + occupied (get_or nodes i [])
   unfolding filled
   filled_next [] i within = absurd (omega arith)
   filled_next (n ∷ ns) zero within = omega arith
   filled_next (n ∷ ns) (suc i) within = omega (arith, filled_next ns i (omega arith))
 
-  pub filled_more : (nodes : List (List (Option X))) (i : ℕ) → i < length nodes → filled (take (i + 1) nodes) ≡ filled (take i nodes) + occupied (get_or nodes i [])
+  pub filled_more : (nodes : List (List (Option X))) (i : ℕ) → i < length nodes
+      → filled (take (i + 1) nodes) ≡ filled (take i nodes) + occupied (get_or nodes i [])
   filled_more nodes i within =
       let is : suc i ≡ i + 1 = omega arith in
       subst (λ m. filled (take m nodes) ≡ filled (take i nodes) + occupied (get_or nodes i [])) is (filled_next nodes i within)
 
-  pub node_len : (nodes : List (Vec (Option X) Global)) (at : ℕ) (v : Vec (Option X) Global) → at < length nodes → v ≡ get_or nodes at v → length (get_or (cells nodes) at []) ≡ v.len
+  pub node_len : (nodes : List (Vec (Option X) Global)) (at : ℕ) (v : Vec (Option X) Global)
+      → at < length nodes → v ≡ get_or nodes at v → length (get_or (cells nodes) at []) ≡ v.len
   node_len nodes at v within read =
-      ap length (get_or-map (λ (v : Vec (Option X) Global). v.items) nodes at v [] within) ∙ ap (λ (v : Vec (Option X) Global). length v.items) (sym read) ∙ sym v.ok.0
+      ap length (get_or-map (λ (v : Vec (Option X) Global). v.items) nodes at v [] within)
+      ∙ ap (λ (v : Vec (Option X) Global). length v.items) (sym read) ∙ sym v.ok.0
 
   pub opens_popped : (at : ℕ) (nodes spare rest : List (Vec (Option X) Global)) (node : Vec (Option X) Global) → IsRadix (cells nodes) (cells spare)
       → at < length nodes → length (get_or (cells nodes) at []) ≡ 0 → spare ≡ rest ++ node ∷ []
@@ -110,12 +119,15 @@ module _ {X : Type 0} where
       let f = λ (v : Vec (Option X) Global). v.items in
       let long = length-map nodes f in
       let there : get_or (cells nodes) i [] ≡ v.items = get_or-map f nodes i v [] within ∙ ap f (sym read) in
-      let next : filled (take (i + 1) (cells nodes)) ≡ filled (take i (cells nodes)) + r = filled_more (cells nodes) i (omega arith) ∙ ap (λ o. filled (take i (cells nodes)) + o) (ap occupied there ∙ sym is) in
-      let least : filled (take (i + 1) (cells nodes)) ≤ 64 = omega (arith, filled-le (take (i + 1) (cells nodes)), length-take (i + 1) (cells nodes)) in
+      let next : filled (take (i + 1) (cells nodes)) ≡ filled (take i (cells nodes)) + r =
+      filled_more (cells nodes) i (omega arith) ∙ ap (λ o. filled (take i (cells nodes)) + o) (ap occupied there ∙ sym is) in
+      let least : filled (take (i + 1) (cells nodes)) ≤ 64 =
+      omega (arith, filled-le (take (i + 1) (cells nodes)), length-take (i + 1) (cells nodes)) in
       (omega arith, omega arith)
 
   -- what is read of a node is what its cells hold
-  pub node_read : (nodes : List (Vec (Option X) Global)) (at : ℕ) (v : Vec (Option X) Global) → at < length nodes → v ≡ get_or nodes at v → get_or (cells nodes) at [] ≡ v.items
+  pub node_read : (nodes : List (Vec (Option X) Global)) (at : ℕ) (v : Vec (Option X) Global)
+      → at < length nodes → v ≡ get_or nodes at v → get_or (cells nodes) at [] ≡ v.items
   node_read nodes at v within read =
       let f = λ (v : Vec (Option X) Global). v.items in
       get_or-map f nodes at v [] within ∙ ap f (sym read)

@@ -35,7 +35,9 @@ module _ {X : Type 0} where
       ]
 
   pub new_empty : radix_map {X = X} [] ≡ empty
-  new_empty = same_map nat_cmp_total nat_cmp-IsAntisymmetric (radix_map []) empty (λ q. get-radix [] (omega arith) q ∙ look_past [] q (omega arith) ∙ sym (get-empty nat_cmp q))
+  new_empty =
+      same_map nat_cmp_total nat_cmp-IsAntisymmetric (radix_map []) empty
+      (λ q. get-radix [] (omega arith) q ∙ look_past [] q (omega arith) ∙ sym (get-empty nat_cmp q))
 
   same_occupied : (a b : List (Option X)) → length a ≡ length b → occupied a ≡ occupied b
   same_occupied a b same =
@@ -48,16 +50,22 @@ module _ {X : Type 0} where
   unfolding written
   filled-written nodes q cell in_root =
       let old = get_or nodes (q / 64) [] in
-      omega (arith, filled-set nodes (q / 64) (set old (q % 64) cell) in_root, same_occupied (set old (q % 64) cell) old (length-set old (q % 64) cell))
+      omega (
+        arith,
+        filled-set nodes (q / 64) (set old (q % 64) cell) in_root,
+        same_occupied (set old (q % 64) cell) old (length-set old (q % 64) cell),
+      )
 
-  whole-written : (nodes : List (List (Option X))) (q : ℕ) (cell : Option X) → q / 64 < length nodes → All IsNode nodes → All IsNode (written nodes q cell)
+  whole-written : (nodes : List (List (Option X))) (q : ℕ) (cell : Option X)
+      → q / 64 < length nodes → All IsNode nodes → All IsNode (written nodes q cell)
   whole-written nodes q cell in_root whole =
       All-from_get_or IsNode (written nodes q cell) [] (λ i lt some.
       let same = node-written nodes q cell i in_root in
       let inside : i < length nodes = omega (arith, length-written nodes q cell) in
       same ∙ All-get_or IsNode nodes i [] inside whole (omega arith))
 
-  pub radix-written : (nodes spare : List (List (Option X))) (q : ℕ) (cell : Option X) → q / 64 < length nodes → IsRadix nodes spare → IsRadix (written nodes q cell) spare
+  pub radix-written : (nodes spare : List (List (Option X))) (q : ℕ) (cell : Option X)
+      → q / 64 < length nodes → IsRadix nodes spare → IsRadix (written nodes q cell) spare
   radix-written nodes spare q cell in_root valid = record {
     root = λ _. length-written nodes q cell ∙ valid.root (omega arith);
     whole = whole-written nodes q cell in_root valid.whole;
@@ -91,14 +99,16 @@ module _ {X : Type 0} where
         there = reads_now q ∙ look-written mid q (Some x) in_root (omega (arith, opens.long));
         others = λ p differ. reads_now p ∙ look-written_other mid q (Some x) p in_root differ ∙ opens.same p ∙ sym (reads p);
         room = subst (λ f. radix_room (filled nodes) (length spare) ≤ radix_room f (length rest) + 1) (sym filled_is) opens.room;
-        room_stays = λ some. subst (λ f. radix_room (filled nodes) (length spare) ≤ radix_room f (length rest)) (sym filled_is) (opens.room_stays (has some));
+        room_stays = λ some.
+            subst (λ f. radix_room (filled nodes) (length spare) ≤ radix_room f (length rest)) (sym filled_is) (opens.room_stays (has some));
       }
         where
           in_root : q / 64 < length mid
           in_root = omega (arith, opened_long (q / 64) nodes mid spare rest opens)
 
           reads_now : (p : ℕ) → get (radix_map (written mid q (Some x))) p ≡ look (written mid q (Some x)) p
-          reads_now p = get-radix (written mid q (Some x)) (omega (arith, length-written mid q (Some x), opened_long (q / 64) nodes mid spare rest opens)) p
+          reads_now p =
+              get-radix (written mid q (Some x)) (omega (arith, length-written mid q (Some x), opened_long (q / 64) nodes mid spare rest opens)) p
 
           filled_is : filled (written mid q (Some x)) ≡ filled mid
           filled_is = filled-written mid q (Some x) in_root
@@ -115,7 +125,8 @@ module _ {X : Type 0} where
     pub get_is : get (radix_map nodes) q ≡ look nodes q
     get_is = reads q
 
-    pub cut_off : (new : List (List (Option X))) → ClearsFrom q nodes new → CutsOff q (radix_index nodes (length spare)) (radix_index new (length spare))
+    pub cut_off : (new : List (List (Option X))) → ClearsFrom q nodes new
+        → CutsOff q (radix_index nodes (length spare)) (radix_index new (length spare))
     cut_off new clears = record {
       gone = λ k le. reads_new k ∙ clears.gone k le;
       below = λ k lt. reads_new k ∙ clears.below k lt ∙ sym (reads k);
@@ -126,7 +137,11 @@ module _ {X : Type 0} where
         reads_new k = get-radix new (omega (arith, few_nodes nodes spare valid, clears.long)) k
 
     pub radix_cleared : (new : List (List (Option X))) → ClearsFrom q nodes new → IsRadix new spare
-    radix_cleared new clears = record { root = λ some. clears.long ∙ valid.root (omega (arith, clears.long)); whole = clears.whole valid.whole; fresh = valid.fresh }
+    radix_cleared new clears = record {
+      root = λ some. clears.long ∙ valid.root (omega (arith, clears.long));
+      whole = clears.whole valid.whole;
+      fresh = valid.fresh;
+    }
 
     pub last_is : (last : ℕ) → IsLastCell q nodes last → IsLastBelow q (radix_map nodes) last
     last_is last is = record {
@@ -159,7 +174,8 @@ module _ {X : Type 0} where
     below = λ k lt. then_.below k (omega arith) ∙ first.below k lt;
   }
 
-  pub clears_one : (q : ℕ) (nodes : List (List (Option X))) → q / 64 < length nodes → 0 < length (get_or nodes (q / 64) []) → All IsNode nodes → Clears q (q + 1) nodes (written nodes q None)
+  pub clears_one : (q : ℕ) (nodes : List (List (Option X))) → q / 64 < length nodes
+      → 0 < length (get_or nodes (q / 64) []) → All IsNode nodes → Clears q (q + 1) nodes (written nodes q None)
   clears_one q nodes in_root some whole = record {
     whole = λ w. whole-written nodes q None in_root w;
     long = length-written nodes q None;
@@ -188,11 +204,14 @@ module _ {X : Type 0} where
     reads_new k = get-radix new (omega (arith, opens.long)) k
 
     pub same_radix : radix_map new ≡ radix_map nodes
-    same_radix = same_map nat_cmp_total nat_cmp-IsAntisymmetric (radix_map new) (radix_map nodes) (λ k. reads_new k ∙ opens.same k ∙ sym (get-radix nodes (few_nodes nodes spare valid) k))
+    same_radix =
+        same_map nat_cmp_total nat_cmp-IsAntisymmetric (radix_map new) (radix_map nodes)
+        (λ k. reads_new k ∙ opens.same k ∙ sym (get-radix nodes (few_nodes nodes spare valid) k))
 
     pub room_grows : length spare ≤ length more → radix_room (filled nodes) (length spare) ≤ radix_room (filled new) (length more)
     room_grows le =
-        let wider = room_more (filled nodes) (length spare) (filled new) (length more) 0 (omega arith) (λ full. omega (arith, opens.filled)) in omega arith
+        let wider = room_more (filled nodes) (length spare) (filled new) (length more) 0 (omega arith) (λ full. omega (arith, opens.filled)) in
+        omega arith
 
     pub room_is : length more ≡ length spare → radix_room (filled new) (length more) ≡ radix_room (filled nodes) (length spare)
     room_is same = λ i. radix_room (opens.filled i) (same i)

@@ -15,7 +15,8 @@ module _ {X : Type 0} where
   unfolding look written
   look-written nodes q cell in_root in_node =
       let new = set (get_or nodes (q / 64) []) (q % 64) cell in
-      ap (λ n. get_or n (q % 64) None) (get_or-set_same nodes (q / 64) new [] in_root) ∙ get_or-set_same (get_or nodes (q / 64) []) (q % 64) cell None in_node
+      ap (λ n. get_or n (q % 64) None) (get_or-set_same nodes (q / 64) new [] in_root)
+      ∙ get_or-set_same (get_or nodes (q / 64) []) (q % 64) cell None in_node
 
   pub look-written_other : (nodes : List (List (Option X))) (q : ℕ) (cell : Option X) (p : ℕ)
       → q / 64 < length nodes → p ≢ q → look (written nodes q cell) p ≡ look nodes p

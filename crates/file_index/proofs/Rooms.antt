@@ -21,7 +21,8 @@ module _ {X : Type 0} where
   occupied_none [] none = refl
   occupied_none (x ∷ xs) none = absurd (omega arith)
 
-  pub filled-set : (nodes : List (List X)) (k : ℕ) (node : List X) → k < length nodes → filled (set nodes k node) + occupied (get_or nodes k []) ≡ filled nodes + occupied node
+  pub filled-set : (nodes : List (List X)) (k : ℕ) (node : List X) → k < length nodes
+      → filled (set nodes k node) + occupied (get_or nodes k []) ≡ filled nodes + occupied node
   unfolding filled
   filled-set [] k node within = absurd (omega arith)
   filled-set (n ∷ ns) zero node within = omega arith

@@ -13,7 +13,8 @@ unfoldable pub look : {X : Type 0} → List (List (Option X)) → ℕ → Option
 look nodes place = get_or (get_or nodes (place / 64) []) (place % 64) None
 
 -- the nodes after a write to a place's cell
-unfoldable pub written : {X : Type 0} → List (List (Option X)) → ℕ → Option X → List (List (Option X))
+unfoldable pub written :
+    {X : Type 0} → List (List (Option X)) → ℕ → Option X → List (List (Option X))
 written nodes place cell =
     set nodes (place / 64) (set (get_or nodes (place / 64) []) (place % 64) cell)
 
@@ -61,7 +62,8 @@ pub record IsRadix {X : Type 0} (nodes spare : List (List (Option X))) : Type 0 
   pub fresh : All IsFresh spare
 
 -- A node has its cells now, a spare node's where it had none, and all places hold what they did.
-pub record OpensNode {X : Type 0} (at : ℕ) (old new spare rest : List (List (Option X))) : Type 0 where
+pub record OpensNode {X : Type 0} (at : ℕ)
+    (old new spare rest : List (List (Option X))) : Type 0 where
   pub valid : IsRadix new rest
   pub long : length (get_or new at []) ≡ 64
   pub same : (q : ℕ) → look new q ≡ look old q
@@ -94,7 +96,8 @@ pub record ClearsFrom {X : Type 0} (from : ℕ) (old new : List (List (Option X)
   pub below : (k : ℕ) → k < from → look new k ≡ look old k
 
 -- the greatest place below one whose cell holds anything
-pub record IsLastCell {X : Type 0} (from : ℕ) (nodes : List (List (Option X))) (last : ℕ) : Type 0 where
+pub record IsLastCell {X : Type 0} (from : ℕ) (nodes : List (List (Option X)))
+    (last : ℕ) : Type 0 where
   pub below : last < from
   pub mapped : IsSome (look nodes last)
   pub between : (k : ℕ) → last < k → k < from → look nodes k ≡ None

@@ -1,5 +1,5 @@
 // The two levels of a page map: a root of nodes, each empty or of 64 cells.
-ghost use Rattle.std.specs.Prelude.{◌≡◌, ℕ, None, ◌-◌, ◌*◌, ◌/◌, ◌%◌, ◌<◌, ◌≤◌, [], length, slice_index_or, All, IfSome, IfNone, IfOk, OnOk, OnErr, vec_len};
+ghost use Rattle.std.specs.Prelude.{◌≡◌, ℕ, None, ◌-◌, ◌/◌, ◌%◌, ◌<◌, ◌≤◌, [], length, slice_index_or, All, IfSome, IfNone, IfOk, OnOk, OnErr, vec_len};
 ghost use Rattle.file_index.specs.Radix.{IsRadix, IsFresh, OpensNode, OpensRoot, Clears, ClearsFrom, IsLastCell, IsNode, cells, filled, look, occupied, written};
 
 use crate::page_map::Mapping;
@@ -70,7 +70,8 @@ pub(crate) fn open_node(nodes: &mut Vec<Node>, spare: &mut Vec<Node>, at: usize)
     requires valid { IsRadix (cells nodes.old.items) (cells spare.old.items) }
     requires at { at < vec_len nodes.old }
     requires room { slice_index_or (cells nodes.old.items) at [] ≡ [] → 0 < vec_len spare.old }
-    ensures { OpensNode at (cells nodes.old.items) (cells nodes.new.items) (cells spare.old.items) (cells spare.new.items) }
+    ensures { OpensNode at (cells nodes.old.items) (cells nodes.new.items)
+        (cells spare.old.items) (cells spare.new.items) }
 {
     if nodes[at].is_empty()
         && let Some(node) = spare.pop()
@@ -92,18 +93,12 @@ pub(crate) fn write_cell(nodes: &mut Vec<Node>, place: usize, cell: Option<Mappi
 pub(crate) fn read_cell(nodes: &[Node], place: usize) -> Option<Mapping>
     ensures { result ≡ look (cells nodes.now) place }
 {
-    let at = place / PLACES;
-    if nodes.len() <= at {
-        return None;
-    }
-    let node = &nodes[at];
-    if node.len() <= place % PLACES {
-        return None;
-    }
-    node[place % PLACES]
+    let node = nodes.get(place / PLACES)?;
+    *node.get(place % PLACES)?
 }
 
-// Clears the cell of a place, or passes a node without cells. Returns the place after what was cleared.
+// Clears the cell of a place, or passes a node without cells.
+// Returns the place after what was cleared.
 pub(crate) fn clear_next(nodes: &mut Vec<Node>, place: usize) -> usize
     requires whole { All IsNode (cells nodes.old.items) }
     requires in_root { place / 64 < vec_len nodes.old }

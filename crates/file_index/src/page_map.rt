@@ -1,5 +1,5 @@
 // Where the pages of a file are.
-ghost use Rattle.std.specs.Prelude.{◌≡◌, ℕ, ◌<◌, ◌≤◌, None, OnOk, OnErr, IfOk, IfErr, IfSome, IfNone};
+ghost use Rattle.std.specs.Prelude.{◌≡◌, ℕ, ◌<◌, ◌≤◌, None, OnOk, OnErr, IfSome, IfNone};
 ghost use Rattle.std.specs.FinMap.{get, empty};
 ghost use Rattle.file_index.specs.Index.{Puts, CutsOff, IsLastBelow};
 
@@ -52,7 +52,10 @@ impl Model for PageMap {
 
     ghost coded = { index_code (code coded_ℕ page.the_row.coded) };
 
-    ghost view = { λ m. record { map = radix_map (cells m.nodes.items); room = radix_room (filled (cells m.nodes.items)) (length (cells m.spare.items)) } };
+    ghost view = { λ m. record {
+      map = radix_map (cells m.nodes.items);
+      room = radix_room (filled (cells m.nodes.items)) (length (cells m.spare.items));
+    } };
 
     ghost invariant = { λ m. IsRadix (cells m.nodes.items) (cells m.spare.items) };
 }

@@ -25,3 +25,6 @@ pub mod Flying
 pub mod FillEnds
 pub mod NextStep
 pub mod Replied
+pub mod WriteAsks
+pub mod WritePlanned
+pub mod WriteOpened

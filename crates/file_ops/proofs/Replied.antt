@@ -21,20 +21,20 @@ use Rattle.dn_volume.specs.Agrees.{IsVolume}
 use Rattle.dn_volume.specs.Begins.{IsAtOnce, IsReadOp, IsAnswerOf, of_files}
 use Rattle.data_begins.specs.Lookup.{IsFound, IsLookupRefusal}
 
-one_legal : (name : List ℕ) → IsLegal name → All IsLegal (name ∷ [])
+pub one_legal : (name : List ℕ) → IsLegal name → All IsLegal (name ∷ [])
 one_legal name legal = All-cons IsLegal name [] legal (All-nil IsLegal)
 
-not_legal : (name : List ℕ) → (IsLegal name → ⊥) → All IsLegal (name ∷ []) → ⊥
+pub not_legal : (name : List ℕ) → (IsLegal name → ⊥) → All IsLegal (name ∷ []) → ⊥
 not_legal name bad all = bad (All-head IsLegal name [] all)
 
 module _ (d : Disk) (b : Parts) (s : State) (v : IsVolume d b s) where
-  finds : (name : List ℕ) (ino : ℕ) → get b.names.map name ≡ Some ino → files d name ≡ Some (bytes d ino)
+  pub finds : (name : List ℕ) (ino : ℕ) → get b.names.map name ≡ Some ino → files d name ≡ Some (bytes d ino)
   finds name ino leads = ap (option_map (bytes d)) (sym (v.names.leads name) ∙ leads)
 
-  found : (name : List ℕ) (ino : ℕ) → get b.names.map name ≡ Some ino → IsSome (files d name)
+  pub found : (name : List ℕ) (ino : ℕ) → get b.names.map name ≡ Some ino → IsSome (files d name)
   found name ino leads = ap (λ (o : Option (List ℕ)). is_some o) (finds name ino leads)
 
-  misses : (name : List ℕ) → get b.names.map name ≡ None → IsSome (files d name) → ⊥
+  pub misses : (name : List ℕ) → get b.names.map name ≡ None → IsSome (files d name) → ⊥
   misses name none some = absurd_some (files d name) (ap (option_map (bytes d)) (sym (v.names.leads name) ∙ none)) some
     where
       absurd_some : (o : Option (List ℕ)) → o ≡ None → IsSome o → ⊥

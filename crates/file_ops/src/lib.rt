@@ -2,6 +2,7 @@
 #![tactic(auto)]
 
 pub mod advance;
+pub mod begin;
 pub mod commit;
 pub mod ending;
 pub mod fill;
@@ -11,4 +12,5 @@ pub mod reading;
 pub use advance::{DataStep, advance_write, next_step};
 pub use commit::commit_write;
 pub use fill::fill_page;
+pub use begin::begin_write;
 pub use reading::read;

@@ -13,7 +13,16 @@ pub clear_next-place-requires-clause-in_root : goal.clear_next-place-requires-cl
 clear_next-place-requires-clause-in_root c =
     let old = c.args.nodes.now in
     let nodes = c.loop-place.nodes in
-    omega (arith, c.loop-place.invariant.1.long, cells_long old.items, old.ok.0, cells_long nodes.items, nodes.ok.0, c.len-end.ensures, c.loop-place-test.true)
+    omega (
+      arith,
+      c.loop-place.invariant.1.long,
+      cells_long old.items,
+      old.ok.0,
+      cells_long nodes.items,
+      nodes.ok.0,
+      c.len-end.ensures,
+      c.loop-place-test.true,
+    )
 
 pub clear_next-place-requires-clause-few : goal.clear_next-place-requires-clause-few
 clear_next-place-requires-clause-few c =
@@ -25,7 +34,8 @@ pub loop-place-preserved : goal.loop-place-preserved
 loop-place-preserved c =
     let step = c.clear_next-place.ensures in (
       omega (arith, c.loop-place.invariant.0, step.more),
-      clears_on c.args.from c.loop-place.place c.clear_next-place.result (cells c.args.nodes.now.items) (cells c.loop-place.nodes.items) (cells c.clear_next-place.new.nodes.items)
+      clears_on c.args.from c.loop-place.place c.clear_next-place.result (cells c.args.nodes.now.items) (cells c.loop-place.nodes.items)
+          (cells c.clear_next-place.new.nodes.items)
           c.loop-place.invariant.0 c.loop-place.invariant.1 step.cells,
     )
 

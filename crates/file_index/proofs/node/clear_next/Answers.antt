@@ -18,4 +18,5 @@ returns-clause-cells c =
     let some : 0 < vec_len c.index.result.now = grind (arith, nat_tests, c.is_empty.ensures, c.if-is_empty.false) in
     let len = node_len nodes.items (c.args.place / 64) c.index.result.now (omega (arith, c.requires.in_root, nodes.ok.0)) c.index.ensures in
     rw c.write_cell.ensures
-    (clears_one c.args.place (cells nodes.items) (omega (arith, cells_long nodes.items, c.requires.in_root, nodes.ok.0)) (omega (arith, len, some)) c.requires.whole)
+    (clears_one c.args.place (cells nodes.items) (omega (arith, cells_long nodes.items, c.requires.in_root, nodes.ok.0))
+    (omega (arith, len, some)) c.requires.whole)

@@ -7,4 +7,5 @@ use Rattle.file_index.proofs.node.empty_nodes.Goals as goal
 pub returns : goal.returns
 returns c =
     let nodes = c.loop-alloc.nodes in
-    opens_root (cells nodes.items) (omega (arith, cells_long nodes.items, nodes.ok.0, c.loop-alloc.invariant.0, c.loop-alloc-test.false, c.len.ensures)) c.loop-alloc.invariant.1
+    opens_root (cells nodes.items)
+    (omega (arith, cells_long nodes.items, nodes.ok.0, c.loop-alloc.invariant.0, c.loop-alloc-test.false, c.len.ensures)) c.loop-alloc.invariant.1

@@ -1,17 +1,20 @@
-use Rattle.std.proofs.Common.{◌%◌, None, sym, ◌∙◌, arith}
-use Rattle.std.proofs.lemmas.List.{get_or_default}
+use Rattle.std.proofs.Common.{◌%◌, None, get_or, sym, ap, ◌∙◌, arith}
 use Rattle.file_index.proofs.Nodes.{look_beyond, look_node, look_short}
 use Rattle.file_index.proofs.node.read_cell.Goals as goal
 
-pub returns-then-nodes-at : goal.returns-then-nodes-at
-returns-then-nodes-at c = sym (look_beyond c.args.nodes.now c.args.place (omega (arith, c.if-nodes-at.true)))
+pub returns-in_err-node : goal.returns-in_err-node
+returns-in_err-node c =
+    c.from_residual.ensures ∙ sym (look_beyond c.args.nodes.now c.args.place (omega (arith, c.in_err-node.ensures.lookup)))
 
-pub returns-then-len-place : goal.returns-then-len-place
-returns-then-len-place c =
-    look_short c.args.nodes.now c.args.place c.index-nodes-at.result (omega (arith, c.if-nodes-at.false)) c.index-nodes-at.is (omega (arith, c.if-len-place.true, c.len.ensures))
+pub returns-in_err-get : goal.returns-in_err-get
+returns-in_err-get c =
+    let found = c.in_ok-node.ensures.lookup in
+    c.from_residual-in_err-get.ensures
+    ∙ look_short c.args.nodes.now c.args.place c.in_ok-node.node.now found.3.0 found.1
+    (omega (arith, c.in_err-get.ensures.lookup.3, c.deref.ensures.len))
 
 pub returns : goal.returns
 returns c =
-    let node = c.index-nodes-at.result in
-    c.index.ensures ∙ get_or_default node.items (c.args.place % 64) _ None (omega (arith, c.if-len-place.false, c.len.ensures, node.ok.0))
-    ∙ sym (look_node c.args.nodes.now c.args.place node (omega (arith, c.if-nodes-at.false)) c.index-nodes-at.is)
+    let found = c.in_ok-node.ensures.lookup in
+    c.in_ok-get.ensures.lookup.3.1 None ∙ ap (λ cs. get_or cs (c.args.place % 64) None) c.deref.ensures.value
+    ∙ sym (look_node c.args.nodes.now c.args.place c.in_ok-node.node.now found.3.0 found.1)

@@ -10,9 +10,11 @@ clear_from-requires-clause-few c =
 
 pub invariant_of-self : goal.invariant_of-self
 invariant_of-self c =
-    radix_cleared (cells c.self.inside.nodes.items) (cells c.self.inside.spare.items) c.args.idx c.self.invariant (cells c.clear_from.new.nodes.items) c.clear_from.ensures
+    radix_cleared (cells c.self.inside.nodes.items) (cells c.self.inside.spare.items) _ c.self.invariant
+    (cells c.clear_from.new.nodes.items) c.clear_from.ensures
 
 pub returns : goal.returns
 returns c =
     rw (← c.self.view_is)
-    (cut_off (cells c.self.inside.nodes.items) (cells c.self.inside.spare.items) c.args.idx c.self.invariant (cells c.clear_from.new.nodes.items) c.clear_from.ensures)
+    (cut_off (cells c.self.inside.nodes.items) (cells c.self.inside.spare.items) c.args.idx c.self.invariant
+    (cells c.clear_from.new.nodes.items) c.clear_from.ensures)

@@ -25,7 +25,8 @@ returns-in_err-open_root-clause-short c =
     let spare = c.self.inside.spare in
     let missing = rw c.deref.ensures.value at c.missing.ensures in
     rw (← c.self.view_is)
-    (on_err c.from_residual-in_err-open_root.result (room_too_small (filled (cells c.self.inside.nodes.items)) (length (cells spare.items)) c.args.more
+    (on_err c.from_residual-in_err-open_root.result
+    (room_too_small (filled (cells c.self.inside.nodes.items)) (length (cells spare.items)) c.args.more
     (omega (arith, missing, c.min-wanted.ensures, c.len-spare.ensures, c.if-wanted-spare.false, cells_long spare.items, spare.ok.0))))
 
 pub returns-in_err-append-clause-short : goal.returns-in_err-append-clause-short
@@ -33,26 +34,28 @@ returns-in_err-append-clause-short c =
     let spare = c.self.inside.spare in
     let missing = rw c.deref.ensures.value at c.missing.ensures in
     rw (← c.self.view_is)
-    (on_err c.from_residual-in_err-append.result (room_too_small (filled (cells c.self.inside.nodes.items)) (length (cells spare.items)) c.args.more
+    (on_err c.from_residual-in_err-append.result
+    (room_too_small (filled (cells c.self.inside.nodes.items)) (length (cells spare.items)) c.args.more
     (omega (arith, missing, c.min-wanted.ensures, c.len-spare.ensures, c.if-wanted-spare.false, cells_long spare.items, spare.ok.0))))
 
 pub returns-in_err-append-clause-map : goal.returns-in_err-append-clause-map
 returns-in_err-append-clause-map c =
     rw (← c.self.view_is)
-    (same_radix (cells c.self.inside.nodes.items) (cells c.self.inside.spare.items) (cells c.open_root.new.nodes.items) (cells c.append.new.self.items)
-    c.self.invariant c.in_ok-open_root.ensures.ok)
+    (same_radix (cells c.self.inside.nodes.items) (cells c.self.inside.spare.items) (cells c.open_root.new.nodes.items)
+    (cells c.append.new.self.items) c.self.invariant c.in_ok-open_root.ensures.ok)
 
 pub returns-in_err-append-clause-err : goal.returns-in_err-append-clause-err
 returns-in_err-append-clause-err c =
     rw (← c.self.view_is)
-    (on_err c.from_residual-in_err-append.result (index_is (cells c.self.inside.nodes.items) (cells c.self.inside.spare.items) (cells c.open_root.new.nodes.items) (cells c.append.new.self.items)
-    c.self.invariant c.in_ok-open_root.ensures.ok (ap (λ l. length (cells l)) c.in_err-append.ensures.items)))
+    (on_err c.from_residual-in_err-append.result
+    (index_is (cells c.self.inside.nodes.items) (cells c.self.inside.spare.items) (cells c.open_root.new.nodes.items)
+    (cells c.append.new.self.items) c.self.invariant c.in_ok-open_root.ensures.ok (ap (λ l. length (cells l)) c.in_err-append.ensures.items)))
 
 pub returns-clause-map : goal.returns-clause-map
 returns-clause-map c =
     rw (← c.self.view_is)
-    (same_radix (cells c.self.inside.nodes.items) (cells c.self.inside.spare.items) (cells c.open_root.new.nodes.items) (cells c.append.new.self.items)
-    c.self.invariant c.in_ok-open_root.ensures.ok)
+    (same_radix (cells c.self.inside.nodes.items) (cells c.self.inside.spare.items) (cells c.open_root.new.nodes.items)
+    (cells c.append.new.self.items) c.self.invariant c.in_ok-open_root.ensures.ok)
 
 pub returns-clause-ok : goal.returns-clause-ok
 returns-clause-ok c =
@@ -61,7 +64,17 @@ returns-clause-ok c =
     let missing = rw c.deref.ensures.value at c.missing.ensures in
     room_now (cells c.self.inside.nodes.items) (cells spare.items) (cells c.open_root.new.nodes.items) (cells more.items)
     c.self.invariant c.in_ok-open_root.ensures.ok c.args.more (omega (arith, c.ranges.more))
-    (omega (arith, missing, c.min-wanted.ensures, c.len-spare.ensures, c.if-wanted-spare.false, c.in_ok-made.ensures.len, c.in_ok-append.ensures.len, cells_long more.items, more.ok.0))
+    (omega (
+      arith,
+      missing,
+      c.min-wanted.ensures,
+      c.len-spare.ensures,
+      c.if-wanted-spare.false,
+      c.in_ok-made.ensures.len,
+      c.in_ok-append.ensures.len,
+      cells_long more.items,
+      more.ok.0,
+    ))
 
 pub returns-clause-no_less : goal.returns-clause-no_less
 returns-clause-no_less c =

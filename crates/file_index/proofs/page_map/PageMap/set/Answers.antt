@@ -1,4 +1,4 @@
-use Rattle.std.proofs.Common.{Some, ◌/◌, arith}
+use Rattle.std.proofs.Common.{◌/◌, arith}
 use Rattle.file_index.specs.Radix.{cells}
 use Rattle.file_index.proofs.PageMaps.{cells_long, opened_long, root_long, spare_there, set_puts, radix-written}
 use Rattle.file_index.proofs.page_map.PageMap.set.Goals as goal
@@ -21,8 +21,11 @@ open_node-requires-clause-room c = λ none.
 pub invariant_of-self : goal.invariant_of-self
 invariant_of-self c =
     let opens = c.open_node.ensures in
-    let long = opened_long (c.args.idx / 64) (cells c.self.inside.nodes.items) (cells c.open_node.new.nodes.items) (cells c.self.inside.spare.items) (cells c.open_node.new.spare.items) opens in
-    rw c.write_cell.ensures (radix-written (cells c.open_node.new.nodes.items) (cells c.open_node.new.spare.items) c.args.idx (Some c.args.mapping) (omega (arith, long, c.requires.below)) opens.valid)
+    let nodes = c.open_node.new.nodes in
+    let spare = c.open_node.new.spare in
+    let long =
+    opened_long (c.args.idx / 64) (cells c.self.inside.nodes.items) (cells nodes.items) (cells c.self.inside.spare.items) (cells spare.items) opens in
+    rw c.write_cell.ensures (radix-written (cells nodes.items) (cells spare.items) c.args.idx _ (omega (arith, long, c.requires.below)) opens.valid)
 
 pub returns : goal.returns
 returns c =
