@@ -68,7 +68,8 @@ same_some (Some m) = refl
 pub refilled_is : (d : Disk) (ino : ℕ) (n : InodeState) (name : List ℕ) (to : ℕ) → IsStateOf d ino n → named d name ≡ Some ino
     → refilled d name to ≡ (if not (to % 4096 == 0) && nat_lt to n.size && is_some (get n.map.map (to / 4096)) then 1 else 0)
 refilled_is d ino n name to state leads =
-    ap (λ (r : Option ℕ). if not (to % 4096 == 0) && nat_lt to (size_of (d.inode (inode_of r)).log) && is_some (maps d (inode_of r) (to / 4096)) then 1
+    ap (λ (r : Option ℕ). if not (to % 4096 == 0) && nat_lt to (size_of (d.inode (inode_of r)).log) && is_some (maps d (inode_of r)
+    (to / 4096)) then 1
     else 0) leads
     ∙ ap (λ (k : ℕ). if not (to % 4096 == 0) && nat_lt to k && is_some (maps d ino (to / 4096)) then 1 else 0) (state.is.size_is state.used)
     ∙ ap (λ (t : Bool). if not (to % 4096 == 0) && nat_lt to n.size && t then 1 else 0)
