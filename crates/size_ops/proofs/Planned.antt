@@ -1,6 +1,6 @@
 -- Why a cut is refused by the files, and what it takes where it is granted.
-use Rattle.std.proofs.Common.{◌≡◌, ℕ, ◌+◌, ◌%◌, ◌/◌, ◌<◌, ◌≤◌, Bool, true, false, List, [], length, refl, sym, ◌∙◌, ap, subst, arith}
-use Rattle.std.specs.Prelude.{Result, Ok, Err, IfErr, slice_get, slice_index, if◌then◌else◌, ◌==◌, ◌&&◌, not, nat_lt, is_some, Option, Some, None}
+use Rattle.std.proofs.Common.{◌≡◌, ℕ, ◌+◌, ◌%◌, ◌/◌, ◌<◌, ◌≤◌, Bool, true, false, List, [], refl, sym, ◌∙◌, ap, subst, arith}
+use Rattle.std.specs.Prelude.{Result, Ok, Err, IfErr, slice_get, if◌then◌else◌, ◌==◌, ◌&&◌, not, nat_lt, is_some, Option, Some, None}
 use Rattle.std.specs.Option.{option_map}
 use Rattle.std.specs.Result.{IsErrAnd}
 use Rattle.std.specs.FinMap.{get}
@@ -11,8 +11,8 @@ use Rattle.log_entry.specs.Name.{IsLegal}
 use Rattle.file_content.specs.Content.{kept}
 use Rattle.file_index.specs.declared.page_map.Mapping.{Mapping}
 use Rattle.dn_model.specs.Maps.{Mapping as DiskMapping, size_of}
-use Rattle.dn_model.specs.Log.{Log, IsPaged, count, tail_at, at_tail}
-use Rattle.dn_model.specs.Disk.{Disk, IsUsed, Live, of_logs, maps}
+use Rattle.dn_model.specs.Log.{Log, IsPaged, count, tail_at}
+use Rattle.dn_model.specs.Disk.{Disk, IsUsed, maps}
 use Rattle.dn_model.specs.Files.{named}
 use Rattle.dn_model.specs.Apply.{bad_name, missed, too_big}
 use Rattle.dn_model.specs.History.{refilled, inode_of, room, extra}

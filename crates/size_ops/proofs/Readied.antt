@@ -79,8 +79,8 @@ module _ {D F : Type 0} (state : D → State) (v v1 : Volume D F) (d : Disk) (is
         was.2.holder ∙ by_holder was.0 was.1 (subst (λ (xs : List ℕ). Contains xs ino) (sym asks.holds)
         (subst (λ (i : ℕ). Contains (ask.ino ∷ []) i) here (0, omega arith, refl))) was.0.holder refl
       where
-        by_holder : (x : InodeState) → slice_get v.parts.inodes.items ino ≡ Some x → Contains (wants d op) ino →
-        (o : Option ℕ) → x.holder ≡ o → x.holder ≡ None
+        by_holder : (x : InodeState) → slice_get v.parts.inodes.items ino ≡ Some x → Contains (wants d op) ino → (o : Option ℕ)
+            → x.holder ≡ o → x.holder ≡ None
         by_holder x at wanted None is = is
         by_holder x at wanted (Some q) is = absurd (has.unhindered.loose ino q wanted ((is_v.holders.told ino q x at).0 is))
 

@@ -8,7 +8,7 @@ use Rattle.pm_device.specs.State.{State}
 use Rattle.log_entry.specs.Name.{IsLegal}
 use Rattle.dn_model.specs.Disk.{Disk, IsUsed}
 use Rattle.dn_model.specs.Files.{bytes, named, files}
-use Rattle.dn_model.specs.Apply.{Replies, grants, bad_name, missed, bytes_or_none}
+use Rattle.dn_model.specs.Apply.{grants, bad_name, missed, bytes_or_none}
 use Rattle.dn_model.specs.declared.op.Op.TheVariants.{Size}
 use Rattle.dn_model.specs.declared.op.Reply.TheVariants.{Number, Refused}
 use Rattle.dn_model.specs.declared.op.Refusal.{Refusal}

@@ -212,8 +212,13 @@ finish_cut-requires g c =
     let tail_is = c.load-tail.ensures ∙ ap (slice_index s.now) c.inode_word.ensures ∙ tail_read_of found.0 b s who f x found.1 last.flies last.kind in
     let gives = subst (λ (n : ℕ). Gives (IsUnsharedAmong found.0 c.index.result.now.map.map n (4096 - n)) b.free c.give_back_unshared.new.free)
     c.first_gone-from.ensures (c.give_back_unshared.ensures found.0 (is_table found.0 b s found.1)) in
-    record { can = (x, can_finish_cut found.0 b s who f x found.1 last c.index.result.now node_is _ c.load-tail.result tail_is gives refl
-    refl refl refl refl) }
+    record {
+      can = (
+        x,
+        can_finish_cut found.0 b s who f x found.1 last c.index.result.now node_is _ c.load-tail.result tail_is gives refl
+            refl refl refl refl,
+      );
+    }
 
 pub returns-clause-agrees : goal.returns-clause-agrees
 returns-clause-agrees g c =
@@ -242,8 +247,11 @@ returns-clause-agrees g c =
     let e2 = ap length c.deref-2.ensures.value in
     let finish = c.finish_cut.ensures x (can_finish_cut found.0 b s who f x found.1 last c.index.result.now node_is _ c.load-tail.result
     tail_is gives refl refl refl refl refl) in
-    agrees_with _ (volume_by S g.F.Fingerprint.print c.args.v.now (record { device = c.append_items.new.device; print = c.args.v.now.print;
-    parts = _ })
+    agrees_with _ (volume_by S g.F.Fingerprint.print c.args.v.now (record {
+      device = c.append_items.new.device;
+      print = c.args.v.now.print;
+      parts = _;
+    })
     found.0 who f x found.1 last.flies last.kind (fact found.0 b s who f x found.1 last) (cut_after found.0 b s who f x found.1 last)
     (from found.0 b s who f x found.1 last) (4096 - from found.0 b s who f x found.1 last) (decides found.0 b s who f x found.1 last)
     between there c.append_items.ensures.faults stands c.in-Ok.ensures.settles (omega (arith, c.append_items.ensures.spare, e1, e2))

@@ -1,11 +1,10 @@
-use Rattle.std.proofs.Common.{◌≡◌, ℕ, List, sym, ◌∙◌, ap, subst, arith}
+use Rattle.std.proofs.Common.{ℕ, List, sym, subst}
 use Rattle.dn_model.specs.declared.op.Op.{Op}
 use Rattle.dn_model.specs.declared.op.Reply.TheVariants.{Refused}
 use Rattle.dn_model.specs.declared.op.Refusal.{Refusal}
 use Rattle.dn_model.specs.declared.op.Refusal.TheVariants.{TooBig}
 use Rattle.dn_volume.specs.Begins.{IsAnswerOf}
 use Rattle.data_begins.specs.Lookup.{IsFound, IsLookupRefusal}
-use Rattle.size_ops.specs.Planning.{IsCutOf}
 use Rattle.size_ops.specs.Sizing.{IsAnswerNow}
 use Rattle.size_ops.proofs.Planned.{cut_refused, cut_too_big, passed_on}
 use Rattle.size_ops.proofs.plan.file_to_cut.Goals as goal

@@ -1,4 +1,4 @@
-use Rattle.std.proofs.Common.{◌≡◌, ℕ, ◌<◌, length, sym, ◌∙◌, ap, subst, arith}
+use Rattle.std.proofs.Common.{ℕ, ◌<◌, length, sym, ◌∙◌, ap, subst, arith}
 use Rattle.std.specs.Prelude.{slice_index}
 use Rattle.dn_volume.proofs.Tables.{running_disk}
 use Rattle.data_begins.proofs.LiveFiles.{in_nodes, in_geometry, node_at, tail_within, tail_read}
