@@ -67,8 +67,8 @@ fn pages_to_fill(node: &InodeState, size: u64) -> u64
 // How many pages a log with this tail grows by for so many slots, which are fewer than a page has.
 fn pages_for_slots(tail: u64, slots: u64) -> u64
     ensures few { result ≤ 1 }
-    ensures pages { (g : Geometry) (log : Log) → IsPaged g log → tail ≡ tail_at log.pages (count log)
-        → result ≡ extra slots log }
+    ensures pages { (g : Geometry) (log : Log) → IsPaged g log
+        → tail ≡ tail_at log.pages (count log) → result ≡ extra slots log }
 {
     if room_of(tail) < slots { 1 } else { 0 }
 }
@@ -89,7 +89,8 @@ fn first_lost(size: u64, pages: u64) -> u64
 pub(crate) fn plan_cut<D: Pm, F: Fingerprint>(v: &Volume<D, F>, ino: u64, op: &Op) -> CutPlan
     requires agrees { Agrees D.state v.now }
     requires running { v.now.parts.stopped ≡ false }
-    requires cut { (d : Disk) → IsVolume d v.now.parts (D.state v.now.device) → IsCutOf d op.now ino }
+    requires cut { (d : Disk) → IsVolume d v.now.parts (D.state v.now.device) → IsCutOf d op.now
+        ino }
     ensures { (d : Disk) → IsVolume d v.now.parts (D.state v.now.device) → IsPlanOf d op.now ino
         result }
 {
