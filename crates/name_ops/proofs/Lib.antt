@@ -16,3 +16,4 @@ pub mod Counted
 pub mod Put
 pub mod Committed
 pub mod FoundNew
+pub mod Listed

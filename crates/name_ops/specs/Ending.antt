@@ -14,6 +14,7 @@ use Rattle.dn_volume.specs.declared.flight.Change.TheVariants.{Names}
 use Rattle.dn_volume.specs.declared.flight.NameChange.{NameChange}
 use Rattle.dn_volume.specs.declared.volume.InodeState.{InodeState}
 use Rattle.dn_volume.specs.declared.volume.Parts.{Parts}
+use Rattle.dn_volume.specs.Parties.{Flies}
 use Rattle.dn_volume.specs.PlannedNames.{name_put}
 use Rattle.name_ops.specs.Landing.{names_after, TurnsInode, LetsGo, turn_units, places_kept, IsToCommit}
 
@@ -54,6 +55,13 @@ pub record KeepsPlaces (n n' : InodeState) : Type 0 where
 pub record IsCreate (op : Op) : Type 0 where
   pub name : List ℕ
   pub is : op ≡ Create name
+
+-- an operation on names of this client is in flight
+pub record FliesNames (b : Parts) (who : ℕ) : Type 0 where
+  pub flight : Flight
+  pub change : NameChange
+  pub flies : Flies b who flight
+  pub change_is : flight.change ≡ Names change
 
 -- a creation of this client is in flight, and all that has to stand before its commit was stored
 pub record IsNextToCommit (b : Parts) (who : ℕ) : Type 0 where

@@ -6,6 +6,8 @@ pub mod create;
 pub mod ending;
 pub mod found;
 pub mod laws;
+pub mod list;
+pub mod names;
 pub mod opening;
 pub mod plan;
 pub mod prepare;
