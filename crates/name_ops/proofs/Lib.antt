@@ -14,3 +14,4 @@ pub mod Words
 pub mod GivenPages
 pub mod Counted
 pub mod Put
+pub mod Committed

@@ -15,7 +15,7 @@ use Rattle.dn_volume.specs.declared.flight.NameChange.{NameChange}
 use Rattle.dn_volume.specs.declared.volume.InodeState.{InodeState}
 use Rattle.dn_volume.specs.declared.volume.Parts.{Parts}
 use Rattle.dn_volume.specs.PlannedNames.{name_put}
-use Rattle.name_ops.specs.Landing.{names_after, TurnsInode, LetsGo, turn_units, places_kept}
+use Rattle.name_ops.specs.Landing.{names_after, TurnsInode, LetsGo, turn_units, places_kept, IsToCommit}
 
 -- these pages became free, and nothing else changed
 pub record Gives (given : ℕ → Type 0) (old new : FreePages) : Type 0 where
@@ -54,6 +54,13 @@ pub record KeepsPlaces (n n' : InodeState) : Type 0 where
 pub record IsCreate (op : Op) : Type 0 where
   pub name : List ℕ
   pub is : op ≡ Create name
+
+-- a creation of this client is in flight, and all that has to stand before its commit was stored
+pub record IsNextToCommit (b : Parts) (who : ℕ) : Type 0 where
+  pub flight : Flight
+  pub change : NameChange
+  pub is : IsToCommit b who flight change
+  pub kind : IsCreate flight.op
 
 -- there is room for the end of an operation
 pub record CanLand (f : Flight) (c : NameChange) (b : Parts) : Type 0 where
