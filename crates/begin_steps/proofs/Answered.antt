@@ -112,6 +112,13 @@ module _ (d : Disk) (b : Parts) (op : Op) where
   none_waits : b.reclaiming.waiting ≡ 0 → (waiting : ℕ) → WaitsForRelease d b op waiting → ⊥
   none_waits none waiting waits = let some = waits.some in let is = waits.is in omega (arith, some, is, none)
 
+  -- what is answered at once holds nothing and waits for nothing
+  pub once_last : IsAtOnce op → IsLast d b op
+  once_last once = record {
+    idle = λ holder busy. none_held (wants d op) holder (wants_none d op once) busy.held;
+    ready = λ waiting waits. waits.unhindered.lasts once;
+  }
+
   pub answer_last : (reply : Reply) → IsAnswerOf d b op reply → IsLast d b op
   answer_last reply (of_files _ replies once) = record {
     idle = λ holder busy. none_held (wants d op) holder (wants_none d op (once busy.granted)) busy.held;

@@ -13,14 +13,19 @@ use Rattle.dn_volume.specs.declared.volume.InodeState.{InodeState}
 use Rattle.dn_volume.specs.declared.volume.InodeUse.TheVariants as used
 use Rattle.dn_volume.specs.declared.volume.Parts.{Parts}
 use Rattle.dn_volume.specs.declared.volume.Volume.{Volume}
+use Rattle.reclaim.specs.Dying.{IsAt}
 
--- a place is mapped by the item at this slot
-pub record HasPlaceBy (map : FinMap nat_cmp Mapping) (slot : ℕ) : Type 0 where
-  pub idx : ℕ
-  pub in_file : idx < 4096
+-- this place is mapped by the item at this slot
+pub record IsPlaceBy (map : FinMap nat_cmp Mapping) (slot idx : ℕ) : Type 0 where
   pub by : Mapping
   pub mapped : get map idx ≡ Some by
   pub by_item : by.slot ≡ slot
+
+-- some place of the file is
+pub record HasPlaceBy (map : FinMap nat_cmp Mapping) (slot : ℕ) : Type 0 where
+  pub idx : ℕ
+  pub in_file : idx < 4096
+  pub is : IsPlaceBy map slot idx
 
 -- the inode is live, at the item's round, and the item maps a place of it
 pub record IsFreshIn (work : Work) (node : InodeState) : Type 0 where
@@ -29,10 +34,8 @@ pub record IsFreshIn (work : Work) (node : InodeState) : Type 0 where
   pub place : HasPlaceBy node.map.map work.slot
 
 -- so it is with the inode that the item names
-pub record IsFreshWork (inodes : List InodeState) (work : Work) : Type 0 where
-  pub node : InodeState
-  pub there : slice_get inodes work.ino ≡ Some node
-  pub fresh : IsFreshIn work node
+abbrev pub IsFreshWork : List InodeState → Work → Type 0
+IsFreshWork inodes work = IsAt (IsFreshIn work) inodes work.ino
 
 -- what the item's words tell of its places, none of which is done
 abbrev pub item_at : List ℕ → Work → Sharing

@@ -4,4 +4,12 @@
 //! `daemon` makes one event of that work at a call. The daemon is actor 15.
 #![tactic(auto)]
 
+pub mod begin;
+pub mod end;
+pub mod front;
+pub mod insert;
 pub mod page;
+pub mod pass;
+pub mod raise;
+pub mod remap;
+pub mod step;

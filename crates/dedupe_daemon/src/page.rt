@@ -1,9 +1,7 @@
 // The bytes of pages, without memory: what is begun may take none.
-ghost use Rattle.std.specs.Prelude.{◌≡◌, ◌+◌, ◌*◌, ◌<◌, ◌≤◌, ◌↔◌, length, IsTrue};
+ghost use Rattle.std.specs.Prelude.{◌≡◌, ◌+◌, ◌*◌, ◌<◌, ◌≤◌, length};
 ghost use Rattle.page_bytes.specs.Bytes.{IsPageOf};
-ghost use Rattle.dedupe_daemon.specs.Pages.{HaveEqualBytes};
 
-use fingerprint::Fingerprint;
 use pm_device::Pm;
 use pm_layout::{PAGE_BYTES, PAGE_WORDS};
 

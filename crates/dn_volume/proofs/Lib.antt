@@ -39,3 +39,4 @@ pub mod Hands
 pub mod HandsKept
 pub mod Between
 pub mod Since
+pub mod Resting

@@ -106,6 +106,6 @@ module _ {D F : Type 0} (state : D → State) (w w1 w2 : Volume D F) (print : Pr
   lowers_since n less = record {
     left_is = less.left_is;
     less = subst (λ (k : ℕ). w2.parts.reclaiming.waiting < k) un.same.work.waiting less.less;
-    queue = less.queue ∙ ap length un.same.work.queue;
+    queue = less.queue ∙ un.same.work.queue;
     sharing = less.sharing ∙ un.same.work.sharing;
   }

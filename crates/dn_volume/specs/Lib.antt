@@ -24,3 +24,4 @@ pub mod Wrong
 pub mod Steps
 pub mod Laws
 pub mod Kinds
+pub mod Resting

@@ -21,8 +21,10 @@ put_none j x =
     ap (λ (b : Bool). if b then slice_index [] (j - 0) else x) none
 
 module _ (g : Geometry) (who : ℕ) (map : FinMap nat_cmp Mapping) (size place block : ℕ) (s t : State) (name : List ℕ) where
-  pub fills_write : (at : ℕ) (text : List ℕ) → FillsPlace g who map size place at text block s t → FillsByOp g who map size (Write name at text) place block s t
-  fills_write at text fills = λ d ino is valid same stands. filled-whole d ino size map is t who block place at text (fills d ino size is (omega arith) valid same stands)
+  pub fills_write : (at : ℕ) (text : List ℕ) → FillsPlace g who map size place at text block s t
+      → FillsByOp g who map size (Write name at text) place block s t
+  fills_write at text fills = λ d ino is valid same stands.
+      filled-whole d ino size map is t who block place at text (fills d ino size is (omega arith) valid same stands)
 
   pub fills_cut : (to : ℕ) → to ≤ size → FillsPlace g who map to place 0 [] block s t → FillsByOp g who map size (Cut name to) place block s t
   fills_cut to le fills = λ d ino is valid same stands.

@@ -59,7 +59,8 @@ use Rattle.file_ops.specs.Filling.{next_block, one_filled, StoresFill, Fills, Fi
 use Rattle.file_ops.proofs.Taken.{block_taken, right_apart}
 
 -- what was planned stays planned
-plans_filled : (d : Disk) (f : Flight) (c : DataChange) (op : Op) → PlansData d f c op → PlansData d (one_filled f c) (record c { filled = c.filled + 1 }) op
+plans_filled : (d : Disk) (f : Flight) (c : DataChange) (op : Op)
+    → PlansData d f c op → PlansData d (one_filled f c) (record c { filled = c.filled + 1 }) op
 plans_filled d f c (Create name) is = absurd is
 plans_filled d f c (Write name at text) is = record {
   held = is.held;
@@ -90,7 +91,8 @@ plans_filled d f c (Size name) is = absurd is
 plans_filled d f c ListAll is = absurd is
 
 module _ (d : Disk) (b b' : Parts) (s t : State) (who : ℕ) (f : Flight) (c : DataChange) (volume : IsVolume d b s) (agree : Agree t.now t.past)
-    (flies : Flies b who f) (kind : f.change ≡ Data c) (some : c.filled < length c.blocks.items) (stores : StoresFill d who f c s t) (fills : Fills who f c b b') where
+    (flies : Flies b who f) (kind : f.change ≡ Data c) (some : c.filled < length c.blocks.items) (stores : StoresFill d who f c s t)
+    (fills : Fills who f c b b') where
   abbrev c' : DataChange
   c' = record c { filled = c.filled + 1 }
 
@@ -110,7 +112,8 @@ module _ (d : Disk) (b b' : Parts) (s t : State) (who : ℕ) (f : Flight) (c : D
   taken i lt = block_taken f c kind (slice_index c.blocks.items i) (Contains-get_or c.blocks.items i 0 lt)
 
   unused_of : (p : ℕ) → Contains (taken_by f) p → IsUnused d p
-  unused_of p has = volume.space.unused p (λ none. let his = volume.space.takes who p (for_client f flies has) in let client = flies.client in omega (arith, his, none, client))
+  unused_of p has = volume.space.unused p (λ none.
+      let his = volume.space.takes who p (for_client f flies has) in let client = flies.client in omega (arith, his, none, client))
 
   unused : (i : ℕ) → i < length c.blocks.items → IsUnused d (slice_index c.blocks.items i)
   unused i lt = unused_of (slice_index c.blocks.items i) (taken i lt)
@@ -164,12 +167,15 @@ module _ (d : Disk) (b b' : Parts) (s t : State) (who : ℕ) (f : Flight) (c : D
       right_blocks : AreApart c.blocks.items
       right_blocks = right_apart (f.fresh.items ++ f.spare.items) c.blocks.items all_apart
 
-  own_filled : (i : ℕ) → i < c.filled + 1 → IsFilledBy who t (slice_index c.blocks.items i) (λ k. new_byte f.op (bytes d f.ino) (4096 * (c.first + i) + k))
+  own_filled : (i : ℕ) → i < c.filled + 1
+      → IsFilledBy who t (slice_index c.blocks.items i) (λ k. new_byte f.op (bytes d f.ino) (4096 * (c.first + i) + k))
   own_filled i lt = ⊎_elim
-      (λ (low : i < c.filled). filled-stores who s t (slice_index c.blocks.items i) (next_block c) (λ k. new_byte f.op (bytes d f.ino) (4096 * (c.first + i) + k))
+      (λ (low : i < c.filled). filled-stores who s t (slice_index c.blocks.items i) (next_block c)
+      (λ k. new_byte f.op (bytes d f.ino) (4096 * (c.first + i) + k))
       (block-apart i low) (block-inside i (omega (arith, low, some))) stores.only stores.keeps (fact.filled i low))
       (λ (high : c.filled ≤ i). let here : c.filled ≡ i = omega (arith, lt, high) in
-      subst (λ (j : ℕ). IsFilledBy who t (slice_index c.blocks.items j) (λ k. new_byte f.op (bytes d f.ino) (4096 * (c.first + j) + k))) here stores.filled)
+      subst (λ (j : ℕ). IsFilledBy who t (slice_index c.blocks.items j) (λ k. new_byte f.op (bytes d f.ino) (4096 * (c.first + j) + k))) here
+      stores.filled)
       (cases_lt i c.filled)
 
   own_flight : IsFlight d who f' t
@@ -261,27 +267,36 @@ module _ (d : Disk) (b b' : Parts) (s t : State) (who : ℕ) (f : Flight) (c : D
       let spare = stores.spare in
       record {
         owes = record {
-          units = subst (λ x. owed_sum b' (λ r. r.units) + units_to_share x + (FALL_UNITS * one_if b'.reclaiming.raised + ZERO_CHECK_UNITS * one_if b'.reclaiming.zero_check) ≤ b'.owed.units) (sym st.replaces.sharing)
-              (subst (λ x. owed_sum b' (λ r. r.units) + units_to_share b.sharing + (FALL_UNITS * one_if x.raised + ZERO_CHECK_UNITS * one_if x.zero_check) ≤ b'.owed.units)
+          units = subst (λ x. owed_sum b' (λ r. r.units) + units_to_share x
+              + (FALL_UNITS * one_if b'.reclaiming.raised + ZERO_CHECK_UNITS * one_if b'.reclaiming.zero_check) ≤ b'.owed.units)
+              (sym st.replaces.sharing)
+              (subst (λ x. owed_sum b' (λ r. r.units) + units_to_share b.sharing
+              + (FALL_UNITS * one_if x.raised + ZERO_CHECK_UNITS * one_if x.zero_check) ≤ b'.owed.units)
               (sym st.reclaiming) (omega (arith, m_units, o_units, w_units, units_was)));
-          trace = subst (λ x. owed_sum b' (λ r. r.trace) + changes_to_share x ≤ b'.owed.trace) (sym st.replaces.sharing) (omega (arith, m_trace, o_trace, w_trace));
+          trace = subst (λ x. owed_sum b' (λ r. r.trace) + changes_to_share x ≤ b'.owed.trace) (sym st.replaces.sharing)
+              (omega (arith, m_trace, o_trace, w_trace));
           history = omega (arith, m_history, o_history, w_history);
           queue = omega (arith, m_queue, o_queue, w_queue, queue_was);
-          releases = subst (λ x. owed_sum b' (λ r. r.releases) + one_if x.raised ≤ b'.owed.releases) (sym st.reclaiming) (omega (arith, m_releases, o_releases, w_releases));
+          releases = subst (λ x. owed_sum b' (λ r. r.releases) + one_if x.raised ≤ b'.owed.releases) (sym st.reclaiming)
+              (omega (arith, m_releases, o_releases, w_releases));
         };
         units = let there = was.units in omega (arith, there, o_units, spare);
         trace = subst (λ x. vec_len x + b'.owed.trace ≤ vec_capacity x) (sym fills.trace) (let there = was.trace in omega (arith, there, o_trace));
-        history = subst (λ x. vec_len x + b'.owed.history ≤ vec_capacity x) (sym fills.history) (let there = was.history in omega (arith, there, o_history));
+        history = subst (λ x. vec_len x + b'.owed.history ≤ vec_capacity x) (sym fills.history)
+            (let there = was.history in omega (arith, there, o_history));
         queue = subst (λ x. b'.owed.queue ≤ x.room) (sym st.queue) (let there = was.queue in omega (arith, there, o_queue));
-        releases = subst (λ x. deque_len x.releases + b'.owed.releases ≤ deque_capacity x.releases) (sym st.reclaiming) (let there = was.releases in omega (arith, there, o_releases));
+        releases = subst (λ x. deque_len x.releases + b'.owed.releases ≤ deque_capacity x.releases) (sym st.reclaiming)
+            (let there = was.releases in omega (arith, there, o_releases));
         names = subst (λ x. b'.owed.history ≤ x.room) (sym st.names) (let there = was.names in omega (arith, there, o_history));
-        places = λ q g x n there is at. places_on q g x n (whose who st.client (Some f) (Some f') b b' st.replaces q g there) is (subst (λ xs. slice_get xs.items g.ino ≡ Some n) st.inodes at);
+        places = λ q g x n there is at. places_on q g x n (whose who st.client (Some f) (Some f') b b' st.replaces q g there) is
+            (subst (λ xs. slice_get xs.items g.ino ≡ Some n) st.inodes at);
       }
     where
       data_is : (x y : DataChange) → Data x ≡ Data y → x ≡ y
       data_is x y e = cc
 
-      places_on : (q : ℕ) (g : Flight) (x : DataChange) (n : InodeState) → Whose who st.client (Some f) (Some f') b b' st.replaces q g → g.change ≡ Data x → slice_get b.inodes.items g.ino ≡ Some n → length x.blocks.items ≤ n.map.room
+      places_on : (q : ℕ) (g : Flight) (x : DataChange) (n : InodeState) → Whose who st.client (Some f) (Some f') b b' st.replaces q g
+          → g.change ≡ Data x → slice_get b.inodes.items g.ino ≡ Some n → length x.blocks.items ≤ n.map.room
       places_on q g x n (its_own same' is) kind_is at =
           let one : f' ≡ g = cc is in
           let change : c' ≡ x = data_is c' x (ap (λ (h : Flight). h.change) one ∙ kind_is) in
@@ -298,12 +313,14 @@ module _ (d : Disk) (b b' : Parts) (s t : State) (who : ℕ) (f : Flight) (c : D
     holders = same_holders who f f' b b' st d volume.holders;
     space = same_space who f f' b b' st d volume.space;
     table = subst (AreSlotsOf d) (sym st.fact) volume.table;
-    counts = same_counts who f f' b b' st (record { raised = refl }) (let same' = owed_moved (λ r. r.releases) in omega (arith, same')) d volume.counts;
+    counts = same_counts who f f' b b' st (record { raised = refl })
+        (let same' = owed_moved (λ r. r.releases) in omega (arith, same')) d volume.counts;
     flights = record { clients = st.replaces.clients ∙ volume.flights.clients; each = each };
     queue = same_queue who f f' b b' st d volume.queue;
     sharing = stay.1.sharing (λ same'. let small = few who st.client (Some f) (Some f') b b' st.replaces in omega (arith, small, same'));
     reclaiming = record {
-      waiting = subst (λ r. r.waiting + one_if r.raised ≡ one_if r.zero_check + 2 * length r.releases.items + total d.geometry.inodes (dying_units d)) (sym st.reclaiming) volume.reclaiming.waiting;
+      waiting = subst (λ r. r.waiting + one_if r.raised ≡ one_if r.zero_check + 2 * length r.releases.items + total d.geometry.inodes (dying_units d))
+          (sym st.reclaiming) volume.reclaiming.waiting;
       zero_check = λ slot is. volume.reclaiming.zero_check slot (ap (λ r. r.zero_check) (sym st.reclaiming) ∙ is);
       raised = stay.1.raised (λ same'. let small = few who st.client (Some f) (Some f') b b' st.replaces in omega (arith, small, same'));
     };

@@ -24,3 +24,7 @@ pub mod Nexts
 pub mod Flying
 pub mod FillEnds
 pub mod NextStep
+pub mod Replied
+pub mod WriteAsks
+pub mod WritePlanned
+pub mod WriteOpened

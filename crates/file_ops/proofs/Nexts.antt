@@ -40,6 +40,10 @@ cut_within true q r n e some = absurd (omega (arith, e, some))
 cut_within false true r n e some = refl
 cut_within false false r n e some = absurd (omega (arith, e, some))
 
+-- whether the place in which a cut falls is filled anew
+abbrev refills_at : Disk → ℕ → ℕ → Bool
+refills_at d ino to = not (to % 4096 == 0) && nat_lt to (size_of (d.inode ino).log) && is_some (maps d ino (to / 4096))
+
 strictly : (a b : ℕ) → nat_lt a b ≡ true → a < b
 strictly a b e = grind (arith, nat_tests)
 
@@ -56,10 +60,11 @@ module _ (d : Disk) (f : Flight) (c : DataChange) (some : c.filled < length c.bl
   fills_of (Write name at text) is = tt
   fills_of (Read name at count) is = absurd is
   fills_of (Cut name to) is =
-      let refills : length c.blocks.items ≡ (if not (to % 4096 == 0) && nat_lt to (size_of (d.inode f.ino).log) && is_some (maps d f.ino (to / 4096)) then 1 else 0)
-      = is.places ∙ ap (λ (r : Option ℕ). if not (to % 4096 == 0) && nat_lt to (size_of (d.inode (inode_of r)).log) && is_some (maps d (inode_of r) (to / 4096)) then 1 else 0) is.leads in
+      let refills : length c.blocks.items ≡ (if refills_at d f.ino to then 1 else 0)
+      = is.places ∙ ap (λ (r : Option ℕ). if refills_at d (inode_of r) to then 1 else 0) is.leads in
       less to (size_of (d.inode f.ino).log)
-      (cut_within (to % 4096 == 0) (nat_lt to (size_of (d.inode f.ino).log)) (is_some (maps d f.ino (to / 4096))) (length c.blocks.items) refills (omega (arith, some)))
+      (cut_within (to % 4096 == 0) (nat_lt to (size_of (d.inode f.ino).log)) (is_some (maps d f.ino (to / 4096))) (length c.blocks.items) refills
+      (omega (arith, some)))
   fills_of (Remove name) is = absurd is
   fills_of (Rename from to) is = absurd is
   fills_of (Size name) is = absurd is
@@ -72,10 +77,11 @@ module _ (d : Disk) (f : Flight) (c : DataChange) (some : c.filled < length c.bl
   placed (Write name at text) is = omega (arith, is.first, is.places, touched_is at (length text) is.some, is.fits, is.some, some)
   placed (Read name at count) is = absurd is
   placed (Cut name to) is =
-      let refills : length c.blocks.items ≡ (if not (to % 4096 == 0) && nat_lt to (size_of (d.inode f.ino).log) && is_some (maps d f.ino (to / 4096)) then 1 else 0)
-      = is.places ∙ ap (λ (r : Option ℕ). if not (to % 4096 == 0) && nat_lt to (size_of (d.inode (inode_of r)).log) && is_some (maps d (inode_of r) (to / 4096)) then 1 else 0) is.leads in
-      let one = one_at_most (not (to % 4096 == 0) && nat_lt to (size_of (d.inode f.ino).log) && is_some (maps d f.ino (to / 4096))) (length c.blocks.items) refills in
-      let test = cut_within (to % 4096 == 0) (nat_lt to (size_of (d.inode f.ino).log)) (is_some (maps d f.ino (to / 4096))) (length c.blocks.items) refills (omega (arith, some)) in
+      let refills : length c.blocks.items ≡ (if refills_at d f.ino to then 1 else 0)
+      = is.places ∙ ap (λ (r : Option ℕ). if refills_at d (inode_of r) to then 1 else 0) is.leads in
+      let one = one_at_most (refills_at d f.ino to) (length c.blocks.items) refills in
+      let test = cut_within (to % 4096 == 0) (nat_lt to (size_of (d.inode f.ino).log)) (is_some (maps d f.ino (to / 4096))) (length c.blocks.items)
+      refills (omega (arith, some)) in
       let lt = strictly to (size_of (d.inode f.ino).log) test in
       omega (arith, is.first, one, some, lt, few)
   placed (Remove name) is = absurd is
@@ -83,7 +89,8 @@ module _ (d : Disk) (f : Flight) (c : DataChange) (some : c.filled < length c.bl
   placed (Size name) is = absurd is
   placed ListAll is = absurd is
 
-module _ (d : Disk) (b : Parts) (s : State) (who : ℕ) (f : Flight) (c : DataChange) (v : IsVolume d b s) (flies : Flies b who f) (kind : f.change ≡ Data c) where
+module _ (d : Disk) (b : Parts) (s : State) (who : ℕ) (f : Flight) (c : DataChange) (v : IsVolume d b s) (flies : Flies b who f)
+    (kind : f.change ≡ Data c) where
   pub fact : IsDataFlight d who f c s
   fact = subst (λ (x : Change). IsFlightOf d who f s x) kind (v.flights.each who f flies)
 
@@ -115,7 +122,8 @@ module _ (d : Disk) (b : Parts) (s : State) (who : ℕ) (f : Flight) (c : DataCh
     taken = block_taken f c kind (next_block c) (Contains-get_or c.blocks.items c.filled 0 some)
 
     pub block_unused : IsUnused d (next_block c)
-    block_unused = v.space.unused (next_block c) (λ none. let his = v.space.takes who (next_block c) (for_client f flies taken) in let client = flies.client in omega (arith, his, none, client))
+    block_unused = v.space.unused (next_block c) (λ none.
+        let his = v.space.takes who (next_block c) (for_client f flies taken) in let client = flies.client in omega (arith, his, none, client))
 
     pub block_inside : next_block c < b.geometry.pages
     block_inside = let high = block_unused.free.data_page.high in omega (arith, high, ap (λ (g : Geometry). g.pages) v.fast.geometry)
@@ -125,8 +133,10 @@ module _ (d : Disk) (b : Parts) (s : State) (who : ℕ) (f : Flight) (c : DataCh
 
     units_part : units_by f (Data c) ≤ owed_sum b (λ room. room.units)
     units_part =
-        let part = term-le (λ k. (owed_to (flight_at b.flights.items k)).units) 14 (who - 1) (omega (arith, v.flights.clients, flight_within b.flights.items (who - 1) f flies.is)) in
-        subst (λ (x : Change). units_by f x ≤ owed_sum b (λ room. room.units)) kind (subst (λ (o : Option Flight). (owed_to o).units ≤ owed_sum b (λ room. room.units)) flies.is part)
+        let part = term-le (λ k. (owed_to (flight_at b.flights.items k)).units) 14 (who - 1)
+        (omega (arith, v.flights.clients, flight_within b.flights.items (who - 1) f flies.is)) in
+        subst (λ (x : Change). units_by f x ≤ owed_sum b (λ room. room.units)) kind
+        (subst (λ (o : Option Flight). (owed_to o).units ≤ owed_sum b (λ room. room.units)) flies.is part)
 
     pub units_owed : FILL_UNITS ≤ b.owed.units
     units_owed = omega (arith, units_part, v.room.owes.units, some)

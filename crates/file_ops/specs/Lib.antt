@@ -3,3 +3,4 @@ pub mod Giving
 pub mod Ending
 pub mod Filling
 pub mod Advancing
+pub mod Asking

@@ -12,7 +12,8 @@ ghost use Rattle.dn_volume.specs.Parties.{Flies};
 ghost use Rattle.dn_volume.specs.Flights.{left_of};
 ghost use Rattle.dn_volume.specs.Agrees.{Agrees, IsVolume};
 ghost use Rattle.dn_volume.specs.Events.{Advances};
-ghost use Rattle.file_ops.specs.Filling.{FillsBytes, FillsByOp, IsToFill, StoresNext, one_filled, IsOneToFill, NotesFill, HasLeft};
+ghost use Rattle.file_ops.specs.Filling.{FillsBytes, FillsByOp, IsToFill, StoresNext, one_filled};
+ghost use Rattle.file_ops.specs.Filling.{IsOneToFill, NotesFill, HasLeft};
 
 use crate::ending::count_call;
 use dn_model::Op;

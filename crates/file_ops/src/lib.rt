@@ -2,11 +2,15 @@
 #![tactic(auto)]
 
 pub mod advance;
+pub mod begin;
 pub mod commit;
 pub mod ending;
 pub mod fill;
 pub mod giving;
+pub mod reading;
 
-pub use advance::{advance_write, next_step, DataStep};
+pub use advance::{DataStep, advance_write, next_step};
 pub use commit::commit_write;
 pub use fill::fill_page;
+pub use begin::begin_write;
+pub use reading::read;

@@ -2,6 +2,7 @@
 #![tactic(auto)]
 
 pub mod commit;
+pub mod create;
 pub mod ending;
 pub mod found;
 pub mod laws;

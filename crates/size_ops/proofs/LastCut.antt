@@ -1,5 +1,5 @@
 -- A cut whose page is filled and whose rows are raised has its commit left.
-use Rattle.std.proofs.Common.{◌≡◌, ℕ, List, length, refl, subst}
+use Rattle.std.proofs.Common.{◌≡◌, ℕ, refl, subst}
 use Rattle.dn_model.specs.declared.op.Op.{Op}
 use Rattle.dn_model.specs.declared.op.Op.TheVariants.{Create, Write, Read, Cut, Remove, Rename, Size, List as ListAll}
 use Rattle.dn_volume.specs.declared.flight.Flight.{Flight}

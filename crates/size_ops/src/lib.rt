@@ -2,8 +2,14 @@
 #![tactic(auto)]
 
 pub mod advance;
+pub mod begin;
 pub mod commit;
 pub mod ending;
+pub mod plan;
+pub mod sizes;
+pub mod taking;
 
 pub use advance::advance_cut;
+pub use begin::begin_cut;
 pub use commit::commit_cut;
+pub use sizes::size;

@@ -105,5 +105,6 @@ returns g c =
     let node = node_read b.inodes.items f.ino c.index-node.result.now (in_inodes found.0 b s c.args.who f e found.1 n.0 c.in-Data.is)
     c.index-node.ensures in
     stores_next b s (g.D.Pm.state c.fill_by.new.device) c.args.who f e n.0 c.in-Data.is c.index-node.result.now node c.index-2.result.now
-    (get_or_read e.blocks.items e.filled c.index-2.result.now n.1 c.index-2.ensures 0) c.fill_by.ensures.filled c.fill_by.ensures.only c.fill_by.ensures.keeps c.fill_by.ensures.flushes c.fill_by.ensures.spare
+    (get_or_read e.blocks.items e.filled c.index-2.result.now n.1 c.index-2.ensures 0) c.fill_by.ensures.filled
+    c.fill_by.ensures.only c.fill_by.ensures.keeps c.fill_by.ensures.flushes c.fill_by.ensures.spare
     c.fill_by.ensures.faults
