@@ -194,11 +194,11 @@ module _ (d : Disk) (b : Parts) (s : State) (v : IsVolume d b s) where
       → Contains (0 ∷ ino ∷ inode_list other) i → IsHoldable d b i
   holdable (Create name) ino other free aims =
       each_held (IsHoldable d b) ino other (root_holdable (0 ∷ []) free.loose (0, omega arith, refl)) (record {
-    small = aims.in_table;
-    undying = λ cut is. free_dying (d.inode ino).use_of cut aims.free is;
-    loose = λ n at. aims.loose ino n (0, omega arith, refl) at;
-    least = λ j is some less free'. aims.least j some less free';
-  }) (λ k is. absurd (clash other k aims.alone is))
+        small = aims.in_table;
+        undying = λ cut is. free_dying (d.inode ino).use_of cut aims.free is;
+        loose = λ n at. aims.loose ino n (0, omega arith, refl) at;
+        least = λ j is some less free'. aims.least j some less free';
+      }) (λ k is. absurd (clash other k aims.alone is))
     where
       clash : (o : Option ℕ) (k : ℕ) → o ≡ None → o ≡ Some k → ⊥
       clash o k none some = cc

@@ -1,30 +1,6 @@
 -- What the begin of a creation finds.
-use Rattle.std.proofs.Common.{
-  ◌≡◌,
-  ◌⊎◌,
-  inl,
-  inr,
-  ⊎_elim,
-  ℕ,
-  ◌+◌,
-  ◌<◌,
-  ◌≤◌,
-  List,
-  [],
-  ◌∷◌,
-  length,
-  get_or,
-  refl,
-  sym,
-  ◌∙◌,
-  ap,
-  subst,
-  arith,
-  Option,
-  Some,
-  None,
-}
-use Rattle.std.specs.Prelude.{Contains, All, IsSome, slice_get}
+use Rattle.std.proofs.Common.{◌≡◌, ⊎_elim, ℕ, ◌+◌, ◌<◌, ◌≤◌, List, [], ◌∷◌, length, get_or, refl, sym, ◌∙◌, ap, subst, arith, Option, Some, None}
+use Rattle.std.specs.Prelude.{Contains, All, slice_get}
 use Rattle.std.specs.Option.{option_map}
 use Rattle.std.specs.FinMap.{get}
 use Rattle.std.proofs.lemmas.Bool.{cases_lt}
@@ -32,7 +8,7 @@ use Rattle.std.proofs.lemmas.Option.{slice_get_read, slice_get_cases}
 use Rattle.pm_device.specs.State.{State}
 use Rattle.log_entry.specs.Name.{IsLegal}
 use Rattle.law_unique.proofs.Listings.{none_listed, cons_cases}
-use Rattle.dn_model.specs.Disk.{Disk, Use, Free, Live, Dying}
+use Rattle.dn_model.specs.Disk.{Disk, Use, Free, Live}
 use Rattle.dn_model.specs.Files.{named, files, bytes}
 use Rattle.dn_model.specs.Apply.{IsGranted, bad_name, missed}
 use Rattle.dn_model.specs.declared.op.Op.{Op}

@@ -1,15 +1,14 @@
 -- What a List answers.
-use Rattle.std.proofs.Common.{◌≡◌, ℕ, true, List, [], refl, sym, ◌∙◌, ap, subst, Option, Some, None}
-use Rattle.std.specs.Prelude.{◌↔◌, IsSome, All, Contains}
+use Rattle.std.proofs.Common.{◌≡◌, ℕ, List, refl, sym, subst, Option, Some, None}
+use Rattle.std.specs.Prelude.{◌↔◌, IsSome}
 use Rattle.std.specs.Option.{option_map}
-use Rattle.std.specs.FinMap.{get}
 use Rattle.std.proofs.lemmas.List.Elements.{All-nil}
 use Rattle.pm_device.specs.State.{State}
 use Rattle.log_entry.specs.Name.{IsLegal}
 use Rattle.file_index.specs.Index.{ListsNames}
 use Rattle.dn_model.specs.Disk.{Disk}
-use Rattle.dn_model.specs.Files.{named, files, bytes}
-use Rattle.dn_model.specs.Apply.{IsListing, grants}
+use Rattle.dn_model.specs.Files.{named, bytes}
+use Rattle.dn_model.specs.Apply.{grants}
 use Rattle.dn_model.specs.declared.op.Op.{Op}
 use Rattle.dn_model.specs.declared.op.Op.TheVariants.{Create, Write, Read, Cut, Remove, Rename, Size, List as ListAll}
 use Rattle.dn_model.specs.declared.op.Reply.TheVariants.{Names as ListedNames}

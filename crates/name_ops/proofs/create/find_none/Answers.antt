@@ -1,4 +1,4 @@
-use Rattle.std.proofs.Common.{◌≡◌, arith}
+use Rattle.std.proofs.Common.{arith}
 use Rattle.name_ops.proofs.FoundNew.{none_waits}
 use Rattle.name_ops.proofs.create.find_none.Goals as goal
 

@@ -1,4 +1,3 @@
-use Rattle.std.proofs.Common.{true, false}
 use Rattle.name_ops.proofs.FoundNew.{none_next, least_here}
 use Rattle.name_ops.proofs.create.least_free.Goals as goal
 

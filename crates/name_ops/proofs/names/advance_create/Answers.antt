@@ -1,5 +1,4 @@
-use Rattle.std.proofs.Common.{◌≡◌, true, false, sym, ◌∙◌, subst}
-use Rattle.dn_model.specs.declared.op.Op.{Op}
+use Rattle.std.proofs.Common.{sym, ◌∙◌, subst}
 use Rattle.dn_volume.specs.Begins.{IsNamesOp}
 use Rattle.dn_volume.proofs.Tables.{running_disk}
 use Rattle.name_ops.proofs.Listed.{changes_names}
