@@ -15,3 +15,5 @@ pub mod Begun
 pub mod BeginEnds
 pub mod RoomSince
 pub mod Stale
+pub mod PagesRead
+pub mod PlaceNext

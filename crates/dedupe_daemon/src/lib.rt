@@ -9,3 +9,4 @@ pub mod end;
 pub mod front;
 pub mod page;
 pub mod pass;
+pub mod place;
