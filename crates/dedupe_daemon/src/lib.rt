@@ -7,6 +7,10 @@
 pub mod begin;
 pub mod end;
 pub mod front;
+pub mod insert;
 pub mod page;
 pub mod pass;
 pub mod place;
+pub mod raise;
+pub mod remap;
+pub mod step;

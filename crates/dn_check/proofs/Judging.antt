@@ -23,7 +23,7 @@ use Rattle.dn_check.specs.declared.finding.Finding.{Finding}
 use Rattle.dn_check.specs.declared.read.ImageRead.{ImageRead}
 use Rattle.dn_check.specs.Finding.{Tells}
 use Rattle.dn_check.specs.RowCounts.{IsNearBy, IsFirstFar, IsExactBy}
-use Rattle.dn_check.specs.Passing.{IsWhole, Passes, AreNumbersRead}
+use Rattle.dn_check.specs.Passing.{IsWhole, Passes, IsStanding, AreNumbersRead}
 use Rattle.dn_check.proofs.Sorting.{rows_sorted}
 use Rattle.dn_check.proofs.Counts.{mapped_total}
 
@@ -124,45 +124,49 @@ module _ (c : List ℕ) (g : Geometry) (read : ImageRead) (whole : IsWhole g rea
         by_free (are_two one other ne free_one free_other) = passing c d p.pointers p.pages (single_from d none) near_d one other ne free_one
             free_other
 
-        stands : StandsFor c d
-        stands = by_free (free_pages_are_counted d)
+        pub standing : IsStanding c d free
+        standing = record { stands = by_free (free_pages_are_counted d); single = none; free_is = has_free }
 
-        -- exactness
-        abbrev IsExactRow : TableRow → Type 0
-        IsExactRow row = (row.uc ≡ 0) × (row.rfc ≡ mappings d row.page) × (row.rfc ≢ 0)
+  module _ (free : ℕ) (is : IsStanding c d free) where
+    inside_row : (row : Row) → Contains found row → row.page < d.geometry.pages
+    inside_row row there = let lt = All-contains (λ (r : Row). r.page < g.pages) found row whole.pages there in omega (arith, lt, pages_are)
 
-        exact_row : (row : Row) → Contains found row → IsExactBy mapped row → IsExactRow (as_row row)
-        exact_row row there is = (is.0, is.1 ∙ p.counted.mapped row.page (inside row there), is.2)
+    -- exactness
+    abbrev IsExactRow : TableRow → Type 0
+    IsExactRow row = (row.uc ≡ 0) × (row.rfc ≡ mappings d row.page) × (row.rfc ≢ 0)
 
-        row_exact : (row : Row) → Contains found row → IsExactRow (as_row row) → IsExactBy mapped row
-        row_exact row there is = (is.0, is.1 ∙ sym (p.counted.mapped row.page (inside row there)), is.2)
+    exact_row : (row : Row) → Contains found row → IsExactBy mapped row → IsExactRow (as_row row)
+    exact_row row there is = (is.0, is.1 ∙ p.counted.mapped row.page (inside_row row there), is.2)
 
-        exact_disk : All (IsExactBy mapped) found → Exact d
-        exact_disk all = record {
-          counts = subst (All IsExactRow) p.rows_are
-              (All-map IsExactRow as_row found (all_listed (λ row. IsExactRow (as_row row)) found
-              (λ row there. exact_row row there (All-contains (IsExactBy mapped) found row all there))));
-          unshared = (single_from d none).unshared;
-        }
+    row_exact : (row : Row) → Contains found row → IsExactRow (as_row row) → IsExactBy mapped row
+    row_exact row there is = (is.0, is.1 ∙ sym (p.counted.mapped row.page (inside_row row there)), is.2)
 
-        disk_exact : Exact d → All (IsExactBy mapped) found
-        disk_exact exact = all_listed (IsExactBy mapped) found (λ row there.
-            row_exact row there (All-contains IsExactRow (map as_row found) (as_row row) (subst (All IsExactRow) (sym p.rows_are) exact.counts)
-            (map_there found row there)))
+    exact_disk : All (IsExactBy mapped) found → Exact d
+    exact_disk all = record {
+      counts = subst (All IsExactRow) p.rows_are
+          (All-map IsExactRow as_row found (all_listed (λ row. IsExactRow (as_row row)) found
+          (λ row there. exact_row row there (All-contains (IsExactBy mapped) found row all there))));
+      unshared = (single_from d is.single).unshared;
+    }
 
-        mapped_inside : (page : ℕ) → IsMapped d page → page < d.geometry.pages
-        mapped_inside page is = (mapped_in_data d logs_read page is).high
+    disk_exact : Exact d → All (IsExactBy mapped) found
+    disk_exact exact = all_listed (IsExactBy mapped) found (λ row there.
+        row_exact row there (All-contains IsExactRow (map as_row found) (as_row row) (subst (All IsExactRow) (sym p.rows_are) exact.counts)
+        (map_there found row there)))
 
-        pub numbers_are : (finding : Finding) → AreNumbersRead read.logs found free finding → Tells c finding
-        numbers_are finding are = subst (Tells c) (sym are.is) (
-          d,
-          stands,
-          record {
-            files_are = p.counted.files;
-            dying_are = p.counted.dying;
-            rows_are = rows_sorted found are.sorted are.same are.order d p.rows_are p.pointers.table.rows_apart;
-            mapped_are = mapped_total d are.mapped mapped_inside (are.mapped_is d read.logs.in_logs.items counted logs_read);
-            free_are = has_free;
-            exact_is = (λ t. exact_disk (are.exact_is.0 t), λ exact. are.exact_is.1 (disk_exact exact));
-          },
-        )
+    mapped_inside : (page : ℕ) → IsMapped d page → page < d.geometry.pages
+    mapped_inside page is = (mapped_in_data d logs_read page is).high
+
+    pub numbers_are : (finding : Finding) → AreNumbersRead read.logs found free finding → Tells c finding
+    numbers_are finding are = subst (Tells c) (sym are.is) (
+      d,
+      is.stands,
+      record {
+        files_are = p.counted.files;
+        dying_are = p.counted.dying;
+        rows_are = rows_sorted found are.sorted are.same are.order d p.rows_are p.pointers.table.rows_apart;
+        mapped_are = mapped_total d are.mapped mapped_inside (are.mapped_is d read.logs.in_logs.items counted logs_read);
+        free_are = is.free_is;
+        exact_is = (λ t. exact_disk (are.exact_is.0 t), λ exact. are.exact_is.1 (disk_exact exact));
+      },
+    )

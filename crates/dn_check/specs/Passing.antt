@@ -28,7 +28,9 @@ use Rattle.pm_layout.specs.Geometry.{directs, slots, pointer_word}
 use Rattle.dn_model.specs.Rolled.{rolled}
 use Rattle.dn_model.specs.Table.{Row as TableRow, row_of}
 use Rattle.dn_model.specs.Disk.{Disk, PagesSay, IsMapped, rows}
-use Rattle.dn_model.specs.Faults.{HasGate, HasLinks, HasPointers, FaultOf, IsBadInode, geometry_of}
+use Rattle.dn_model.specs.Image.{StandsFor}
+use Rattle.dn_model.specs.Faults.{HasGate, HasLinks, HasPointers, FaultOf, IsBadInode, IsDouble, HasFree, geometry_of}
+use Rattle.dn_model.specs.declared.fault.ImageFault.{ImageFault}
 use Rattle.fact_scan.specs.declared.row.Row.{Row}
 use Rattle.fact_scan.specs.Scan.{HasRows}
 use Rattle.fact_scan.specs.Seen.{as_row}
@@ -111,6 +113,20 @@ pub record Passes (c : List ℕ) (g : Geometry) (read : ImageRead) : Type 0 wher
 -- each such image passes so
 abbrev pub IsReadOfEach : Geometry → List ℕ → ImageRead → Type 0
 IsReadOfEach g r read = (c : List ℕ) → IsRolled c g r → Passes c g read
+
+-- it has no fault: it stands for the disk, of which so many pages are free
+pub record IsStanding (c : List ℕ) (d : Disk) (free : ℕ) : Type 0 where
+  pub stands : StandsFor c d
+  pub single : (page : ℕ) → IsDouble d page → ⊥
+  pub free_is : HasFree d free
+
+-- so it is with each image that passes so
+abbrev pub IsFreeOfEach : Geometry → ImageRead → ℕ → Type 0
+IsFreeOfEach g read free = (c : List ℕ) (p : Passes c g read) → IsStanding c p.disk free
+
+-- this is the first fault of each image that passes so
+abbrev pub IsFaultOfEach : Geometry → ImageRead → ImageFault → Type 0
+IsFaultOfEach g read fault = (c : List ℕ) → Passes c g read → FaultOf c fault
 
 -- so it is told of each image that passes
 abbrev pub TellsEachPassing : Geometry → ImageRead → Finding → Type 0

@@ -34,10 +34,11 @@ fn check_rolled(alloc: Global, words: Vec<u64>, g: &Geometry) -> Result<Finding,
     requires size { length words.items ≡ 512 * g.now.pages }
     ensures { IfOk result (TellsEach g.now words.items) }
 {
-    if let Some(ino) = inode_fault(&words, g) {
+    let device = SnapshotPm::of_words(words);
+    if let Some(ino) = inode_fault(&device, g) {
         return Ok(Finding::Fault(ImageFault::BadInode { ino }));
     }
-    check_device(alloc, &SnapshotPm::of_words(words), g)
+    check_device(alloc, &device, g)
 }
 
 /// Checks an image of which these are the words: the first fault by the twelve rules, or the numbers of the state that

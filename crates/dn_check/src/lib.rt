@@ -6,8 +6,8 @@
 
 pub mod checks;
 pub mod finding;
-mod judge;
-mod read;
+pub mod judge;
+pub mod read;
 mod rows;
 #[cfg(test)]
 mod tests;

@@ -13,27 +13,31 @@ use pm_device::Pm;
 use pm_layout::Geometry;
 use std::alloc::{AllocError, Global};
 
-// Why an image is read no further.
+/// Why an image is read no further.
 #[derive(Debug, Drop)]
-pub(crate) enum Halt {
-    // It has this first fault.
+pub enum Halt {
+    /// It has this first fault.
     Fault(ImageFault),
+    /// Memory ran out.
     NoMemory,
 }
 
-// What is read of a table.
+/// What is read of a table.
 #[derive(Debug, Drop)]
-pub(crate) struct TableRead {
-    pub(crate) rows: Vec<Row>,
-    // For each page whether a row has it.
-    pub(crate) has_row: Vec<bool>,
+pub struct TableRead {
+    /// All its rows.
+    pub rows: Vec<Row>,
+    /// For each page whether a row has it.
+    pub has_row: Vec<bool>,
 }
 
-// What is read of an image.
+/// What is read of an image.
 #[derive(Debug, Drop)]
-pub(crate) struct ImageRead {
-    pub(crate) logs: LogsRead,
-    pub(crate) table: TableRead,
+pub struct ImageRead {
+    /// What its logs say.
+    pub logs: LogsRead,
+    /// What its table says.
+    pub table: TableRead,
 }
 
 impl From<LogsFault> for Halt {
@@ -75,19 +79,18 @@ impl From<AllocError> for Halt {
     }
 }
 
-// The logs of all inodes, where none has a fault and each inode is linked.
-fn linked_logs<D: Pm>(alloc: Global, device: &D, g: &Geometry) -> Result<LogsRead, Halt>
+// Whether each inode is linked, by the names of logs of which none has a fault.
+fn ask_links<D: Pm>(alloc: Global, device: &D, g: &Geometry, logs: &LogsRead) -> Result<(), Halt>
     requires accepted { IsAccepted g.now }
     requires size { length (D.state device.now).now ≡ 512 * g.now.pages }
     requires inodes { HasGoodInodes g.now (D.state device.now).now }
-    ensures read { IfOk result (AreRead g.now (D.state device.now).now) }
+    requires read { AreRead g.now (D.state device.now).now logs.now }
     ensures linked { IfOk result (λ _. AreLinked g.now (D.state device.now).now) }
     ensures halt { IfErr result (IsHalt g.now (D.state device.now).now) }
 {
-    let logs = read_logs(alloc, device, g)?;
     match link_fault(alloc, device, g, &logs.names)? {
         Some(ino) => Err(Halt::Fault(ImageFault::BadLink { ino })),
-        None => Ok(logs),
+        None => Ok(()),
     }
 }
 
@@ -118,6 +121,42 @@ fn read_table<D: Pm>(alloc: Global, device: &D, g: &Geometry) -> Result<TableRea
     Ok(TableRead { rows, has_row })
 }
 
+/// Reads the rest of a rolled image whose inodes and logs have no fault, up to the pointers of its pages.
+///
+/// # Errors
+/// `Fault` where it has a fault by these rules, and which is the first. `NoMemory` where memory runs out.
+pub fn read_rest<D: Pm>(
+    alloc: Global,
+    device: &D,
+    g: &Geometry,
+    logs: LogsRead,
+) -> Result<ImageRead, Halt>
+    requires accepted { IsAccepted g.now }
+    requires size { length (D.state device.now).now ≡ 512 * g.now.pages }
+    requires inodes { HasGoodInodes g.now (D.state device.now).now }
+    requires read { AreRead g.now (D.state device.now).now logs }
+    ensures logs { IfOk result (λ read. read.logs ≡ logs) }
+    ensures whole { IfOk result (IsWhole g.now) }
+    ensures read { IfOk result (IsReadOfEach g.now (D.state device.now).now) }
+    ensures halt { IfErr result (IsHalt g.now (D.state device.now).now) }
+{
+    ask_links(alloc, device, g, &logs)?;
+    let table = read_table(alloc, device, g)?;
+    Ok(ImageRead { logs, table })
+}
+
+// The logs of all inodes, where none has a fault.
+fn all_logs<D: Pm>(alloc: Global, device: &D, g: &Geometry) -> Result<LogsRead, Halt>
+    requires accepted { IsAccepted g.now }
+    requires size { length (D.state device.now).now ≡ 512 * g.now.pages }
+    requires inodes { HasGoodInodes g.now (D.state device.now).now }
+    ensures read { IfOk result (AreRead g.now (D.state device.now).now) }
+    ensures halt { IfErr result (IsHalt g.now (D.state device.now).now) }
+{
+    let logs = read_logs(alloc, device, g)?;
+    Ok(logs)
+}
+
 // Reads a rolled image whose inodes have no fault, up to the pointers of its pages.
 pub(crate) fn read_image<D: Pm>(alloc: Global, device: &D, g: &Geometry) -> Result<ImageRead, Halt>
     requires accepted { IsAccepted g.now }
@@ -127,7 +166,6 @@ pub(crate) fn read_image<D: Pm>(alloc: Global, device: &D, g: &Geometry) -> Resu
     ensures read { IfOk result (IsReadOfEach g.now (D.state device.now).now) }
     ensures halt { IfErr result (IsHalt g.now (D.state device.now).now) }
 {
-    let logs = linked_logs(alloc, device, g)?;
-    let table = read_table(alloc, device, g)?;
-    Ok(ImageRead { logs, table })
+    let logs = all_logs(alloc, device, g)?;
+    read_rest(alloc, device, g, logs)
 }

@@ -60,7 +60,8 @@ use Rattle.dn_volume.specs.Flights.{AreFlights}
 use Rattle.dn_volume.specs.Reclaims.{IsReclaiming, one_if, dying_units}
 use Rattle.dn_volume.specs.Reserve.{Owes, HasRoom, owed_to, owed_sum, units_to_share, changes_to_share}
 use Rattle.dn_mount.specs.declared.parts.Scan.{Scan}
-use Rattle.dn_mount.specs.Scanned.{AreNoFlights, AreFreePages, Waits, IsScanOf}
+use Rattle.image_keep.specs.Free.{AreFreePages}
+use Rattle.dn_mount.specs.Scanned.{AreNoFlights, Waits, IsScanOf}
 
 -- nothing is under way, and no room is owed
 pub record IsFreshOf (scan : Scan) (b : Parts) : Type 0 where

@@ -1,13 +1,14 @@
 -- What was read of an image stands for a disk, of whose counts all are exact.
-use Rattle.std.specs.Prelude.{◌≡◌, ◌↔◌, ℕ, List, length, slice_get, Some, None, Option, Contains}
+use Rattle.std.specs.Prelude.{◌≡◌, ℕ, List, length, slice_get, Some, None, Option, Contains}
 use Rattle.pm_device.specs.State.{State}
 use Rattle.pm_device.specs.Settled.{Still}
 use Rattle.log_entry.specs.declared.item.Flag.TheVariants.{Complete}
-use Rattle.page_alloc.specs.Free.{FreePages, IsInOrder}
+use Rattle.image_keep.specs.Free.{AreFreePages}
+use Rattle.image_keep.specs.Waiting.{WaitBelow}
 use Rattle.dedupe_queue.specs.declared.Work.{Work}
 use Rattle.dn_model.specs.Maps.{Mapping}
 use Rattle.dn_model.specs.Disk.{Disk}
-use Rattle.dn_model.specs.Counts.{total, IsFree, Exact}
+use Rattle.dn_model.specs.Counts.{total, Exact}
 use Rattle.dn_model.specs.Own.{LivePlace}
 use Rattle.dn_volume.specs.declared.flight.Flight.{Flight}
 use Rattle.dn_volume.specs.declared.volume.InodeState.{InodeState}
@@ -22,12 +23,6 @@ use Rattle.dn_mount.specs.declared.parts.Scan.{Scan}
 pub record AreNoFlights (flights : List (Option Flight)) : Type 0 where
   pub clients : length flights ≡ 14
   pub none : (k : ℕ) → flight_at flights k ≡ None
-
--- the set has the free pages
-pub record AreFreePages (d : Disk) (set : FreePages) : Type 0 where
-  pub pages : set.pages ≡ d.geometry.pages
-  pub in_order : IsInOrder set
-  pub free : (page : ℕ) → Contains set.free page ↔ IsFree d page
 
 -- the item at this slot of an inode's log waits
 pub record Waits (work : List Work) (inodes : List InodeState) (ino slot : ℕ) : Type 0 where
@@ -52,4 +47,5 @@ pub record IsScanOf (d : Disk) (scan : Scan) (s : State) : Type 0 where
   pub table : AreSlotsOf d scan.fact
   pub waits : (ino idx : ℕ) (m : Mapping) → LivePlace d ino idx m → (m.flag ≡ Complete → ⊥)
       → Waits scan.work.items scan.inodes.items ino m.slot
+  pub queue : WaitBelow d.inode d.geometry.inodes scan.work.items
   pub waiting : scan.waiting ≡ total d.geometry.inodes (dying_units d)

@@ -2,5 +2,6 @@
 //! what was read of it is put into the parts of a volume.
 #![tactic(auto)]
 
+pub mod fault;
 pub mod parts;
 pub mod undo;

@@ -4,6 +4,7 @@ use crate::inodes::{InodeUse, inode_fault, use_of_inode};
 use crate::journal::rolled_copy;
 use dn_model::ImageFault;
 use pm_layout::MAGIC;
+use pm_snapshot::SnapshotPm;
 use std::alloc::{AllocError, Global};
 use std::test::Fail;
 
@@ -159,7 +160,7 @@ fn first_fault(alloc: Global, image: &[u64]) -> Result<Option<ImageFault>, Alloc
     }
     let g = geometry_of(image);
     let words = rolled_copy(alloc, image)?;
-    match inode_fault(&words, &g) {
+    match inode_fault(&SnapshotPm::of_words(words), &g) {
         Some(ino) => Ok(Some(ImageFault::BadInode { ino })),
         None => Ok(None),
     }
@@ -206,9 +207,10 @@ fn uses(rt: HostRuntime) -> Result<(), Fail> {
     assert_eq!(rt; words.len(), WORDS);
     assert_eq!(rt; words.get(512).copied(), Some(0));
     assert_eq!(rt; words.get(520).copied(), Some(1088));
+    let device = SnapshotPm::of_words(words);
     for ino in 0..g.inodes {
         assert_eq!(rt;
-            Some(use_of_inode(&words, &g, ino)),
+            Some(use_of_inode(&device, &g, ino)),
             USES.get(ino as usize).copied()
         );
     }

@@ -1,2 +1,4 @@
 pub mod Needed
 pub mod Free
+pub mod Waiting
+pub mod Keeping

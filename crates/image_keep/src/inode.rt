@@ -44,6 +44,7 @@ pub fn used_inode(used: InodeUse, index: FileIndex) -> InodeState
 
 /// What is kept of an inode that isn't used.
 pub fn unused_inode(alloc: Global) -> InodeState
+    ensures free { result.used ≡ InodeUse.Free }
     ensures inode { (d : Disk) (ino : ℕ) → (d.inode ino).use_of ≡ as_use result.used
         → IsInodeOf d ino result }
     ensures unheld { result.holder ≡ None }

@@ -3,4 +3,5 @@
 
 pub mod free;
 pub mod inode;
+pub mod keep;
 pub mod work;

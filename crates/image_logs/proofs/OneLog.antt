@@ -15,6 +15,7 @@ use Rattle.dn_model.specs.Counts.{hit}
 use Rattle.dn_model.specs.Valid.{MayStand, IsLog}
 use Rattle.law_write.proofs.Counting.{total-same}
 use Rattle.law_write.proofs.Unread.{mapping_set_by}
+use Rattle.law_write.proofs.MappedPlaces.{size-small}
 use Rattle.log_walk.specs.Items.{seen}
 use Rattle.log_walk.specs.declared.items.Placed.{Placed as PlacedItem}
 use Rattle.log_walk.specs.Walk.{HasWholeLog}
@@ -25,8 +26,9 @@ use Rattle.file_scan.specs.Index.{MayBeIndexed, HasSmallBlocks, IsIndexOf}
 use Rattle.file_scan.specs.Names.{IsNamesOf}
 use Rattle.file_scan.specs.declared.index.FileIndex.{FileIndex}
 use Rattle.image_logs.specs.declared.logs.LogsRead.{LogsRead}
+use Rattle.image_logs.specs.declared.logs.FileLog.{FileLog}
 use Rattle.image_logs.specs.Usage.{page_hit, listed, mapped_by, CountsPages}
-use Rattle.image_logs.specs.Logs.{AddsLog, HasRoom, log_page}
+use Rattle.image_logs.specs.Logs.{AddsLog, HasRoom, IsLogOf, log_page}
 use Rattle.image_logs.proofs.Hits.{hits-few, listed-once, pages-few}
 
 -- items of a log may be indexed
@@ -102,6 +104,22 @@ module _ (g : Geometry) (c : List ℕ) (ino : ℕ) (pages : List ℕ) (items : L
   few_pages = omega (arith, pages-few pages apart g.pages below, accepted.few_pages)
 
   module _ (index : FileIndex) (is : (log : Log) → map seen items ≡ placed log → IsIndexOf log index) where
+    pub log_is : (log : FileLog) → log.items.items ≡ items → log.index ≡ index → IsLogOf g c ino log
+    log_is log same_items same_index = record {
+      index = λ l reads. rw same_index (is l (items_of l reads));
+      items = λ l reads. rw same_items (items_of l reads);
+      indexed = rw same_items may_be_indexed;
+      small = omega (
+        arith,
+        size-small has.log has.valid.spelled,
+        (is has.log has.items_are).size_is,
+        ap (λ (i : FileIndex). i.size) same_index,
+      );
+    }
+      where
+        items_of : (l : Log) → ReadsAs g c ino l → map seen items ≡ placed l
+        items_of l reads = has.items_are ∙ ap placed (one_log g c ino has.log l whole reads)
+
     pub blocks_below : (idx page : ℕ) → mapped_by index.map.map idx ≡ Some page → page < g.pages
     blocks_below idx page e =
         let found = kept_block (mapping has.log idx) page (ap (option_map (λ m. m.block)) (sym ((is has.log has.items_are).places idx)) ∙ e) in

@@ -13,13 +13,18 @@ use Rattle.std.specs.Prelude.{
   List,
   length,
   slice_index,
+  map,
+  All,
+  Option,
+  Some,
+  None,
 }
 use Rattle.std.specs.List.{list_any}
 use Rattle.std.specs.FinMap.{get}
 use Rattle.pm_device.specs.Reading.{Reads}
 use Rattle.pm_layout.specs.declared.Geometry.{Geometry}
 use Rattle.pm_layout.specs.Geometry.{inode_word}
-use Rattle.dn_model.specs.Log.{Log}
+use Rattle.dn_model.specs.Log.{Log, placed}
 use Rattle.dn_model.specs.LogFault.{LogFault}
 use Rattle.dn_model.specs.Maps.{mapping}
 use Rattle.dn_model.specs.Disk.{Disk, Use, Free, Live, Dying, InodesSay, LogsSay, IsUsed}
@@ -29,8 +34,12 @@ use Rattle.dn_model.specs.Files.{named}
 use Rattle.dn_model.specs.Valid.{IsLog}
 use Rattle.dn_model.specs.Faults.{IsLeast}
 use Rattle.log_walk.specs.Laws.{ReadsAs}
+use Rattle.log_walk.specs.Items.{seen}
+use Rattle.file_scan.specs.Index.{MayBeIndexed, IsIndexOf}
 use Rattle.file_scan.specs.Names.{IsNamesOf}
 use Rattle.image_logs.specs.declared.logs.LogsRead.{LogsRead}
+use Rattle.image_logs.specs.declared.logs.FileLog.{FileLog}
+use Rattle.image_logs.specs.declared.logs.UsedInode.{UsedInode}
 use Rattle.image_logs.specs.declared.logs.LogsFault.{LogsFault}
 use Rattle.image_logs.specs.declared.logs.LogsFault.TheVariants.{BadLog, NoMemory}
 
@@ -161,3 +170,22 @@ pub record IsEmptyRead (g : Geometry) (read : LogsRead) : Type 0 where
   pub mapped : (p : ℕ) → slice_index read.mapped.items p ≡ 0
   pub files : read.files ≡ 0
   pub dying : read.dying ≡ 0
+
+-- this is read of the log that the words hold
+pub record IsLogOf (g : Geometry) (c : List ℕ) (ino : ℕ) (log : FileLog) : Type 0 where
+  pub index : (l : Log) → ReadsAs g c ino l → IsIndexOf l log.index
+  pub items : (l : Log) → ReadsAs g c ino l → map seen log.items.items ≡ placed l
+  pub indexed : All MayBeIndexed log.items.items
+  pub small : log.index.size ≤ 16777216
+
+-- this is read of an inode, which is used, with these fields
+pub record IsUsedAt (g : Geometry) (c : List ℕ) (ino : ℕ) (used : UsedInode) : Type 0 where
+  pub in_use : IsInUse c ino
+  pub state : used.slot.state ≡ slice_index c (inode_word ino 0)
+  pub cut : used.slot.cut ≡ slice_index c (inode_word ino 3)
+  pub log : IsLogOf g c ino used.log
+
+-- and it is answered just where the inode is used
+abbrev pub IsFoundAt : Geometry → List ℕ → ℕ → Option UsedInode → Type 0
+IsFoundAt g c ino None = slice_index c (inode_word ino 0) ≡ 0
+IsFoundAt g c ino (Some used) = IsUsedAt g c ino used

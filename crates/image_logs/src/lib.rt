@@ -5,7 +5,7 @@
 pub mod logs;
 mod usage;
 
-pub use logs::{LogsFault, LogsRead, read_logs};
+pub use logs::{FileLog, LogsFault, LogsRead, UsedInode, read_logs};
 
 #[cfg(test)]
 mod tests;

@@ -7,7 +7,7 @@ ghost use Rattle.log_walk.specs.Items.{seen};
 ghost use Rattle.log_walk.specs.Walk.{HasWholeLog};
 ghost use Rattle.file_scan.specs.Index.{MayBeIndexed, IsIndexOf};
 ghost use Rattle.file_scan.specs.Names.{IsNamesOf};
-ghost use Rattle.image_logs.specs.Logs.{AreRead, IsFirstFault, IsFaultOfEach, AddsLog, HasRoom, IsOneFault, IsInUse, AddsInode, IsEmptyRead, IsEnd, CountsUse};
+ghost use Rattle.image_logs.specs.Logs.{AreRead, IsFirstFault, IsFaultOfEach, AddsLog, HasRoom, IsOneFault, IsInUse, AddsInode, IsEmptyRead, IsEnd, CountsUse, IsLogOf, IsFoundAt};
 
 use crate::usage::{count_pages, count_places};
 use file_index::NameMap;
@@ -49,6 +49,24 @@ pub struct LogsRead {
     pub dying: u64,
     /// The inodes that names lead to.
     pub names: NameMap,
+}
+
+/// What is read of the log of a used inode.
+#[derive(Debug, Drop)]
+pub struct FileLog {
+    /// The size of its file, and where its places are; of a dying one also those from its cut on.
+    pub index: FileIndex,
+    /// Its items, in order.
+    pub items: Vec<Placed>,
+}
+
+/// A used inode, and what is read of its log.
+#[derive(Debug, Drop)]
+pub struct UsedInode {
+    /// Its fields: its state is 1, live, or 2, dying.
+    pub slot: InodeSlot,
+    /// What is read of its log.
+    pub log: FileLog,
 }
 
 // The log of an inode.
@@ -112,12 +130,13 @@ fn add_log<D: Pm>(
     ino: u64,
     end: u64,
     read: &mut LogsRead,
-) -> Result<(), LogsFault>
+) -> Result<FileLog, LogsFault>
     requires accepted { IsAccepted g.now }
     requires size { length (D.state device.now).now ≡ 512 * g.now.pages }
     requires ino { ino < g.now.inodes }
     requires end { end ≤ 4096 }
     requires room { HasRoom g.now read.old }
+    ensures log { IfOk result (IsLogOf g.now (D.state device.now).now ino) }
     ensures adds { OnOk result (AddsLog g.now (D.state device.now).now ino end read.old read.new) }
     ensures fault { IfErr result (IsOneFault g.now (D.state device.now).now ino) }
 {
@@ -126,7 +145,10 @@ fn add_log<D: Pm>(
     add_names(alloc, &mut read.names, ino, &log.items)?;
     count_pages(&mut read.in_logs, &log.pages);
     count_places(&mut read.mapped, &index.map, end);
-    Ok(())
+    Ok(FileLog {
+        index,
+        items: log.items,
+    })
 }
 
 // The end of the places of a used inode that are mapped: a dying one has them only below its cut.
@@ -154,14 +176,17 @@ fn count_use(read: &mut LogsRead, ino: u64, state: u64)
     }
 }
 
-// Counts what this inode and its log say, if it is used.
-fn add_inode<D: Pm>(
+/// Counts what this inode and its log say, and answers them, if it is used. The inodes before it were counted, each once.
+///
+/// # Errors
+/// `BadLog` where its log has a fault, and how many slots of it come before the fault. `NoMemory` where memory runs out.
+pub fn add_inode<D: Pm>(
     alloc: Global,
     device: &D,
     g: &Geometry,
     ino: u64,
     read: &mut LogsRead,
-) -> Result<(), LogsFault>
+) -> Result<Option<UsedInode>, LogsFault>
     requires accepted { IsAccepted g.now }
     requires size { length (D.state device.now).now ≡ 512 * g.now.pages }
     requires ino { ino < g.now.inodes }
@@ -169,21 +194,25 @@ fn add_inode<D: Pm>(
     requires files { read.old.files ≤ ino }
     requires dying { read.old.dying ≤ ino }
     ensures adds { OnOk result (AddsInode g.now (D.state device.now).now ino read.old read.new) }
+    ensures found { IfOk result (IsFoundAt g.now (D.state device.now).now ino) }
     ensures used { IfErr result (λ fault. fault ≢ LogsFault.NoMemory
         → IsInUse (D.state device.now).now ino) }
     ensures fault { IfErr result (IsOneFault g.now (D.state device.now).now ino) }
 {
     let slot = read_inode(device, g, ino);
     if slot.state == FREE {
-        return Ok(());
+        return Ok(None);
     }
-    add_log(alloc, device, g, ino, places_end(&slot), read)?;
+    let log = add_log(alloc, device, g, ino, places_end(&slot), read)?;
     count_use(read, ino, slot.state);
-    Ok(())
+    Ok(Some(UsedInode { slot, log }))
 }
 
-// Nothing is counted yet.
-fn empty_read(alloc: Global, g: &Geometry) -> Result<LogsRead, LogsFault>
+/// Nothing is counted yet.
+///
+/// # Errors
+/// `NoMemory` where there is no memory for two counts for each page.
+pub fn empty_read(alloc: Global, g: &Geometry) -> Result<LogsRead, LogsFault>
     requires { IsAccepted g.now }
     ensures read { IfOk result (IsEmptyRead g.now) }
     ensures fault { IfErr result (λ fault. fault ≡ LogsFault.NoMemory) }

@@ -1,46 +1,6 @@
-use Rattle.std.proofs.Common.{ℕ, List, subst, arith}
-use Rattle.std.specs.Prelude.{All}
-use Rattle.fact_scan.specs.declared.row.Row.{Row}
-use Rattle.dn_check.specs.RowCounts.{IsNearBy, IsFirstFar}
-use Rattle.dn_check.proofs.Judging.{counted_as, marks_as, double_is, far_is, crowded_is, numbers_are}
+use Rattle.dn_check.proofs.Judging.{numbers_are}
 use Rattle.dn_check.proofs.judge.judge.Goals as goal
 
-pub returns-in-Some : goal.returns-in-Some
-returns-in-Some c = λ words p.
-    double_is words c.args.g.now c.args.read c.requires.whole p c.in-Some.page (λ e counted marks. c.in-Some.ensures.some e
-    (counted_as e _ _ c.deref.result.now c.deref-2.result.now c.deref.ensures.value c.deref-2.ensures.value counted)
-    (marks_as e _ c.deref-3.result.now c.deref-3.ensures.value marks))
-
-pub returns-in-Some-far_row : goal.returns-in-Some-far_row
-returns-in-Some-far_row c = λ words p.
-    far_is words c.args.g.now c.args.read c.requires.whole p (λ e counted marks logs. c.in_default.ensures.none e
-    (counted_as e _ _ c.deref.result.now c.deref-2.result.now c.deref.ensures.value c.deref-2.ensures.value counted)
-    (marks_as e _ c.deref-3.result.now c.deref-3.ensures.value marks) logs)
-    c.in-Some-far_row.slot
-    (subst (λ (mapped : List ℕ). IsFirstFar mapped c.args.read.table.rows.items c.in-Some-far_row.slot) c.deref-5.ensures.value
-    (subst (λ (rs : List Row). IsFirstFar c.deref-5.result.now rs c.in-Some-far_row.slot) c.deref-4.ensures.value c.in-Some-far_row.ensures.some))
-
-pub returns-then-free-lt-FEWEST_FREE : goal.returns-then-free-lt-FEWEST_FREE
-returns-then-free-lt-FEWEST_FREE c = λ words p.
-    crowded_is words c.args.g.now c.args.read c.requires.whole p (λ e counted marks logs. c.in_default.ensures.none e
-    (counted_as e _ _ c.deref.result.now c.deref-2.result.now c.deref.ensures.value c.deref-2.ensures.value counted)
-    (marks_as e _ c.deref-3.result.now c.deref-3.ensures.value marks) logs)
-    (subst (λ (mapped : List ℕ). All (IsNearBy mapped) c.args.read.table.rows.items) c.deref-5.ensures.value
-    (subst (λ (rs : List Row). All (IsNearBy c.deref-5.result.now) rs) c.deref-4.ensures.value c.in_default-far_row.ensures.none))
-    c.free_count-free.result
-    (λ e same counted. c.free_count-free.ensures e same (counted_as e _ _ c.deref-6.result.now c.deref-7.result.now c.deref-6.ensures.value
-    c.deref-7.ensures.value counted))
-    (omega (arith, c.if-free-lt-FEWEST_FREE.true))
-
-pub returns : goal.returns
-returns c = λ words p.
-    numbers_are words c.args.g.now c.args.read c.requires.whole p (λ e counted marks logs. c.in_default.ensures.none e
-    (counted_as e _ _ c.deref.result.now c.deref-2.result.now c.deref.ensures.value c.deref-2.ensures.value counted)
-    (marks_as e _ c.deref-3.result.now c.deref-3.ensures.value marks) logs)
-    (subst (λ (mapped : List ℕ). All (IsNearBy mapped) c.args.read.table.rows.items) c.deref-5.ensures.value
-    (subst (λ (rs : List Row). All (IsNearBy c.deref-5.result.now) rs) c.deref-4.ensures.value c.in_default-far_row.ensures.none))
-    c.free_count-free.result
-    (λ e same counted. c.free_count-free.ensures e same (counted_as e _ _ c.deref-6.result.now c.deref-7.result.now c.deref-6.ensures.value
-    c.deref-7.ensures.value counted))
-    (omega (arith, c.if-free-lt-FEWEST_FREE.false))
-    c.numbers.result c.numbers.ensures
+pub returns-in-Ok : goal.returns-in-Ok
+returns-in-Ok c = λ words p.
+    numbers_are words c.args.g.now c.args.read c.requires.whole p c.in-Ok.free (c.in-Ok.ensures.free words p) c.numbers_of.result c.numbers_of.ensures

@@ -10,19 +10,19 @@ in_table : (d : Disk) (g : Geometry) (ino : ℕ) → d.geometry ≡ g → ino < 
 in_table d g ino same lt = subst (λ (h : Geometry). ino < h.inodes) (sym same) lt
 
 pub returns-in-0 : goal.returns-in-0
-returns-in-0 c = λ d same reads.
-    free_by _ _ (d.inode c.args.ino).use_of (is_use d c.args.words.now c.args.ino (in_table d c.args.g.now c.args.ino same c.requires.ino) reads)
-    (sym c.field_of.ensures ∙ c.in-0.is)
+returns-in-0 h c = λ d same reads.
+    free_by _ _ (d.inode c.args.ino).use_of (is_use d (h.D.Pm.state c.args.device.now).now c.args.ino (in_table d c.args.g.now c.args.ino same c.requires.ino) reads)
+    (sym c.read_field.ensures ∙ c.in-0.is)
 
 pub returns-in-1 : goal.returns-in-1
-returns-in-1 c = λ d same reads.
-    live_by _ _ (d.inode c.args.ino).use_of (is_use d c.args.words.now c.args.ino (in_table d c.args.g.now c.args.ino same c.requires.ino) reads)
-    (sym c.field_of.ensures ∙ c.in-1.is)
+returns-in-1 h c = λ d same reads.
+    live_by _ _ (d.inode c.args.ino).use_of (is_use d (h.D.Pm.state c.args.device.now).now c.args.ino (in_table d c.args.g.now c.args.ino same c.requires.ino) reads)
+    (sym c.read_field.ensures ∙ c.in-1.is)
 
 pub returns-in_default : goal.returns-in_default
-returns-in_default c = λ d same reads.
-    let high : 2 ≤ c.field_of.result = omega arith in
-    let high_word : 2 ≤ slice_index c.args.words.now (inode_word c.args.ino 0) = omega (arith, high, c.field_of.ensures) in
-    rw c.field_of-in_default.ensures
-    (dying_by _ _ (d.inode c.args.ino).use_of (is_use d c.args.words.now c.args.ino (in_table d c.args.g.now c.args.ino same c.requires.ino)
+returns-in_default h c = λ d same reads.
+    let high : 2 ≤ c.read_field.result = omega arith in
+    let high_word : 2 ≤ slice_index (h.D.Pm.state c.args.device.now).now (inode_word c.args.ino 0) = omega (arith, high, c.read_field.ensures) in
+    rw c.read_field-in_default.ensures
+    (dying_by _ _ (d.inode c.args.ino).use_of (is_use d (h.D.Pm.state c.args.device.now).now c.args.ino (in_table d c.args.g.now c.args.ino same c.requires.ino)
     reads) high_word)

@@ -8,7 +8,7 @@ use Rattle.file_scan.specs.Index.{MayBeIndexed, IsIndexOf}
 use Rattle.file_scan.specs.Names.{IsNamesOf}
 use Rattle.image_logs.specs.Usage.{listed, mapped_by, CountsPages}
 use Rattle.image_logs.proofs.Hits.{refilled}
-use Rattle.image_logs.proofs.OneLog.{may_be_indexed, all_below, few_pages, blocks_below, adds_log}
+use Rattle.image_logs.proofs.OneLog.{may_be_indexed, all_below, few_pages, blocks_below, adds_log, log_is}
 use Rattle.image_logs.proofs.logs.add_log.Goals as goal
 
 pub index_log-requires : goal.index_log-requires
@@ -73,3 +73,10 @@ returns-clause-adds g c =
     (subst (λ (xs : List ℕ). CountsPages (mapped_by c.in_ok-index.index.map.map) c.args.end c.args.read.now.mapped.items xs)
     (sym (refilled c.args.read.now.mapped.len c.args.read.now.mapped.items c.count_places.new.counts (places.long ∙ sym c.args.read.now.mapped.ok.0)
     (sym c.args.read.now.mapped.ok.0))) places)
+
+pub returns-clause-log : goal.returns-clause-log
+returns-clause-log g c =
+    let index_is = subst (λ (xs : List PlacedItem). (log : Log) → map seen xs ≡ placed log → IsIndexOf log c.in_ok-index.index) c.deref.ensures.value
+    c.in_ok-index.ensures.index in
+    log_is c.args.g.now (g.D.Pm.state c.args.device.now).now c.args.ino c.in_ok-log.log.pages.items c.in_ok-log.log.items.items c.requires.accepted
+    c.in_ok-log.ensures.log c.in_ok-index.index index_is _ refl refl
