@@ -11,6 +11,7 @@ use Rattle.std.proofs.Common.{
   ◌*◌,
   ◌/◌,
   ◌%◌,
+  ◌^◌,
   ◌<◌,
   ◌≤◌,
   Bool,
@@ -138,6 +139,34 @@ module _ (d : Disk) (valid : IsValid d) (ino slot first n block size : ℕ) (fla
     log_page = log_page;
     in_page = word_in_page 5 (omega arith);
     high = word_high 5;
+  }
+
+  abbrev pub mask_log : ℕ → Log
+  mask_log new = changed d valid ino slot first n block size flag mask has (with_mask new)
+
+  pub may_mask : (new : ℕ) → new < 2 ^ n → MayMask d ino new slot (mask_log new)
+  may_mask new small = record {
+    may = record {
+      valid = valid;
+      in_table = has.in_table;
+      live = has.live;
+      reflags = reflags d valid ino slot first n block size flag mask has (with_mask new);
+    };
+    small = small;
+  }
+
+  pub mask_retags : (new : ℕ) → new < 2 ^ n → IsRetagged d ino (mask_log new) (mask_word slot) new (masked slot new)
+  mask_retags new small = record {
+    in_table = has.in_table;
+    live = has.live;
+    one = mask_one_word d ino new slot (mask_log new) (may_mask new small);
+    pages = mask_pages d ino new slot (mask_log new) (may_mask new small);
+    now_maps = mask_maps d ino new slot (mask_log new) (may_mask new small);
+    same_kept = λ m. (mask_bits slot new m).0;
+    page = page;
+    log_page = log_page;
+    in_page = word_in_page 6 (omega arith);
+    high = word_high 6;
   }
 
   -- no place is left alone that wasn't

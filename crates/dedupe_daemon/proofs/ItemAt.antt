@@ -102,7 +102,7 @@ module _ (d : Disk) (valid : IsValid d) (ino slot first n block size : ℕ) (fla
   abbrev pub changed : (LogItem → LogItem) → Log
   changed change = record { pages = log.pages; items = at.front ++ change (Write first n block size flag mask) ∷ at.rest }
 
-  pub reflags : (change : LogItem → LogItem) → Reflags change slot log (changed change)
+  abbrev pub reflags : (change : LogItem → LogItem) → Reflags change slot log (changed change)
   reflags change = record {
     front = at.front;
     item = Write first n block size flag mask;

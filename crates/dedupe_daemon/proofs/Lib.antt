@@ -32,3 +32,7 @@ pub mod PlaceFound
 pub mod ShareDisk
 pub mod ShareEvent
 pub mod ShareEnds
+pub mod Bits
+pub mod Masked
+pub mod MaskEnds
+pub mod LookedUp

@@ -41,6 +41,9 @@ module _ {D F : Type 0} (state : D → State) (w : Volume D F) (agrees : Agrees 
   pub units_for_place : IsLooking w.parts sharing → PLACE_UNITS ≤ w.parts.owed.units
   units_for_place looking = let found = running_disk state w running agrees in place_owed w.parts sharing looking (state w.device) found.1.room
 
+  pub spare_for_place : IsLooking w.parts sharing → 3 ≤ (state w.device).spare
+  spare_for_place looking = let found = running_disk state w running agrees in omega (arith, units_for_place looking, found.1.room.units)
+
   pub changes_for_place : IsLooking w.parts sharing → 2 ≤ w.parts.owed.trace
   changes_for_place looking = let found = running_disk state w running agrees in changes_owed w.parts sharing looking (state w.device) found.1.room
 

@@ -66,7 +66,7 @@ module _ (b : Parts) (sharing : Sharing) (looking : IsLooking b sharing) where
       omega (arith, room.owes.trace, here, look_changes sharing looking.step, looking.some)
 
   module _ (b' : Parts) (change : PassesPlace sharing b b') where
-    nodes_same : b'.inodes.items ≡ b.inodes.items
+    pub nodes_same : b'.inodes.items ≡ b.inodes.items
     nodes_same = ap (λ (ns : _). ns.items) change.inodes
 
     pub holds_on : (who ino : ℕ) → Holds b who ino → Holds b' who ino

@@ -10,8 +10,8 @@ use file_index::Mapping;
 use fingerprint::Fingerprint;
 use pm_device::Pm;
 
-/// The word of a Write's slot that has its mask.
-pub(crate) const MASK_FIELD: u64 = 6;
+// The word of a Write's slot that has its mask.
+const MASK_FIELD: u64 = 6;
 
 // The next place of an item, if the item maps it still.
 fn place_of(inodes: &[InodeState], sharing: Sharing) -> Option<Mapping>
@@ -37,6 +37,15 @@ fn has_bit(mask: u64, k: u64) -> bool
     mask & (1 << k) != 0
 }
 
+// The mask of an item.
+pub(crate) fn mask_of<D: Pm>(device: &D, slot: u64) -> u64
+    requires small { slot < 2 ^ 32 }
+    requires inside { 8 * slot + 8 ≤ length (D.state device.now).now }
+    ensures { result ≡ slice_index (D.state device.now).now (8 * slot + 6) }
+{
+    device.load(8 * slot + MASK_FIELD)
+}
+
 // Whether the next place of an item is left alone.
 fn is_masked<D: Pm>(device: &D, sharing: Sharing) -> bool
     requires small { sharing.work.slot < 2 ^ 32 }
@@ -45,8 +54,7 @@ fn is_masked<D: Pm>(device: &D, sharing: Sharing) -> bool
     ensures { IsTrue result ↔ IsBitSet (slice_index (D.state device.now).now
         (8 * sharing.work.slot + 6)) sharing.done }
 {
-    let mask = device.load(8 * sharing.work.slot + MASK_FIELD);
-    has_bit(mask, sharing.done)
+    has_bit(mask_of(device, sharing.work.slot), sharing.done)
 }
 
 /// The page of the place that is looked at, or None where the place is passed over: the item maps it no more, it is
