@@ -1,5 +1,5 @@
 -- One bit of a mask is set.
-use Rattle.std.proofs.Common.{◌≡◌, ◌≢◌, ◌⊎◌, inl, inr, ℕ, ◌+◌, ◌^◌, ◌<◌, sym, ◌∙◌, ap, subst, arith}
+use Rattle.std.proofs.Common.{◌≡◌, ◌≢◌, ◌⊎◌, inl, inr, ℕ, ◌^◌, ◌<◌, sym, ◌∙◌, subst, arith}
 use Rattle.std.specs.Prelude.{IsBitSet, bit_and, bit_or}
 use Rattle.std.proofs.lemmas.Bool.{cases_eq}
 use Rattle.std.proofs.lemmas.Nat.{and_or_self, and_or_apart, pow_apart, or_lt, pow_pos, pow_below}

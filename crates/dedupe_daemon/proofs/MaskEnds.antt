@@ -1,6 +1,6 @@
 -- The event of a place that is left alone, from what its calls give.
-use Rattle.std.proofs.Common.{◌≡◌, ℕ, ◌+◌, ◌*◌, ◌/◌, ◌^◌, ◌<◌, ◌≤◌, false, List, [], ◌∷◌, length, sym, ◌∙◌, ap, subst, arith}
-use Rattle.std.specs.Prelude.{None, Some, slice_index, bit_or}
+use Rattle.std.proofs.Common.{◌≡◌, ℕ, ◌+◌, ◌*◌, ◌/◌, ◌^◌, false, [], ◌∷◌, ◌∙◌, ap, subst, arith}
+use Rattle.std.specs.Prelude.{None, slice_index, bit_or}
 use Rattle.pm_device.specs.State.{State, Agree, Rose}
 use Rattle.pm_device.specs.Settled.{SettlesAll}
 use Rattle.pm_device.specs.Commit.{IsDone}
@@ -9,12 +9,11 @@ use Rattle.pm_layout.specs.Geometry.{InData}
 use Rattle.log_entry.specs.declared.item.Flag.TheVariants.{InProcess}
 use Rattle.inode_log.specs.Reflags.{mask_word}
 use Rattle.dn_model.specs.Disk.{Disk}
-use Rattle.dn_model.specs.Own.{Print, IsOwn}
+use Rattle.dn_model.specs.Own.{Print}
 use Rattle.law_flags.specs.FlagLaws.{masked}
 use Rattle.law_log_swap.specs.Relogged.{relogged}
 use Rattle.dn_volume.specs.declared.background.Sharing.{Sharing}
 use Rattle.dn_volume.specs.declared.volume.Volume.{Volume}
-use Rattle.dn_volume.specs.Accounts.{AccountsFor}
 use Rattle.dn_volume.specs.Agrees.{IsVolume, Agrees}
 use Rattle.dn_volume.specs.Events.{MovesOn, Breaks}
 use Rattle.dn_volume.proofs.Tables.{running_disk}
@@ -25,9 +24,8 @@ use Rattle.dedupe_daemon.proofs.DaemonEvent.{DaemonShown, daemon_moves, daemon_b
 use Rattle.dedupe_daemon.proofs.ItemAt.{slot_in_data}
 use Rattle.dedupe_daemon.proofs.RelogDisk.{tag_shown, disk_kept}
 use Rattle.dedupe_daemon.proofs.PassEnds.{begun_write}
-use Rattle.dedupe_daemon.proofs.PlaceNext.{place_small}
 use Rattle.dedupe_daemon.proofs.EndEnds.{SetsTag}
-use Rattle.dedupe_daemon.proofs.Masked.{begun, log, mask_accounts, new_mask, mask_read, retags, own_then, mask_event}
+use Rattle.dedupe_daemon.proofs.Masked.{log, mask_accounts, new_mask, mask_read, retags, own_then, mask_event}
 
 -- what is accounted for: the places that are left alone, and why
 module _ {D F : Type 0} (state : D → State) (w : Volume D F) (sharing : Sharing) (looking : IsLooking w.parts sharing) where

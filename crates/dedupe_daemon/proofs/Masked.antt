@@ -1,12 +1,12 @@
 -- A place of the daemon's item is left alone: the volume of after.
-use Rattle.std.proofs.Common.{◌≡◌, ◌≢◌, ◌⊎◌, inl, inr, ⊎_elim, ℕ, ◌+◌, ◌-◌, ◌*◌, ◌^◌, ◌<◌, ◌≤◌, List, [], ◌∷◌, length, refl, sym, ◌∙◌, ap, subst, arith}
-use Rattle.std.specs.Prelude.{slice_get, slice_index, Option, Some, None, Contains, IsBitSet, IsSome, bit_or, All}
+use Rattle.std.proofs.Common.{◌≡◌, ◌≢◌, ◌⊎◌, inl, inr, ⊎_elim, ℕ, ◌+◌, ◌*◌, ◌^◌, ◌<◌, ◌≤◌, List, [], ◌∷◌, refl, sym, ◌∙◌, ap, subst, arith}
+use Rattle.std.specs.Prelude.{slice_get, slice_index, Some, Contains, IsBitSet, IsSome, bit_or}
 use Rattle.std.proofs.lemmas.Bool.{cases_eq, cases_lt}
 use Rattle.std.proofs.lemmas.List.Elements.{All-contains}
 use Rattle.pm_device.specs.State.{State}
 use Rattle.pm_device.specs.Settled.{StoresOnly, KeepsFlushed, Others, SettlesAll}
 use Rattle.pm_device.specs.Commit.{IsDone}
-use Rattle.log_entry.specs.declared.item.Flag.TheVariants.{InProcess, Complete}
+use Rattle.log_entry.specs.declared.item.Flag.TheVariants.{InProcess}
 use Rattle.log_entry.specs.declared.item.LogItem.TheVariants.{Write}
 use Rattle.inode_log.specs.Reflags.{with_mask, mask_word}
 use Rattle.file_index.specs.declared.page_map.Mapping.{Mapping as KeptMapping}
@@ -31,7 +31,7 @@ use Rattle.dn_volume.specs.Agrees.{IsVolume}
 use Rattle.dn_volume.proofs.Stills.{still_settles}
 use Rattle.count_events.proofs.Settled.{no_client}
 use Rattle.dedupe_daemon.specs.Daemon.{PassesPlace, after_place}
-use Rattle.dedupe_daemon.specs.Looked.{IsLooking, IsAtPlace, IsToMask}
+use Rattle.dedupe_daemon.specs.Looked.{IsLooking, IsToMask}
 use Rattle.dedupe_daemon.proofs.Bits.{bit_set, bits_kept, bits_only, bits_below}
 use Rattle.dedupe_daemon.proofs.DaemonEvent.{DaemonEvent, others_kept}
 use Rattle.dedupe_daemon.proofs.Holding.{held_once}
@@ -192,8 +192,11 @@ module _ (d : Disk) (b : Parts) (s : State) (v : IsVolume d b s) (sharing : Shar
       block = begun.block;
       size = begun.size;
       mask = new_mask;
-      item = subst (λ (l : Log). Contains (placed l) (record { slot = slot; item = Write sharing.first sharing.count begun.block begun.size InProcess
-          new_mask })) (sym (log_here d ino log))
+      item = subst (λ (l : Log). Contains (placed l) (record {
+        slot = slot;
+        item = Write sharing.first sharing.count begun.block begun.size InProcess
+            new_mask;
+      })) (sym (log_here d ino log))
           (placed_change d v.fast.valid ino slot sharing.first sharing.count begun.block begun.size InProcess begun.mask (begun_write d sharing begun)
           (with_mask new_mask));
       done_few = omega (arith, looking.some);
@@ -219,8 +222,11 @@ module _ (d : Disk) (b : Parts) (s : State) (v : IsVolume d b s) (sharing : Shar
 
     not_client : (q : ℕ) (f : Flight) → Flies b q f → Contains f.held.items ino → ⊥
     not_client q f flies held = no_client b q f v.flights.clients
-        (omega (arith, held_once d b v.holders ino (omega (arith, begun.in_table, v.inodes.all)) q 15 (by_client f flies held)
-        (by_daemon sharing refl looking.begun refl))) flies
+        (omega (
+          arith,
+          held_once d b v.holders ino (omega (arith, begun.in_table, v.inodes.all)) q 15 (by_client f flies held)
+              (by_daemon sharing refl looking.begun refl),
+        )) flies
 
     module _ (u : State) (only : StoresOnly (λ a. a ≡ mask_word slot) s u) (others : KeepsFlushed (Others 15) (λ a. a ≡ mask_word slot) s u)
         (done : IsDone 15 (mask_word slot) new_mask s u) (settles : SettlesAll 15 s u) (spare : s.spare ≤ u.spare + 3) where
@@ -237,9 +243,11 @@ module _ (d : Disk) (b : Parts) (s : State) (v : IsVolume d b s) (sharing : Shar
             (subst (λ (ns : List InodeState). AreInodesOf d ns) (sym (nodes_same b sharing looking b' change)) v.inodes);
         holders = record {
           told = λ i who n at.
-              let was = v.holders.told i who n (ap (λ (ns : List InodeState). slice_get ns i) (sym (nodes_same b sharing looking b' change)) ∙ at) in
-              ((λ holder. holds_on b sharing looking b' change who i (was.0 holder)), (λ holds. was.1 (holds_back b sharing looking b' change who i
-              holds)));
+              let was = v.holders.told i who n (ap (λ (ns : List InodeState). slice_get ns i) (sym (nodes_same b sharing looking b' change)) ∙ at) in (
+                (λ holder. holds_on b sharing looking b' change who i (was.0 holder)),
+                (λ holds. was.1 (holds_back b sharing looking b' change who i
+                    holds)),
+              );
           in_table = λ i who holds. subst (λ g. i < g.inodes) (sym retags.one.geometry) (v.holders.in_table i who (holds_back b sharing looking b' change
               who i holds));
         };

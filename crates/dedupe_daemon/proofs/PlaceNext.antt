@@ -1,25 +1,23 @@
 -- The place that the daemon looks at: what is kept of it, and what the disk has.
-use Rattle.std.proofs.Common.{◌≡◌, ◌≢◌, ◌⊎◌, inl, inr, ⊎_elim, ℕ, ◌+◌, ◌-◌, ◌*◌, ◌/◌, ◌^◌, ◌<◌, ◌≤◌, Bool, true, false, List, [], ◌∷◌, length, refl, sym, ◌∙◌, ap, subst, arith}
-use Rattle.std.specs.Prelude.{slice_get, slice_index, slice_index_or, Option, Some, None, Contains, IsNone, IsSome, IsBitSet, if◌then◌else◌, ◌==◌, ◌↔◌}
+use Rattle.std.proofs.Common.{◌≡◌, ◌≢◌, inl, inr, ℕ, ◌+◌, ◌*◌, ◌^◌, ◌<◌, ◌≤◌, Bool, false, List, [], ◌∷◌, length, refl, sym, ◌∙◌, ap, subst, arith}
+use Rattle.std.specs.Prelude.{slice_get, slice_index, slice_index_or, Option, Some, None, Contains, IsNone, IsBitSet, if◌then◌else◌, ◌==◌, ◌↔◌}
 use Rattle.std.specs.Option.{option_map}
 use Rattle.std.specs.FinMap.{get}
-use Rattle.std.proofs.lemmas.Bool.{cases_eq}
 use Rattle.std.proofs.lemmas.Bool.Decides.{nat_tests}
 use Rattle.pm_device.specs.State.{State}
 use Rattle.pm_layout.specs.declared.Geometry.{Geometry}
-use Rattle.log_entry.specs.Spelling.{pages_of}
 use Rattle.log_entry.specs.declared.item.Flag.TheVariants.{InProcess}
 use Rattle.file_index.specs.declared.page_map.Mapping.{Mapping as KeptMapping}
 use Rattle.file_content.specs.Content.{kept}
 use Rattle.dn_model.specs.Maps.{Mapping}
 use Rattle.dn_model.specs.Table.{Row, row_of}
-use Rattle.dn_model.specs.Disk.{Disk, maps, rows, IsMapped}
+use Rattle.dn_model.specs.Disk.{Disk, maps, rows}
 use Rattle.dn_model.specs.Own.{IsAlone, HasRow}
 use Rattle.law_table.proofs.Rows.{row_found, listed_here, listed_later}
 use Rattle.law_write.specs.Events.{IsReadPage}
 use Rattle.law_write.proofs.MappedPlaces.{maps-in_file}
 use Rattle.law_write.proofs.Unread.{read_in_data}
-use Rattle.fact_table.specs.Table.{IsTable, HasTable, HasNoneOf, IsOfPage}
+use Rattle.fact_table.specs.Table.{HasTable, HasNoneOf, IsOfPage}
 use Rattle.dn_volume.specs.declared.background.Sharing.{Sharing}
 use Rattle.dn_volume.specs.declared.volume.InodeState.{InodeState}
 use Rattle.dn_volume.specs.declared.volume.Parts.{Parts}
@@ -100,8 +98,7 @@ module _ (d : Disk) (b : Parts) (s : State) (v : IsVolume d b s) (sharing : Shar
       let spelled = item_spelled d v.fast.valid sharing.work.ino sharing.work.slot sharing.first sharing.count begun.block begun.size InProcess begun.mask
       (begun_write d sharing begun) in
       let page = slot_in_data d v.fast.valid sharing.work.ino sharing.work.slot sharing.first sharing.count begun.block begun.size InProcess begun.mask
-      (begun_write d sharing begun) in
-      (
+      (begun_write d sharing begun) in (
         omega (arith, page.high, v.fast.valid.accepted.few_pages),
         omega (arith, spelled.1, looking.some),
         omega (arith, spelled.2, spelled.3, looking.some),
@@ -120,8 +117,7 @@ module _ (d : Disk) (b : Parts) (s : State) (v : IsVolume d b s) (sharing : Shar
       let of = places_of d v.fast.valid sharing.work.ino sharing.work.slot sharing.first sharing.count begun.block begun.size InProcess begun.mask
       (begun_write d sharing begun) (sharing.first + sharing.done) n mapped by in
       let bit : sharing.done ≡ n.bit = omega (arith, of.bit_is) in
-      let word : slice_index s.now (8 * sharing.work.slot + 6) ≡ n.mask = mask_word ∙ sym of.mask_is in
-      (
+      let word : slice_index s.now (8 * sharing.work.slot + 6) ≡ n.mask = mask_word ∙ sym of.mask_is in (
         (λ set. subst (λ (k : ℕ). IsBitSet k n.bit) word (subst (IsBitSet (slice_index s.now (8 * sharing.work.slot + 6))) bit set)),
         (λ alone. subst (IsBitSet (slice_index s.now (8 * sharing.work.slot + 6))) (sym bit)
             (subst (λ (k : ℕ). IsBitSet k n.bit) (sym word) alone)),

@@ -56,16 +56,16 @@ returns-in-Ok-clause-agrees g c =
 pub returns-in-Ok-clause-event : goal.returns-in-Ok-clause-event
 returns-in-Ok-clause-event g c = λ d v. (
   mask_moves g.D.Pm.state c.args.v.now c.args.sharing c.requires.looking d v g.F.Fingerprint.print c.requires.other.0
-    (c.requires.other.1 d v) (record { device = c.set_mask.new.device; print = c.args.v.now.print; parts = c.note_pass.new.parts })
-    c.with_bit-mask.result (c.with_bit-mask.ensures ∙ mask_is g.D.Pm.state c.args.v.now c.args.sharing c.requires.looking d v g.F.Fingerprint.print c.requires.other.0
-    (c.requires.other.1 d v) c.mask_of.result c.mask_of.ensures)
-    (record {
-      any_moment = c.set_mask.ensures.committed;
-      only = c.set_mask.ensures.only;
-      others = c.set_mask.ensures.others;
-      spare = c.set_mask.ensures.spare;
-      faults = c.set_mask.ensures.faults;
-    }) (g.met.D.Pm.agree c.set_mask.new.device) c.note_pass.ensures c.in-Ok.ensures.done c.in-Ok.ensures.settles,
+      (c.requires.other.1 d v) (record { device = c.set_mask.new.device; print = c.args.v.now.print; parts = c.note_pass.new.parts })
+      c.with_bit-mask.result (c.with_bit-mask.ensures ∙ mask_is g.D.Pm.state c.args.v.now c.args.sharing c.requires.looking d v g.F.Fingerprint.print c.requires.other.0
+      (c.requires.other.1 d v) c.mask_of.result c.mask_of.ensures)
+      (record {
+        any_moment = c.set_mask.ensures.committed;
+        only = c.set_mask.ensures.only;
+        others = c.set_mask.ensures.others;
+        spare = c.set_mask.ensures.spare;
+        faults = c.set_mask.ensures.faults;
+      }) (g.met.D.Pm.agree c.set_mask.new.device) c.note_pass.ensures c.in-Ok.ensures.done c.in-Ok.ensures.settles,
   begun_work d c.args.v.now.parts c.args.sharing c.requires.looking.begun,
   subst (DaemonLowers c.args.v.now.parts c.note_pass.new.parts)
       (sym (c.events_left.ensures (after_place c.args.sharing) refl refl refl ∙ ap sharing_events (sym c.note_pass.ensures.passed)))
@@ -90,15 +90,15 @@ returns-in-Err-clause-agrees g c =
 pub returns-in-Err-clause-event : goal.returns-in-Err-clause-event
 returns-in-Err-clause-event g c = λ d v. (
   mask_breaks g.D.Pm.state c.args.v.now c.args.sharing c.requires.looking d v g.F.Fingerprint.print c.requires.other.0
-    (c.requires.other.1 d v) (record { device = c.set_mask.new.device; print = c.args.v.now.print; parts = c.stop.new.parts })
-    c.with_bit-mask.result (c.with_bit-mask.ensures ∙ mask_is g.D.Pm.state c.args.v.now c.args.sharing c.requires.looking d v g.F.Fingerprint.print c.requires.other.0
-    (c.requires.other.1 d v) c.mask_of.result c.mask_of.ensures)
-    (record {
-      any_moment = c.set_mask.ensures.committed;
-      only = c.set_mask.ensures.only;
-      others = c.set_mask.ensures.others;
-      spare = c.set_mask.ensures.spare;
-      faults = c.set_mask.ensures.faults;
-    }) (g.met.D.Pm.agree c.set_mask.new.device) c.stop.ensures (c.set_mask.ensures.failed (err_is c.set_mask.result _ c.in-Err.is)),
+      (c.requires.other.1 d v) (record { device = c.set_mask.new.device; print = c.args.v.now.print; parts = c.stop.new.parts })
+      c.with_bit-mask.result (c.with_bit-mask.ensures ∙ mask_is g.D.Pm.state c.args.v.now c.args.sharing c.requires.looking d v g.F.Fingerprint.print c.requires.other.0
+      (c.requires.other.1 d v) c.mask_of.result c.mask_of.ensures)
+      (record {
+        any_moment = c.set_mask.ensures.committed;
+        only = c.set_mask.ensures.only;
+        others = c.set_mask.ensures.others;
+        spare = c.set_mask.ensures.spare;
+        faults = c.set_mask.ensures.faults;
+      }) (g.met.D.Pm.agree c.set_mask.new.device) c.stop.ensures (c.set_mask.ensures.failed (err_is c.set_mask.result _ c.in-Err.is)),
   begun_work d c.args.v.now.parts c.args.sharing c.requires.looking.begun,
 )

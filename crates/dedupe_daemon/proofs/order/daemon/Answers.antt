@@ -1,4 +1,3 @@
-use Rattle.std.proofs.Common.{sym, ◌∙◌}
 use Rattle.dedupe_daemon.proofs.PassEnds.{few_places}
 use Rattle.dedupe_daemon.proofs.order.daemon.Goals as goal
 

@@ -1,4 +1,3 @@
-use Rattle.dn_volume.specs.declared.background.Sharing.{Sharing}
 use Rattle.fact_table.specs.Seen.{as_row}
 use Rattle.dedupe_daemon.proofs.PlaceNext.{place_table}
 use Rattle.dedupe_daemon.proofs.LookedUp.{place_read, to_insert, row_read, to_share, to_mask}
