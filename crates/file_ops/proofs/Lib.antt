@@ -28,7 +28,3 @@ pub mod Nexts
 pub mod Flying
 pub mod FillEnds
 pub mod NextStep
-pub mod Replied
-pub mod WriteAsks
-pub mod WritePlanned
-pub mod WriteOpened
