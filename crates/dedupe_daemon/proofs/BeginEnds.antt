@@ -1,5 +1,5 @@
 -- The event of an item's begin, from what its calls give.
-use Rattle.std.proofs.Common.{◌≡◌, ℕ, zero, suc, ◌+◌, ◌*◌, ◌/◌, ◌<◌, ◌≤◌, false, List, [], ◌∷◌, length, refl, sym, ap, subst, arith}
+use Rattle.std.proofs.Common.{◌≡◌, ◌+◌, ◌*◌, ◌/◌, ◌<◌, false, List, [], ◌∷◌, length, ap, subst, arith}
 use Rattle.std.specs.Prelude.{None, Some, slice_get}
 use Rattle.pm_device.specs.State.{State, Agree, Rose}
 use Rattle.pm_device.specs.Settled.{SettlesAll}

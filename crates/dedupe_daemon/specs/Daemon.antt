@@ -1,5 +1,5 @@
 -- What events of the daemon that store no row make of what is kept in memory.
-use Rattle.std.specs.Prelude.{◌≡◌, ℕ, ◌+◌, ◌-◌, ◌*◌, Option, Some, None}
+use Rattle.std.specs.Prelude.{◌≡◌, ℕ, ◌+◌, ◌*◌, Option, Some, None}
 use Rattle.dedupe_queue.specs.declared.Work.{Work}
 use Rattle.dedupe_queue.specs.Queue.{Pops}
 use Rattle.dn_volume.specs.declared.units.TheConstants.{END_UNITS, PLACE_UNITS}

@@ -1,48 +1,13 @@
 -- The last event of an operation on names: what it needs is there, and what it does to the parts is what lands it.
-use Rattle.std.proofs.Common.{
-  ◌≡◌,
-  ◌≢◌,
-  ◌⊎◌,
-  inl,
-  inr,
-  ⊎_elim,
-  ℕ,
-  zero,
-  suc,
-  ◌+◌,
-  ◌-◌,
-  ◌*◌,
-  ◌<◌,
-  ◌≤◌,
-  Bool,
-  true,
-  false,
-  List,
-  [],
-  ◌∷◌,
-  ◌++◌,
-  length,
-  refl,
-  sym,
-  ◌∙◌,
-  ap,
-  subst,
-  arith,
-  Option,
-  Some,
-  None,
-  get_or,
-  length-append,
-}
+use Rattle.std.proofs.Common.{◌≡◌, ◌≢◌, ◌⊎◌, inl, inr, ⊎_elim, ℕ, zero, suc, ◌+◌, ◌-◌, ◌*◌, ◌<◌, ◌≤◌, Bool, true, false, List, [], ◌∷◌, ◌++◌, length, refl, sym, ◌∙◌, ap, subst, arith, Option, Some, None, get_or}
 use Rattle.std.specs.FinMap.{get}
 use Rattle.page_alloc.specs.Free.{IsInOrder}
-use Rattle.std.specs.Prelude.{◌↔◌, IsSome, Contains, All, slice_get, slice_index, is_some, if◌then◌else◌, vec_len, vec_capacity}
-use Rattle.std.proofs.lemmas.List.{get_or_append_left, append-nil}
+use Rattle.std.specs.Prelude.{◌↔◌, IsSome, Contains, slice_get, slice_index, is_some, if◌then◌else◌, vec_len, vec_capacity}
+use Rattle.std.proofs.lemmas.List.{append-nil}
 use Rattle.std.proofs.lemmas.List.Elements.{Contains-get_or, Contains-append_left, Contains-append_right}
 use Rattle.std.proofs.lemmas.Bool.{cases_eq}
 use Rattle.pm_device.specs.State.{State, Agree}
 use Rattle.pm_layout.specs.declared.Geometry.{Geometry}
-use Rattle.pm_layout.specs.Geometry.{IsAccepted}
 use Rattle.file_content.specs.Pages.{AreApart}
 use Rattle.dn_model.specs.Counts.{total}
 use Rattle.dn_model.specs.Disk.{Disk, Use, Free, Live, Dying, maps}
@@ -56,10 +21,10 @@ use Rattle.dn_volume.specs.declared.flight.Turn.{Turn}
 use Rattle.dn_volume.specs.declared.flight.Turn.TheVariants as kept_turn
 use Rattle.dn_volume.specs.declared.volume.InodeState.{InodeState}
 use Rattle.dn_volume.specs.declared.volume.Parts.{Parts}
-use Rattle.dn_volume.specs.Parties.{Flies, by_client, for_client, Takes, flight_at, blocks_of, taken_by}
+use Rattle.dn_volume.specs.Parties.{Flies, by_client, for_client, Takes, flight_at, blocks_of}
 use Rattle.dn_volume.specs.Flights.{IsNameFlight, left_by, left_of}
 use Rattle.dn_volume.specs.Reclaims.{mapped_places, units_by_use, dying_units, one_if}
-use Rattle.dn_volume.specs.Reserve.{owed_to, owed_sum, prepared_units, slots_of, units_by, runs_by}
+use Rattle.dn_volume.specs.Reserve.{owed_to, prepared_units, slots_of, units_by, runs_by}
 use Rattle.dn_volume.specs.Agrees.{IsVolume}
 use Rattle.pm_device.specs.State.{Rose}
 use Rattle.pm_device.specs.Settled.{LeavesOnly, StoresOnly, IsSettled}
@@ -72,8 +37,8 @@ use Rattle.dn_model.specs.declared.op.Reply.TheVariants.{Done}
 use Rattle.dn_volume.specs.declared.volume.Volume.{Volume}
 use Rattle.dn_volume.specs.Events.{Counts, Answers, Breaks, answered_by}
 use Rattle.count_events.proofs.Flown.{same_flight}
-use Rattle.name_ops.specs.Landing.{names_after, flight_changes, CommitsAll, Stops, Lands, LandsNames, LandsChange, IsToCommit, turn_units, places_kept}
-use Rattle.name_ops.specs.Ending.{IsCreate, CanLand, FinishesNames, Gives, IsNextToCommit}
+use Rattle.name_ops.specs.Landing.{names_after, flight_changes, CommitsAll, Stops, LandsChange, IsToCommit, turn_units, places_kept}
+use Rattle.name_ops.specs.Ending.{IsCreate, CanLand, FinishesNames, IsNextToCommit}
 use Rattle.name_ops.proofs.Answering.{names_answer, names_break}
 use Rattle.name_ops.proofs.Put.{same_names}
 use Rattle.name_ops.proofs.Counted.{few_places}

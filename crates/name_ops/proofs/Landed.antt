@@ -50,7 +50,7 @@ use Rattle.law_names.proofs.Kept.{mappings_same, free_kept, free_only, fresh_tak
 use Rattle.law_names.proofs.ChangedOwn.{live_was}
 use Rattle.file_content.specs.Pages.{AreApart}
 use Rattle.fact_table.specs.Table.{HasRow}
-use Rattle.dn_volume.specs.declared.units.TheConstants.{SLOT_UNITS, TURN_UNITS, NAMES_UNITS, FALL_UNITS, ZERO_CHECK_UNITS}
+use Rattle.dn_volume.specs.declared.units.TheConstants.{FALL_UNITS, ZERO_CHECK_UNITS}
 use Rattle.dn_volume.specs.declared.background.Sharing.{Sharing}
 use Rattle.dn_volume.specs.declared.flight.Flight.{Flight}
 use Rattle.dn_volume.specs.declared.flight.Change.{Change}

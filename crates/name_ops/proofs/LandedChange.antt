@@ -1,57 +1,21 @@
 -- An operation on names has landed: the volume in memory agrees with the disk of after.
-use Rattle.std.proofs.Common.{
-  ◌≡◌,
-  ◌≢◌,
-  ◌⊎◌,
-  inl,
-  inr,
-  ⊎_elim,
-  ℕ,
-  zero,
-  suc,
-  ◌+◌,
-  ◌*◌,
-  ◌<◌,
-  ◌≤◌,
-  Bool,
-  List,
-  [],
-  ◌∷◌,
-  ◌++◌,
-  length,
-  refl,
-  sym,
-  ◌∙◌,
-  ap,
-  subst,
-  arith,
-  Option,
-  Some,
-  None,
-  length-append,
-}
-use Rattle.std.specs.Prelude.{◌/◌, ◌↔◌, Contains, All, is_some, slice_get, if◌then◌else◌}
+use Rattle.std.proofs.Common.{◌≡◌, ◌≢◌, ◌⊎◌, inl, inr, ⊎_elim, ℕ, zero, suc, ◌+◌, ◌*◌, ◌<◌, ◌≤◌, Bool, List, [], ◌∷◌, ◌++◌, length, refl, sym, ◌∙◌, ap, subst, arith, Option, Some, None}
+use Rattle.std.specs.Prelude.{Contains, All, is_some, slice_get, if◌then◌else◌}
 use Rattle.std.specs.FinMap.{get}
 use Rattle.std.specs.Option.{option_map}
-use Rattle.std.specs.List.Sorted.{IsStrictlyIncreasing}
 use Rattle.std.proofs.lemmas.Bool.{cases_eq}
 use Rattle.std.proofs.lemmas.Option.{slice_get_cases}
-use Rattle.std.proofs.lemmas.List.{get_or_append_left}
-use Rattle.std.proofs.lemmas.List.Elements.{Contains-append_left}
 use Rattle.pm_device.specs.State.{State, Agree}
 use Rattle.pm_device.specs.Reading.{IsReady}
 use Rattle.pm_device.proofs.Only.{stores_only-weaken}
 use Rattle.pm_layout.specs.declared.Geometry.{Geometry}
 use Rattle.pm_layout.specs.Geometry.{slots, inode_word}
 use Rattle.pm_device.specs.Words.{IsIn}
-use Rattle.page_alloc.proofs.FreeLaws.{below_rest}
 use Rattle.log_entry.specs.Name.{same_name}
 use Rattle.log_entry.specs.Spelling.{pages_of}
 use Rattle.log_entry.specs.declared.item.LogItem.{LogItem}
 use Rattle.log_entry.specs.declared.item.LogItem.TheVariants.{Write as WriteItem, Size as SizeItem, Add, Forget}
 use Rattle.file_content.specs.Content.{kept}
-use Rattle.file_content.specs.Pages.{AreApart}
-use Rattle.dn_model.specs.Log.{count}
 use Rattle.dn_model.specs.Maps.{size_of, size_after, Mapping}
 use Rattle.dn_model.specs.Valid.{MayStand}
 use Rattle.dn_model.specs.declared.op.Op.{Op}
@@ -60,7 +24,6 @@ use Rattle.dn_model.specs.Table.{Row}
 use Rattle.dn_model.specs.Disk.{Disk, Inode, Use, Dying, IsUsed, rows, maps}
 use Rattle.dn_model.specs.Counts.{total}
 use Rattle.dn_model.specs.Files.{named}
-use Rattle.law_write.specs.Events.{IsUnused}
 use Rattle.law_write.proofs.Counting.{total-same, total-change}
 use Rattle.law_names.specs.NameChange.{
   NameChange as DiskChange,
@@ -90,7 +53,7 @@ use Rattle.dn_volume.specs.declared.flight.Turn.TheVariants as kept_turn
 use Rattle.dn_model.specs.declared.op.CountChange.{CountChange}
 use Rattle.dn_volume.specs.declared.volume.InodeState.{InodeState}
 use Rattle.dn_volume.specs.declared.volume.Parts.{Parts}
-use Rattle.dn_volume.specs.Parties.{Flies, SameOthers, by_client, Takes, for_client, blocks_of}
+use Rattle.dn_volume.specs.Parties.{Flies, SameOthers, by_client}
 use Rattle.dn_volume.specs.Inodes.{IsInodeOf, AreNamesOf, as_use}
 use Rattle.dn_volume.specs.Flights.{IsFlight, IsNameFlight, as_turn}
 use Rattle.dn_volume.specs.Reclaims.{mapped_places, dying_units, units_by_use, one_if, IsReclaiming}

@@ -1,38 +1,11 @@
 -- An operation on names in flight, whichever it is: it may change the disk so, other names lead where they lead, and
 -- the files are those after it.
-use Rattle.std.proofs.Common.{
-  ◌≡◌,
-  ◌≢◌,
-  ◌⊎◌,
-  inl,
-  inr,
-  ⊎_elim,
-  ℕ,
-  ◌+◌,
-  ◌<◌,
-  ◌≤◌,
-  List,
-  [],
-  ◌∷◌,
-  ◌++◌,
-  length,
-  refl,
-  sym,
-  ◌∙◌,
-  ap,
-  subst,
-  arith,
-  Option,
-  Some,
-  None,
-  length-append,
-}
+use Rattle.std.proofs.Common.{◌≡◌, ◌≢◌, ⊎_elim, ℕ, ◌+◌, ◌<◌, ◌≤◌, List, [], ◌∷◌, ◌++◌, length, refl, sym, ◌∙◌, ap, subst, arith, Option, Some, None, length-append}
 use Rattle.std.specs.Prelude.{◌/◌, ◌-◌, ◌*◌, ◌↔◌, Bool, true, false, nat_lt, if◌then◌else◌, Contains}
 use Rattle.std.specs.List.Sorted.{IsStrictlyIncreasing}
 use Rattle.std.proofs.lemmas.List.{get_or_append_left}
 use Rattle.std.proofs.lemmas.List.Elements.{Contains-append_left}
 use Rattle.pm_device.specs.State.{State}
-use Rattle.pm_device.specs.Reading.{IsReady}
 use Rattle.page_alloc.proofs.FreeLaws.{below_rest}
 use Rattle.log_entry.specs.Spelling.{spelled}
 use Rattle.log_entry.specs.declared.item.LogItem.{LogItem}
@@ -41,26 +14,15 @@ use Rattle.file_content.specs.Pages.{AreApart}
 use Rattle.name_journal.specs.declared.change.Change.{Change as Word}
 use Rattle.pm_layout.specs.Geometry.{inode_word}
 use Rattle.dn_model.specs.Log.{count, tail_at}
-use Rattle.dn_model.specs.Disk.{Disk, Free}
+use Rattle.dn_model.specs.Disk.{Disk}
 use Rattle.dn_model.specs.Files.{named, files, IsSameFiles}
 use Rattle.dn_model.specs.Apply.{IsGranted, Grants, after_op}
 use Rattle.dn_model.specs.declared.op.Op.{Op}
 use Rattle.dn_model.specs.declared.op.Op.TheVariants.{Create, Write, Read, Cut, Remove, Rename, Size, List as ListAll}
 use Rattle.dn_model.specs.declared.op.Reply.TheVariants.{Done}
 use Rattle.law_write.specs.Events.{IsUnused}
-use Rattle.law_names.specs.NameChange.{
-  NameChange as DiskChange,
-  Turn as DiskTurn,
-  MayChange,
-  MayGrowRoot,
-  IsSpared,
-  FreshNames,
-  root_after,
-  state_changes,
-  name_changes,
-  names_changed,
-}
-use Rattle.law_names.specs.Operations.{MayCreate, MayRemove, MayRename, creation, removal, renaming, with_name}
+use Rattle.law_names.specs.NameChange.{NameChange as DiskChange, Turn as DiskTurn, MayChange, MayGrowRoot, IsSpared, root_after, state_changes, name_changes, names_changed}
+use Rattle.law_names.specs.Operations.{MayCreate, MayRemove, MayRename, renaming, with_name}
 use Rattle.law_names.proofs.Links.{names_eq, with_name-here, with_name-other}
 use Rattle.law_names.proofs.Operating.{may_create, may_remove, may_rename, named_created, named_removed, named_renamed}
 use Rattle.law_names.proofs.OperatedFiles.{files_created, files_removed, files_renamed}

@@ -1,11 +1,9 @@
 -- The words that a commit of names changes.
-use Rattle.std.proofs.Common.{◌≡◌, ℕ, List, [], ◌∷◌, refl, sym, ◌∙◌, ap, subst, Option, Some, None}
+use Rattle.std.proofs.Common.{◌≡◌, ℕ, List, [], ◌∷◌, refl, sym, ◌∙◌, ap, subst, Some, None}
 use Rattle.std.specs.Prelude.{◌+◌, ◌≤◌, Result, Ok, Err, OnOk}
 use Rattle.pm_device.specs.State.{State}
-use Rattle.pm_device.specs.declared.Failed.{Failed}
 use Rattle.pm_device.specs.Settled.{LeavesOnly, StoresOnly, KeepsFlushed, Others, SettlesAll}
 use Rattle.pm_layout.specs.Geometry.{inode_word}
-use Rattle.inode_log.proofs.Committed.{on_ok_map}
 use Rattle.name_journal.specs.Changes.{IsTouched}
 use Rattle.name_journal.specs.AllOrNone.{AllOrNone, IsAllDone}
 use Rattle.name_journal.specs.declared.change.Change.{Change as Word}

@@ -1,5 +1,5 @@
 -- What the end of an operation on names does to the parts, after its flight was taken out.
-use Rattle.std.specs.Prelude.{◌≡◌, ◌⊎◌, ◌↔◌, ℕ, ◌+◌, ◌<◌, ◌≤◌, true, List, [], ◌∷◌, ◌++◌}
+use Rattle.std.specs.Prelude.{◌≡◌, ◌⊎◌, ◌↔◌, ℕ, ◌+◌, ◌<◌, ◌≤◌, List, [], ◌∷◌, ◌++◌}
 use Rattle.std.specs.Prelude.{length, slice_get, slice_index, Some, None, Contains, All}
 use Rattle.std.specs.Prelude.{vec_len, vec_capacity}
 use Rattle.std.specs.FinMap.{get}
@@ -14,6 +14,7 @@ use Rattle.dn_volume.specs.declared.flight.Change.TheVariants.{Names}
 use Rattle.dn_volume.specs.declared.flight.NameChange.{NameChange}
 use Rattle.dn_volume.specs.declared.volume.InodeState.{InodeState}
 use Rattle.dn_volume.specs.declared.volume.Parts.{Parts}
+use Rattle.dn_volume.specs.Parties.{Flies}
 use Rattle.dn_volume.specs.PlannedNames.{name_put}
 use Rattle.name_ops.specs.Landing.{names_after, TurnsInode, LetsGo, turn_units, places_kept, IsToCommit}
 
@@ -54,6 +55,13 @@ pub record KeepsPlaces (n n' : InodeState) : Type 0 where
 pub record IsCreate (op : Op) : Type 0 where
   pub name : List ℕ
   pub is : op ≡ Create name
+
+-- an operation on names of this client is in flight
+pub record FliesNames (b : Parts) (who : ℕ) : Type 0 where
+  pub flight : Flight
+  pub change : NameChange
+  pub flies : Flies b who flight
+  pub change_is : flight.change ≡ Names change
 
 -- a creation of this client is in flight, and all that has to stand before its commit was stored
 pub record IsNextToCommit (b : Parts) (who : ℕ) : Type 0 where

@@ -31,13 +31,13 @@ pub returns-in-Ok-clause-event : goal.returns-in-Ok-clause-event
 returns-in-Ok-clause-event g c = λ d v. (
   begin_moves g.D.Pm.state c.args.v.now c.args.sharing c.requires.none_begun c.requires.front c.requires.fresh c.requires.item c.requires.loose
       d v g.F.Fingerprint.print (record { device = c.set_flag.new.device; print = c.args.v.now.print; parts = c.note_begin.new.parts })
-    (record {
-      any_moment = c.set_flag.ensures.committed;
-      only = c.set_flag.ensures.only;
-      others = c.set_flag.ensures.others;
-      spare = c.set_flag.ensures.spare;
-      faults = c.set_flag.ensures.faults;
-    }) (g.met.D.Pm.agree c.set_flag.new.device) c.note_begin.ensures c.requires.room c.in-Ok.ensures.done c.in-Ok.ensures.settles,
+      (record {
+        any_moment = c.set_flag.ensures.committed;
+        only = c.set_flag.ensures.only;
+        others = c.set_flag.ensures.others;
+        spare = c.set_flag.ensures.spare;
+        faults = c.set_flag.ensures.faults;
+      }) (g.met.D.Pm.agree c.set_flag.new.device) c.note_begin.ensures c.requires.room c.in-Ok.ensures.done c.in-Ok.ensures.settles,
   begin_work g.D.Pm.state c.args.v.now c.args.sharing c.requires.none_begun c.requires.front c.requires.fresh c.requires.item c.requires.loose d v,
   begin_less g.D.Pm.state c.args.v.now c.args.sharing c.requires.none_begun c.requires.front c.requires.fresh c.requires.item c.requires.loose d v
       (record { device = c.set_flag.new.device; print = c.args.v.now.print; parts = c.note_begin.new.parts }) c.note_begin.ensures,
@@ -63,12 +63,12 @@ returns-in-Err-clause-event g c = λ d v. (
   begin_breaks g.D.Pm.state c.args.v.now c.args.sharing c.requires.none_begun c.requires.front c.requires.fresh c.requires.item c.requires.loose
       d v g.F.Fingerprint.print
       (record { device = c.set_flag.new.device; print = c.args.v.now.print; parts = c.stop.new.parts })
-    (record {
-      any_moment = c.set_flag.ensures.committed;
-      only = c.set_flag.ensures.only;
-      others = c.set_flag.ensures.others;
-      spare = c.set_flag.ensures.spare;
-      faults = c.set_flag.ensures.faults;
-    }) (g.met.D.Pm.agree c.set_flag.new.device) c.stop.ensures (c.set_flag.ensures.failed (err_is c.set_flag.result _ c.in-Err.is)),
+      (record {
+        any_moment = c.set_flag.ensures.committed;
+        only = c.set_flag.ensures.only;
+        others = c.set_flag.ensures.others;
+        spare = c.set_flag.ensures.spare;
+        faults = c.set_flag.ensures.faults;
+      }) (g.met.D.Pm.agree c.set_flag.new.device) c.stop.ensures (c.set_flag.ensures.failed (err_is c.set_flag.result _ c.in-Err.is)),
   begin_work g.D.Pm.state c.args.v.now c.args.sharing c.requires.none_begun c.requires.front c.requires.fresh c.requires.item c.requires.loose d v,
 )

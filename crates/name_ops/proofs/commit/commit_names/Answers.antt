@@ -1,22 +1,8 @@
-use Rattle.std.proofs.Common.{◌≡◌, ◌⊎◌, ◌+◌, ◌-◌, ◌<◌, ℕ, length, refl, sym, ◌∙◌, ap, subst, arith}
+use Rattle.std.proofs.Common.{◌≡◌, ◌⊎◌, ◌+◌, refl, arith}
 use Rattle.dn_volume.specs.Agrees.{agrees_with, is_stopped}
 use Rattle.dn_volume.proofs.Tables.{running_disk}
 use Rattle.count_events.proofs.Flown.{in_range}
-use Rattle.name_ops.proofs.Committed.{
-  to_commit,
-  is_next,
-  node_file,
-  node_there,
-  gate_closed,
-  gate_settled,
-  spare_there,
-  can_land,
-  back_again,
-  commit_answers,
-  commit_breaks,
-  breaks_of,
-  answers_of,
-}
+use Rattle.name_ops.proofs.Committed.{to_commit, node_file, node_there, gate_closed, gate_settled, spare_there, can_land, back_again, commit_answers, commit_breaks, breaks_of, answers_of}
 use Rattle.name_ops.proofs.commit.commit_names.Goals as goal
 
 pub commit_change-requires-clause-file : goal.commit_change-requires-clause-file

@@ -1,9 +1,9 @@
-use Rattle.std.proofs.Common.{◌≡◌, ◌-◌, ◌++◌, List, ℕ, refl, sym, ◌∙◌, ap, arith}
+use Rattle.std.proofs.Common.{◌-◌, ◌++◌, refl, sym, ◌∙◌, ap, arith}
 use Rattle.std.specs.Prelude.{Option}
 use Rattle.dn_volume.specs.declared.flight.Flight.{Flight}
 use Rattle.dn_volume.specs.declared.flight.Change.{Change}
 use Rattle.dn_volume.specs.Parties.{opened, blocks_of}
-use Rattle.count_events.proofs.Flown.{in_range, at_client, get_here, get_there, set_long, same_flight}
+use Rattle.count_events.proofs.Flown.{in_range, at_client, get_here, get_there, set_long}
 use Rattle.name_ops.proofs.prepare.note_prepared.Goals as goal
 
 pub prepare_flight-units-requires : goal.prepare_flight-units-requires
