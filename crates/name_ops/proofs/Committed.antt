@@ -1,5 +1,38 @@
 -- The last event of an operation on names: what it needs is there, and what it does to the parts is what lands it.
-use Rattle.std.proofs.Common.{◌≡◌, ◌≢◌, ◌⊎◌, inl, inr, ⊎_elim, ℕ, zero, suc, ◌+◌, ◌-◌, ◌*◌, ◌<◌, ◌≤◌, Bool, true, false, List, [], ◌∷◌, ◌++◌, length, refl, sym, ◌∙◌, ap, subst, arith, Option, Some, None, get_or}
+use Rattle.std.proofs.Common.{
+  ◌≡◌,
+  ◌≢◌,
+  ◌⊎◌,
+  inl,
+  inr,
+  ⊎_elim,
+  ℕ,
+  zero,
+  suc,
+  ◌+◌,
+  ◌-◌,
+  ◌*◌,
+  ◌<◌,
+  ◌≤◌,
+  Bool,
+  true,
+  false,
+  List,
+  [],
+  ◌∷◌,
+  ◌++◌,
+  length,
+  refl,
+  sym,
+  ◌∙◌,
+  ap,
+  subst,
+  arith,
+  Option,
+  Some,
+  None,
+  get_or,
+}
 use Rattle.std.specs.FinMap.{get}
 use Rattle.page_alloc.specs.Free.{IsInOrder}
 use Rattle.std.specs.Prelude.{◌↔◌, IsSome, Contains, slice_get, slice_index, is_some, if◌then◌else◌, vec_len, vec_capacity}
@@ -109,7 +142,8 @@ module _ (d : Disk) (b : Parts) (s : State) (who : ℕ) (f : Flight) (c : NameCh
       (Contains-append_right f.fresh.items f.spare.items page has))
 
   spare_unused : (page : ℕ) → Contains f.spare.items page → IsUnused d page
-  spare_unused page has = volume.space.unused page (λ none. let his = volume.space.takes who page (takes_spare page has) in let some = to.flies.client in
+  spare_unused page has = volume.space.unused page (λ none. let his = volume.space.takes who page (takes_spare page has) in
+      let some = to.flies.client in
       omega (arith, none, his, some))
 
   abbrev to_flies : Flies b who f
@@ -197,7 +231,8 @@ module _ (d : Disk) (b : Parts) (s : State) (who : ℕ) (f : Flight) (c : NameCh
           owed_trace = let rows = no_rows_owed in let told = finish.owed_trace in let same = ap (λ o. o.trace) out.owed in
               omega (arith, rows, told, same);
           owed_history = let told = finish.owed_history in let same = ap (λ o. o.history) out.owed in omega (arith, told, same);
-          owed_queue = let none : (owed_to (Some f)).queue ≡ 0 = ap runs_by to.change_is in let told = finish.owed_queue in let same = ap (λ o. o.queue)
+          owed_queue = let none : (owed_to (Some f)).queue ≡ 0 = ap runs_by to.change_is in let told = finish.owed_queue in
+              let same = ap (λ o. o.queue)
               out.owed in omega (arith, none, told, same);
           owed_releases = let rows = no_rows_owed in let told = finish.owed_releases in let same = ap (λ o. o.releases) out.owed in
               omega (arith, rows, told, same);
@@ -221,7 +256,8 @@ module _ (d : Disk) (b : Parts) (s : State) (who : ℕ) (f : Flight) (c : NameCh
       raised = finish.raised ∙ ap (λ r. r.raised) out.reclaiming;
       zero_check = finish.zero_check ∙ ap (λ r. r.zero_check) out.reclaiming;
       releases = finish.releases ∙ ap (λ r. r.releases) out.reclaiming;
-      waiting = λ n at. finish.waiting n (ap (λ xs. slice_get xs.items c.node) out.inodes ∙ at) ∙ ap (λ r. r.waiting + turn_units c.turn (places_kept n))
+      waiting = λ n at. finish.waiting n (ap (λ xs. slice_get xs.items c.node) out.inodes ∙ at)
+          ∙ ap (λ r. r.waiting + turn_units c.turn (places_kept n))
           out.reclaiming;
     }
 

@@ -21,7 +21,14 @@ use Rattle.dn_volume.specs.declared.volume.Parts.{Parts}
 use Rattle.dn_volume.specs.Parties.{Flies}
 use Rattle.dn_volume.specs.PlannedNames.{name_put}
 use Rattle.dn_volume.specs.Begins.{IsNamesOp}
-use Rattle.name_ops.specs.Landing.{names_after, TurnsInode, LetsGo, turn_units, places_kept, IsToCommit}
+use Rattle.name_ops.specs.Landing.{
+  names_after,
+  TurnsInode,
+  LetsGo,
+  turn_units,
+  places_kept,
+  IsToCommit,
+}
 
 -- these pages became free, and nothing else changed
 pub record Gives (given : ℕ → Type 0) (old new : FreePages) : Type 0 where
@@ -125,7 +132,8 @@ pub record FinishesNames (who : ℕ) (f : Flight) (c : NameChange) (b b' : Parts
   pub names_room : b.names.room ≤ b'.names.room + 1
   pub all : length b'.inodes.items ≡ length b.inodes.items
   pub each : (ino : ℕ) (n' : InodeState) → slice_get b'.inodes.items ino ≡ Some n'
-      → (n : InodeState) × (slice_get b.inodes.items ino ≡ Some n) × TurnsInode c ino n n' × LetsGo f
+      → (n : InodeState) × (slice_get b.inodes.items ino ≡ Some n) × TurnsInode c ino n n'
+          × LetsGo f
       ino n n'
   pub raised : b'.reclaiming.raised ≡ b.reclaiming.raised
   pub zero_check : b'.reclaiming.zero_check ≡ b.reclaiming.zero_check
