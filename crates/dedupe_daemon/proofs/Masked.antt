@@ -257,7 +257,8 @@ module _ (d : Disk) (b : Parts) (s : State) (v : IsVolume d b s) (sharing : Shar
             (subst (λ (ns : List InodeState). AreInodesOf d ns) (sym (nodes_same b sharing looking b' change)) v.inodes);
         holders = record {
           told = λ i who n at.
-              let was = v.holders.told i who n (ap (λ (ns : List InodeState). slice_get ns i) (sym (nodes_same b sharing looking b' change)) ∙ at) in (
+              let was = v.holders.told i who n (ap (λ (ns : List InodeState). slice_get ns i) (sym (nodes_same b sharing looking b'
+              change)) ∙ at) in (
                 (λ holder. holds_on b sharing looking b' change who i (was.0 holder)),
                 (λ holds. was.1 (holds_back b sharing looking b' change who i
                     holds)),

@@ -165,7 +165,8 @@ module _ (d : Disk) (b b' : Parts) (s : State) (v : IsVolume d b s) (sharing : S
     inodes_are = subst (λ (ns : List InodeState). AreInodesOf d ns) (sym (nodes_same b sharing looking b' change)) v.inodes;
     holders = record {
       told = λ ino who n at.
-          let was = v.holders.told ino who n (ap (λ (ns : List InodeState). slice_get ns ino) (sym (nodes_same b sharing looking b' change)) ∙ at) in (
+          let was = v.holders.told ino who n (ap (λ (ns : List InodeState). slice_get ns ino) (sym (nodes_same b sharing looking b'
+          change)) ∙ at) in (
             (λ holder. holds_on b sharing looking b' change who ino (was.0 holder)),
             (λ holds. was.1 (holds_back b sharing looking b' change who ino
                 holds)),
