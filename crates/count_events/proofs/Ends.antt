@@ -88,7 +88,7 @@ module _ {D F : Type 0} (state : D → State) (w : Volume D F) (slot : ℕ) (som
   lowers b' word change = record {
     left_is = refl;
     less = falls (word == 0) change.waiting;
-    queue = ap (λ (ws : List Work). length ws) change.kept.queue;
+    queue = change.kept.queue;
     sharing = change.sharing;
   }
     where

@@ -326,3 +326,11 @@ begins_stay_sound state agree print base who op v v' outcome some running sound 
     by out.NotYours d volume s b = absurd b
     by out.NoMemory d volume s b = quiet d s b.0
     by out.Stopped d volume s b = absurd b
+
+-- so does what changes nothing but the room that is kept
+pub untouched_stays_sound : {D F : Type 0} (state : D → State) (print : Print) (base : Base) (v v' : Volume D F) → v.parts.stopped ≡ false
+    → Sound state print base v → ((d : Disk) → IsVolume d v.parts (state v.device) → IsUntouched state v v' d) → Sound state print base v'
+untouched_stays_sound state print base v v' running sound un =
+    let was = sound_disk state print base v running sound in
+    let u = un was.0 was.1 in
+    is_sound was.0 u.volume (untouched state print base v v' was.0 was.2 u.device u.same.work.trace u)

@@ -38,3 +38,5 @@ pub mod FewMappings
 pub mod Hands
 pub mod HandsKept
 pub mod Between
+pub mod Since
+pub mod Resting

@@ -90,10 +90,22 @@ PagesSince base history d = (row : Row) → Contains (rows d) row → (f : Files
 
 module _ (print : Print) (base : Base) (history more : List Entry) (d e : Disk) (legal : Legal (base_files base) history (files d))
     (accounts : AccountsFor print d e) where
-  pub alone_on : AloneSince print base history d → AloneSince print base (history ++ more) e
-  alone_on since ino idx m place alone =
+  pub alone_on : AloneSince print base history d → PagesSince base history d → AloneSince print base (history ++ more) e
+  alone_on since pages ino idx m place alone =
       ⊎_elim (λ was. by_old was (since ino idx was.mapping was.place was.alone))
-      (λ twin. inr (files d, way_on (base_files base) history more (files d) (way_here (base_files base) history (files d) legal), twin))
+      (λ twin. let page = pages twin.row twin.there in inr (
+        page.0,
+        way_on (base_files base) history more page.0 page.1,
+        record {
+          name = page.2.name;
+          bytes = page.2.bytes;
+          idx = page.2.idx;
+          file = page.2.file;
+          in_file = page.2.in_file;
+          other = λ same. twin.other (sym page.2.same ∙ same);
+          same = ap print page.2.same ∙ twin.same;
+        },
+      ))
       (accounts.alone ino idx m place alone)
     where
       by_old : (was : WasAloneOn d e ino idx m)

@@ -57,7 +57,7 @@ module _ {D F : Type 0} (state : D → State) (print : Print) (base : Base) (who
     traced = traced_on base d e v.parts v'.parts moves.traces sound.traced;
     short = short;
     alone = alone_since print base (v.parts.history.items ++ more) v'.parts.history.items e same
-        (alone_on print base v.parts.history.items more d e sound.legal (moves.accounts sound.own) sound.alone);
+        (alone_on print base v.parts.history.items more d e sound.legal (moves.accounts sound.own) sound.alone sound.row_pages);
     row_pages = pages_since base (v.parts.history.items ++ more) v'.parts.history.items e same
         (pages_on print base v.parts.history.items more d e sound.legal (moves.accounts sound.own) sound.row_pages);
     begun = on.begun;

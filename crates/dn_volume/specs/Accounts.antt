@@ -1,11 +1,11 @@
 -- Why places are left alone, and where the pages of rows come from: through one event, and since a
 -- base.
-use Rattle.std.specs.Prelude.{◌≡◌, ◌⊎◌, ℕ, ◌*◌, ◌<◌, List, length, Some, Contains}
+use Rattle.std.specs.Prelude.{◌≡◌, ◌≢◌, ◌⊎◌, ℕ, ◌*◌, ◌<◌, List, length, Some, Contains}
 use Rattle.dn_model.specs.Maps.{Mapping}
 use Rattle.dn_model.specs.Table.{Row}
 use Rattle.dn_model.specs.Disk.{Disk, rows}
 use Rattle.dn_model.specs.Files.{Files, files}
-use Rattle.dn_model.specs.Own.{Print, LivePlace, IsAlone, HasTwin, page_bytes, file_page}
+use Rattle.dn_model.specs.Own.{Print, LivePlace, IsAlone, page_bytes, file_page}
 
 -- some file has a page of these bytes
 pub record HasPage (f : Files) (page : List ℕ) : Type 0 where
@@ -36,11 +36,18 @@ abbrev pub KeepsAlone : Disk → Disk → Type 0
 KeepsAlone d e = (ino idx : ℕ) (m : Mapping) → LivePlace e ino idx m → IsAlone m
     → WasAloneOn d e ino idx m
 
--- A place that is left alone was so before, or some file of before has its twin. The page of a row
+-- the page of a row has other bytes with the same print
+pub record HasTwinRow (print : Print) (d : Disk) (page : List ℕ) : Type 0 where
+  pub row : Row
+  pub there : Contains (rows d) row
+  pub other : page_bytes d row.page ≢ page
+  pub same : print (page_bytes d row.page) ≡ print page
+
+-- A place that is left alone was so before, or some row of before has its twin. The page of a row
 -- had one before, or
 -- has the bytes of a page of a file of before.
 pub record AccountsFor (print : Print) (d e : Disk) : Type 0 where
   pub alone : (ino idx : ℕ) (m : Mapping) → LivePlace e ino idx m → IsAlone m
-      → WasAloneOn d e ino idx m ⊎ HasTwin print (files d) (page_bytes e m.block)
+      → WasAloneOn d e ino idx m ⊎ HasTwinRow print d (page_bytes e m.block)
   pub row_pages : (row : Row) → Contains (rows e) row → HadRow d e row ⊎ HasPage (files d)
       (page_bytes e row.page)

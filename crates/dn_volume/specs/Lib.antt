@@ -23,3 +23,5 @@ pub mod Fresh
 pub mod Wrong
 pub mod Steps
 pub mod Laws
+pub mod Kinds
+pub mod Resting

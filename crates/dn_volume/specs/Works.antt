@@ -127,7 +127,7 @@ reclaim_stand b = record {
 pub record ReclaimLowers (b b' : Parts) (left : ℕ) : Type 0 where
   pub left_is : left ≡ b'.reclaiming.waiting
   pub less : b'.reclaiming.waiting < b.reclaiming.waiting
-  pub queue : length b'.queue.items ≡ length b.queue.items
+  pub queue : b'.queue.items ≡ b.queue.items
   pub sharing : b'.sharing ≡ b.sharing
 
 abbrev pub ReclaimWorks : {D F : Type 0} → (D → State) → Print → Volume D F → Volume D F → Disk

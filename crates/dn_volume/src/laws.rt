@@ -1,5 +1,6 @@
 // The laws by which an event of a machine is proved. Each function states one; it does nothing.
 ghost use Rattle.dn_volume.specs.Laws.{DecidingStoresLead, FastDevicesLeave, ValidDisksLieWithin, TablesAreThere, AdvancesAreTold, MovesStaySound, AnswersStaySound, BreaksStaySound, BeginsStaySound, FlightsAreGranted, InodesAreShort, WantsAreShort};
+ghost use Rattle.dn_volume.specs.Resting.{RestingVolumesAreAtRest};
 ghost use Rattle.dn_volume.specs.Fresh.{FreshVolumesAgree, FreshVolumesAreSound};
 ghost use Rattle.dn_volume.specs.Wrong.{LeftOutPlacesAreRefused, StalePointersAreRefused, WrongPartsAreRefused};
 ghost use Rattle.dn_volume.specs.Rely.{FlightsStay, OthersStay};
@@ -93,4 +94,10 @@ pub fn wrong_parts_are_refused()
     ensures parts { WrongPartsAreRefused }
     ensures places { LeftOutPlacesAreRefused }
     ensures pointers { StalePointersAreRefused }
+{}
+
+/// Once no operation is in flight, the daemon has begun nothing and nothing waits for reclaim, counts are exact, the
+/// journal is closed, no file is dying, no pointer is stale, the device is still, and the free pages are the disk's.
+pub fn resting_volumes_are_at_rest()
+    ensures { RestingVolumesAreAtRest }
 {}

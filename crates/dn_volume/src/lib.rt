@@ -6,6 +6,7 @@
 
 pub mod background;
 pub mod flight;
+pub mod kind;
 pub mod laws;
 pub mod outcome;
 pub mod rest;
@@ -15,5 +16,6 @@ pub mod volume;
 pub use background::{DyingPlace, Reclaiming, Sharing, SharingStep};
 pub use dn_model::{CLIENTS, DAEMON, MOST_RELEASES, RECLAIM};
 pub use flight::{Change, DataChange, Flight, NameChange, Turn};
+pub use kind::FlightKind;
 pub use outcome::{CountChange, Outcome};
 pub use volume::{InodeState, InodeUse, Parts, Room, Volume};

@@ -1,20 +1,18 @@
 -- What the calls of an index make of it.
-use Rattle.std.proofs.Common.{◌≡◌, ◌≢◌, ℕ, suc, ◌+◌, ◌<◌, ◌≤◌, List, [], ◌∷◌, cond, length, get_or, take, drop, set, map, Some, None, IsSome, refl, sym, ap, subst, ◌∙◌, inl, inr, arith, take-append-drop}
-use mathlib.Core.Bool.{false, false≢true}
+use Rattle.std.proofs.Common.{◌≡◌, ℕ, suc, ◌+◌, ◌<◌, ◌≤◌, List, [], ◌∷◌, cond, length, get_or, set, map, Some, None, IsSome, refl, sym, ap, subst, ◌∙◌, arith}
+use mathlib.Core.Bool.{false≢true}
 use Rattle.std.specs.Prelude.{Contains}
 use Rattle.std.specs.List.{insert, remove}
-use Rattle.std.specs.Ordering.{eq_by_cmp, is_eq, nat_cmp}
+use Rattle.std.specs.Ordering.{is_eq, nat_cmp}
 use Rattle.std.specs.declared.cmp.Ordering.{Ordering}
 use Rattle.std.specs.declared.cmp.Ordering.TheVariants.{Less, Equal, Greater}
-use Rattle.std.specs.Cmp.{IsTotalOrder, nat_cmp_total, tied_itself}
+use Rattle.std.specs.Cmp.{IsTotalOrder, tied_itself}
 use Rattle.std.specs.Cmp.Lexicographic.{slice_cmp, nat_list_cmp_total}
 use Rattle.std.specs.FinMap.{get, find, from_entries, get-from_entries, IsAntisymmetric, nat_cmp-IsAntisymmetric, slice_cmp-IsAntisymmetric}
-use Rattle.std.proofs.lemmas.Cmp.{ranked}
-use Rattle.std.proofs.lemmas.Bool.{cases_lt, cases_eq}
 use Rattle.std.proofs.lemmas.List.{get_or-map, get_or_read, length-map}
-use Rattle.file_index.specs.Entries.{IsRising, HasKey, IsGap, IsCountBelow}
-use Rattle.file_index.specs.Index.{Index, Puts, Drops, CutsOff, IsLastBelow, ListsNames, ListsEntries}
-use Rattle.file_index.proofs.Lookups.{all_front, all_back, IsFree, find-free, find-append_back, find_some, other}
+use Rattle.file_index.specs.Entries.{IsRising, HasKey, IsGap}
+use Rattle.file_index.specs.Index.{Index, Puts, Drops, ListsNames, ListsEntries}
+use Rattle.file_index.proofs.Lookups.{find_some}
 use Rattle.file_index.proofs.Placed.{find_in_gap, find-inserted, find-inserted_other, find_at, find-removed, find-removed_other, find-set, find-set_other}
 
 -- the index with these entries
@@ -55,49 +53,6 @@ module _ {K X : Type 0} {R : K → K → Ordering} (o : IsTotalOrder R) (same : 
       others = λ q differ. get-from_entries o _ q ∙ find-removed_other o same es key at rising has d q differ ∙ sym (get-from_entries o es q);
       room = le;
     }
-
-apart : (q x : ℕ) → q ≢ x → eq_by_cmp nat_cmp q x ≡ false
-apart q x differ = other nat_cmp nat_cmp-IsAntisymmetric q x differ
-
-module _ {X : Type 0} (es : List (ℕ × X)) (place count : ℕ) (counted : IsCountBelow es place count) where
-  pub cuts_off : (room room' : ℕ) → room ≤ room' → CutsOff place (index_of nat_cmp es room) (index_of nat_cmp (take count es) room')
-  cuts_off room room' le = record {
-    gone = λ q from. get-from_entries nat_cmp_total _ q
-        ∙ find-free nat_cmp q _ (all_front (IsFree nat_cmp q) es count (λ k d low high. apart q _ (λ is. let lt = counted.below k d low high in omega arith)));
-    below = λ q lt. get-from_entries nat_cmp_total _ q
-        ∙ sym (find-append_back nat_cmp q (take count es) (drop count es) (find-free nat_cmp q _ (all_back (IsFree nat_cmp q) es count (λ k d low high. apart q _ (λ is. let above = counted.above k d low high in omega arith)))))
-        ∙ ap (find nat_cmp q) (take-append-drop count es) ∙ sym (get-from_entries nat_cmp_total es q);
-    room = le;
-  }
-
-  pub none_below : count ≡ 0 → (q : ℕ) → q < place → get (from_entries {R = nat_cmp} es) q ≡ None
-  none_below is q lt =
-      get-from_entries nat_cmp_total es q ∙ find-free nat_cmp q es (λ k d within. apart q _ (λ at. let above = counted.above k d (omega arith) within in omega arith))
-
-  pub is_last : IsRising nat_cmp es → (last : ℕ) (e : ℕ × X) → last + 1 ≡ count → e ≡ get_or es last e → IsLastBelow place (from_entries {R = nat_cmp} es) e.0
-  is_last rising last e is read = record {
-    below = subst (λ x. x.0 < place) (sym read) (counted.below last e (omega arith) (omega arith));
-    mapped = subst IsSome (sym (get-from_entries nat_cmp_total es e.0)) (find_some nat_cmp e.0 es last e within (subst (λ x. nat_cmp e.0 x.0 ≡ Equal) read (tied_itself nat_cmp_total e.0)));
-    between = λ q low high. get-from_entries nat_cmp_total es q ∙ find-free nat_cmp q es (λ k d lt. apart q _ (other_place q low high k d lt));
-  }
-    where
-      within : last < length es
-      within = omega (arith, counted.within)
-
-      here : (d : ℕ × X) → e ≡ get_or es last d
-      here d = get_or_read es last e within read d
-
-      other_place : (q : ℕ) → e.0 < q → q < place → (k : ℕ) (d : ℕ × X) → k < length es → q ≢ (get_or es k d).0
-      other_place q low high k d lt at =
-          elim (cases_lt k last) [
-            | inl lower ↦
-                let rise : (get_or es k d).0 < e.0 = subst (λ x. (get_or es k d).0 < x.0) (sym (here d)) (ranked (get_or es k d).0 (get_or es last d).0 Less (sym (rising k last d lower within))) in
-                omega arith
-            | inr higher ↦ elim (cases_eq k last) [
-              | inl same ↦ let is : (get_or es k d).0 ≡ e.0 = ap (λ n. (get_or es n d).0) same ∙ ap (λ x. x.0) (sym (here d)) in omega arith
-              | inr past ↦ let above = counted.above k d (omega arith) lt in omega arith
-            ]
-          ]
 
 -- a name that is found is listed
 contains_found : (es : List (List ℕ × ℕ)) (name : List ℕ) → IsSome (find (slice_cmp nat_cmp) name es) → Contains (map (λ e. e.0) es) name

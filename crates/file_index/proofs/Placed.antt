@@ -2,13 +2,12 @@
 use Rattle.std.proofs.Common.{◌≡◌, ◌≢◌, ℕ, suc, ◌+◌, ◌-◌, ◌<◌, ◌≤◌, List, ◌∷◌, ◌++◌, length, get_or, take, drop, set, Some, None, Result, Ok, Err, IfOk, IfErr, sym, ap, subst, ◌∙◌, inl, inr, arith, take-append-drop, drop-cons}
 use Rattle.std.specs.Prelude.{AllPairs}
 use Rattle.std.specs.List.{AllWithin, insert, remove}
-use Rattle.std.specs.List.Sorted.{IsSearchInRange, IsBinarySearchResult, IsSortedBy, IsNonDecreasingBy}
-use Rattle.std.specs.Ordering.{is_lt, ordering_reverse, nat_cmp}
+use Rattle.std.specs.List.Sorted.{IsSearchInRange, IsBinarySearchResult, IsSortedBy}
+use Rattle.std.specs.Ordering.{is_lt, ordering_reverse}
 use Rattle.std.specs.declared.cmp.Ordering.{Ordering}
 use Rattle.std.specs.declared.cmp.Ordering.TheVariants.{Less, Equal}
 use Rattle.std.specs.Cmp.{IsTotalOrder, tied_itself}
 use Rattle.std.specs.FinMap.{find, IsAntisymmetric}
-use Rattle.std.proofs.lemmas.Cmp.{ranked}
 use Rattle.std.proofs.lemmas.Bool.{cases_eq, cases_lt}
 use Rattle.std.proofs.lemmas.List.{set_split}
 use Rattle.std.proofs.lemmas.List.Edits.{length-insert, get_or-insert_below, get_or-insert_at, get_or-insert_above}
@@ -118,11 +117,3 @@ module _ {K X : Type 0} {R : K → K → Ordering} (o : IsTotalOrder R) (same : 
     pub find-set_other : (e : K × X) → e.0 ≡ key → (q : K) → q ≢ key → find R q (set es at e) ≡ find R q es
     find-set_other e is q differ =
         ap (find R q) (set_split es at e has.within) ∙ find-middle_other R q (take at es) e (drop (suc at) es) (free e is q differ) ∙ find-removed_other e q differ
-
--- numbers as keys rise, as a partition asks
-pub keys_rise : {X : Type 0} (es : List (ℕ × X)) → IsRising nat_cmp es → IsNonDecreasingBy (λ e. e.0) es
-keys_rise es rising i j d le within =
-    elim (cases_eq i j) [
-      | inl same ↦ let is : (get_or es i d).0 ≡ (get_or es j d).0 = ap (λ k. (get_or es k d).0) same in omega arith
-      | inr apart ↦ let lt = ranked (get_or es i d).0 (get_or es j d).0 Less (sym (rising i j d (omega arith) within)) in omega arith
-    ]

@@ -18,9 +18,3 @@ pub record IsGap {K X : Type 0} (R : K → K → Ordering) (es : List (K × X)) 
   pub within : at ≤ length es
   pub lower : AllWithin (λ e. R e.0 key ≡ Less) es 0 at
   pub higher : AllWithin (λ e. R key e.0 ≡ Less) es at (length es)
-
--- so many entries, the first ones, have keys below this one
-pub record IsCountBelow {X : Type 0} (es : List (ℕ × X)) (key count : ℕ) : Type 0 where
-  pub within : count ≤ length es
-  pub below : AllWithin (λ e. e.0 < key) es 0 count
-  pub above : AllWithin (λ e. key ≤ e.0) es count (length es)

@@ -2,6 +2,7 @@
 #![tactic(auto)]
 
 pub mod name_map;
+mod node;
 pub mod page_map;
 mod room;
 

@@ -1,11 +1,12 @@
 // Where the pages of a file are.
-ghost use Rattle.std.specs.Prelude.{◌≡◌, ℕ, ◌<◌, ◌≤◌, None, OnOk, OnErr, IfOk, IfErr, IfSome, IfNone};
-ghost use Rattle.std.specs.Ordering.{nat_cmp};
+ghost use Rattle.std.specs.Prelude.{◌≡◌, ℕ, ◌<◌, ◌≤◌, None, OnOk, OnErr, IfSome, IfNone};
 ghost use Rattle.std.specs.FinMap.{get, empty};
-ghost use Rattle.file_index.specs.Entries.{IsRising, HasKey, IsGap, IsCountBelow};
 ghost use Rattle.file_index.specs.Index.{Puts, CutsOff, IsLastBelow};
 
-use crate::room::insert_reserved;
+use crate::node::{
+    Node, PLACES, clear_from, last_cell, made_nodes, missing, open_node, open_root, read_cell,
+    write_cell,
+};
 use std::alloc::{AllocError, Global};
 use std::marker::Model;
 
@@ -27,48 +28,36 @@ pub struct Mapping {
 ///
 /// A contract sees a finite map from places to mappings, and the room: how many more places can be
 /// mapped without memory. Each file has such an index in ordinary memory, which is made anew from its
-/// log, as in NOVA (FAST 2016). A look-up takes time that grows with the logarithm of the number of
-/// places that are mapped.
+/// log, as in NOVA (FAST 2016). It is a radix tree of two levels: a root of 64 nodes, each of 64
+/// places. To look a place up and to map it take the same time however many are mapped.
 #[derive(Debug, Drop)]
 pub struct PageMap {
-    // in the order of their places
-    entries: Vec<(u64, Mapping)>,
+    // 64, or none before the first reserve; a node is empty until one of its places is mapped
+    nodes: Vec<Node>,
+    // nodes of 64 places without mappings, for those that are empty
+    spare: Vec<Node>,
 }
 
 impl Model for PageMap {
-    ghost use Rattle.std.specs.Prelude.{◌-◌, vec_len, vec_capacity};
+    ghost use Rattle.std.specs.Prelude.{length};
     ghost use Rattle.std.specs.Ordering.{nat_cmp};
     ghost use Rattle.std.specs.Coded.{coded_ℕ};
-    ghost use Rattle.std.specs.FinMap.{code, from_entries};
+    ghost use Rattle.std.specs.FinMap.{code};
     ghost use Rattle.file_index.specs.declared.page_map.Mapping.{Mapping};
     ghost use Rattle.file_index.specs.contracts.page_map.Mapping as page;
-    ghost use Rattle.file_index.specs.Entries.{IsRising};
     ghost use Rattle.file_index.specs.Index.{Index, index_code};
+    ghost use Rattle.file_index.specs.Radix.{IsRadix, cells, filled, radix_map, radix_room};
 
     ghost Value = { Index nat_cmp Mapping };
 
     ghost coded = { index_code (code coded_ℕ page.the_row.coded) };
 
-    ghost view = { λ m. record { map = from_entries m.entries.items; room = vec_capacity m.entries - vec_len m.entries } };
+    ghost view = { λ m. record {
+      map = radix_map (cells m.nodes.items);
+      room = radix_room (filled (cells m.nodes.items)) (length (cells m.spare.items));
+    } };
 
-    ghost invariant = { λ m. IsRising nat_cmp m.entries.items };
-}
-
-// Where the entry of the place is, or where it would go.
-fn search(entries: &[(u64, Mapping)], idx: u64) -> Result<usize, usize>
-    requires { IsRising nat_cmp entries.now }
-    ensures found { IfOk result (HasKey entries.now idx) }
-    ensures absent { IfErr result (IsGap nat_cmp entries.now idx) }
-{
-    entries.binary_search_by_key(&idx, |entry| entry.0)
-}
-
-// How many entries have lower places.
-fn count_below(entries: &[(u64, Mapping)], idx: u64) -> usize
-    requires { IsRising nat_cmp entries.now }
-    ensures { IsCountBelow entries.now idx result }
-{
-    entries.partition_point(|entry| entry.0 < idx)
+    ghost invariant = { λ m. IsRadix (cells m.nodes.items) (cells m.spare.items) };
 }
 
 impl PageMap {
@@ -77,7 +66,8 @@ impl PageMap {
         ensures { result.map ≡ empty }
     {
         PageMap {
-            entries: Vec::new(alloc),
+            nodes: Vec::new(alloc),
+            spare: Vec::new(alloc),
         }
     }
 
@@ -92,38 +82,41 @@ impl PageMap {
         ensures err { OnErr result (self.new ≡ self.old) }
         ensures short { OnErr result (self.old.room < more) }
     {
-        self.entries.reserve(more as usize)
+        let wanted = missing(&self.nodes).min(more as usize);
+        let spare = self.spare.len();
+        if wanted <= spare {
+            return Ok(());
+        }
+        let alloc = *self.nodes.allocator();
+        let mut made = made_nodes(alloc, wanted - spare)?;
+        open_root(&mut self.nodes, alloc)?;
+        self.spare.append(&mut made)?;
+        Ok(())
     }
 
     /// The mapping of a place, or None exactly where it has none.
     pub fn get(&self, idx: u64) -> Option<Mapping>
         ensures { result ≡ get self.now.map idx }
     {
-        match search(&self.entries, idx) {
-            Ok(at) => Some(self.entries[at].1),
-            Err(_) => None,
-        }
+        read_cell(&self.nodes, idx as usize)
     }
 
     /// Maps a place, whatever its mapping was. A place that had none needs room. It takes no memory.
-    /// To map a place that had none takes time that grows with the number of places mapped above it.
     pub fn set(&mut self, idx: u64, mapping: Mapping)
         requires below { idx < MOST_PLACES }
         requires room { get self.old.map idx ≡ None → 0 < self.old.room }
         ensures { Puts idx mapping self.old self.new }
     {
-        match search(&self.entries, idx) {
-            Ok(at) => self.entries[at] = (idx, mapping),
-            Err(at) => insert_reserved(&mut self.entries, at, (idx, mapping)),
-        }
+        let place = idx as usize;
+        open_node(&mut self.nodes, &mut self.spare, place / PLACES);
+        write_cell(&mut self.nodes, place, Some(mapping));
     }
 
     /// Drops the mappings of all places from this one on.
     pub fn cut(&mut self, idx: u64)
         ensures { CutsOff idx self.old self.new }
     {
-        let kept = count_below(&self.entries, idx);
-        self.entries.truncate(kept);
+        clear_from(&mut self.nodes, idx as usize);
     }
 
     /// The greatest place below this one that is mapped, or None where there is none.
@@ -131,7 +124,6 @@ impl PageMap {
         ensures last { IfSome result (IsLastBelow idx self.now.map) }
         ensures none { IfNone result ((k : ℕ) → k < idx → get self.now.map k ≡ None) }
     {
-        let last = count_below(&self.entries, idx).checked_sub(1)?;
-        Some(self.entries[last].0)
+        last_cell(&self.nodes, idx as usize)
     }
 }

@@ -51,6 +51,39 @@ fn maps_places(rt: HostRuntime) -> Result<(), Fail> {
     Ok(())
 }
 
+// A map of the places at the edges of nodes.
+fn mapped_edges(alloc: Global) -> Result<PageMap, AllocError> {
+    let mut map = PageMap::new(alloc);
+    map_to(&mut map, 64, 8)?;
+    map_to(&mut map, 4095, 9)?;
+    map_to(&mut map, 0, 6)?;
+    map_to(&mut map, 63, 7)?;
+    Ok(map)
+}
+
+#[test]
+fn cuts_at_edges_of_nodes(rt: HostRuntime) -> Result<(), Fail> {
+    for (cut, last, blocks) in [
+        (0, None, [None, None, None, None]),
+        (1, Some(0), [Some(6), None, None, None]),
+        (63, Some(0), [Some(6), None, None, None]),
+        (64, Some(63), [Some(6), Some(7), None, None]),
+        (65, Some(64), [Some(6), Some(7), Some(8), None]),
+        (4095, Some(64), [Some(6), Some(7), Some(8), None]),
+        (4096, Some(4095), [Some(6), Some(7), Some(8), Some(9)]),
+    ] {
+        let mut map = mapped_edges(rt.alloc())?;
+        map.cut(cut);
+        assert_eq!(rt; map.last_below(MOST_PLACES), last);
+        for (place, block) in [0, 63, 64, 4095].iter().zip(&blocks) {
+            assert_eq!(rt; block_at(&map, *place), *block);
+        }
+        map_to(&mut map, 63, 10)?;
+        assert_eq!(rt; block_at(&map, 63), Some(10));
+    }
+    Ok(())
+}
+
 fn put(alloc: Global, map: &mut NameMap, name: &[u8], ino: u64) -> Result<(), Fail> {
     let name = Name::of(alloc, name)?;
     map.reserve(1)?;

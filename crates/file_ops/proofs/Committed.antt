@@ -1,4 +1,4 @@
--- The last event of a write.
+-- The last event of a write or a cut.
 use Rattle.std.proofs.Common.{◌≡◌, ◌≢◌, ⊎_elim, ℕ, ◌+◌, ◌-◌, ◌*◌, ◌<◌, ◌≤◌, true, List, [], ◌∷◌, ◌++◌, length, refl, sym, ◌∙◌, ap, subst, arith}
 use Rattle.std.proofs.lemmas.Bool.{cases_eq}
 use Rattle.std.proofs.lemmas.List.{append-nil}
@@ -30,9 +30,9 @@ use Rattle.dn_volume.specs.Flights.{IsDataFlight, left_by, left_of}
 use Rattle.dn_volume.specs.Events.{IsBetween, word_in, Counts, Answers, Breaks}
 use Rattle.dn_volume.specs.Agrees.{IsVolume, HasHead}
 use Rattle.file_commit.specs.Append.{AppendsBetween, AppendsNew, AppendsThere, IsReadyToAppend}
-use Rattle.file_ops.specs.Ends.{EndsFlight, Ends}
+use Rattle.file_ops.specs.Ends.{ChangesInode, EndsFlight, Ends}
 use Rattle.file_ops.specs.Giving.{Gives, IsUnsharedAmong}
-use Rattle.file_ops.specs.Ending.{FinishesParts}
+use Rattle.file_ops.specs.Ending.{MapsAt, FinishesBy, FinishesParts}
 use Rattle.law_write.specs.Events.{IsUnused}
 use Rattle.dn_volume.proofs.Heads.{head_after}
 use Rattle.file_ops.proofs.Frame.{leaves_rest}
@@ -41,53 +41,47 @@ use Rattle.dn_volume.proofs.Between.{old_or_new}
 use Rattle.file_ops.proofs.Basics.{same_others}
 use Rattle.file_ops.proofs.Accounted.{write_accounts, alone_was}
 use Rattle.file_ops.proofs.After.{volume_after}
-use Rattle.file_ops.proofs.DiskAfter.{after, event, changes, ready, own_after, files_after, granted}
-use Rattle.file_ops.proofs.Ended.{IsOut, all_ends}
+use Rattle.file_ops.proofs.DiskAfter.{after}
+use Rattle.file_ops.proofs.Ended.{Decides, IsOut, all_ends, write_decides, write_inode}
 
 module _ {D F : Type 0} (state : D → State) (print : Print) (v v' : Volume D F) (d : Disk) (who : ℕ) (f : Flight) (c : DataChange)
     (is_v : IsVolume d v.parts (state v.device)) (flies : Flies v.parts who f) (kind : f.change ≡ Data c)
-    (is : IsDataFlight d who f c (state v.device)) (name : List ℕ) (at : ℕ) (text : List ℕ) (op_is : f.op ≡ Write name at text)
-    (all_filled : c.filled ≡ length c.blocks.items) (all_raised : f.raised ≡ length f.rows.items)
+    (is : IsDataFlight d who f c (state v.device)) (e : Disk) (from n : ℕ) (decides : Decides d (state v.device) who f c e from n)
     (between_them : AppendsBetween v.parts.geometry who f.ino f.fresh.items f.slots.items (state v.device) (state v'.device))
     (there : AppendsThere v.parts.geometry who f.ino f.fresh.items f.slots.items (state v.device) (state v'.device))
     (faults : (state v.device).faults ≤ (state v'.device).faults) where
-  abbrev e : Disk
-  e = after d v.parts (state v.device) who f c is_v flies kind is name at text op_is all_filled all_raised
-
   abbrev w : Writes f.ino d e
-  w = event d v.parts (state v.device) who f c is_v flies kind is name at text op_is all_filled all_raised
+  w = decides.changes.event
 
   ready_here : IsReadyToAppend v.parts.geometry who f.ino f.fresh.items f.slots.items d e w (state v.device)
   ready_here = subst (λ (g : Geometry). IsReadyToAppend g who f.ino f.fresh.items f.slots.items d e w (state v.device)) is_v.fast.geometry
-      (ready d v.parts (state v.device) who f c is_v flies kind is name at text op_is all_filled all_raised)
+      decides.ready
 
   images : LeavesOnly (state v.device) (state v'.device) (IsBetween print d e)
-  images = old_or_new print d e (state v.device) (state v'.device) (own_after d v.parts (state v.device) who f c is_v flies kind is name at text op_is
-      all_filled all_raised print) (between_them d e w ready_here)
+  images = old_or_new print d e (state v.device) (state v'.device) (decides.own print) (between_them d e w ready_here)
 
   -- one event is left of it
   last_left : 1 ≡ left_of f
-  last_left = one (length c.blocks.items) c.filled (length f.rows.items) f.raised all_filled all_raised ∙ ap (left_by f) (sym kind)
+  last_left = one (length c.blocks.items) c.filled (length f.rows.items) f.raised decides.all_filled decides.all_raised ∙ ap (left_by f) (sym kind)
     where
       one : (blocks filled rows raised : ℕ) → filled ≡ blocks → raised ≡ rows → 1 ≡ (blocks - filled) + (rows - raised) + 1
       one blocks filled rows raised full all = omega (arith, full, all)
 
   -- it failed
-  pub breaks : (op : Op) → f.op ≡ op → v'.parts.stopped ≡ true → v'.parts.geometry ≡ v.parts.geometry → v'.parts.trace ≡ v.parts.trace
+  pub breaks_by : (op : Op) → f.op ≡ op → v'.parts.stopped ≡ true → v'.parts.geometry ≡ v.parts.geometry → v'.parts.trace ≡ v.parts.trace
       → v'.parts.sharing ≡ v.parts.sharing
       → v'.parts.history ≡ v.parts.history → Counts v.parts v'.parts
       → Rose (state v.device).faults (state v'.device).faults
       → flight_at v'.parts.flights.items (who - 1) ≡ Some f
       → ((k : ℕ) → k ≢ who - 1 → flight_at v'.parts.flights.items k ≡ flight_at v.parts.flights.items k) → Breaks state print who (Some op) v v' d
-  breaks op same stopped geometry trace sharing history counts rose back others = record {
+  breaks_by op same stopped geometry trace sharing history counts rose back others = record {
     stopped = record {
       stopped = stopped;
       accepted = subst IsAccepted (is_v.fast.geometry ∙ sym geometry) is_v.fast.valid.accepted;
       long = (there d e w ready_here).only.words ∙ is_v.fast.long ∙ ap (λ (g : Geometry). 512 * g.pages) (is_v.fast.geometry ∙ sym geometry);
       head = subst (λ (g : Geometry). HasHead g (state v'.device).now) (sym geometry)
           (head_after d (f.ino ∷ []) (taken_by f) v.parts.geometry (state v.device) (state v'.device) is_v.fast taken_unused
-          (leaves_rest d e f c c.first (length c.blocks.items) kind
-          (changes d v.parts (state v.device) who f c is_v flies kind is name at text op_is all_filled all_raised) who (state v.device)
+          (leaves_rest d e f c from n kind decides.changes who (state v.device)
           (state v'.device) (there d e w ready_here)).only);
       trace = subst (λ (g : Geometry). All (λ (change : CountChange). change.slot < slots g) v'.parts.trace.items) (sym geometry)
           (subst (λ tr. All (λ (change : CountChange). change.slot < slots v.parts.geometry) tr.items) (sym trace) is_v.trace);
@@ -102,9 +96,8 @@ module _ {D F : Type 0} (state : D → State) (print : Print) (v v' : Volume D F
     geometry = geometry;
     answering = λ o is_o own.
         let whole : f.op ≡ o = same ∙ some_op op o is_o in (
-          subst (IsGranted (files d)) whole (granted d v.parts (state v.device) who f c is_v flies kind is name at text op_is all_filled all_raised),
-          subst (λ (x : Op). IsSameFiles (files e) (after_op (files d) x)) whole (files_after d v.parts (state v.device) who f c is_v flies kind is
-              name at text op_is all_filled all_raised print own),
+          subst (IsGranted (files d)) whole decides.granted,
+          subst (λ (x : Op). IsSameFiles (files e) (after_op (files d) x)) whole (decides.files_after print own),
         );
     answered = λ o is_o. record {
       flight = f;
@@ -135,32 +128,30 @@ module _ {D F : Type 0} (state : D → State) (print : Print) (v v' : Volume D F
       (node : InodeState) (node_is : slice_get v.parts.inodes.items f.ino ≡ Some node)
       (mid : Parts) (tail : ℕ) (tail_is : tail ≡ tail_at (d.inode f.ino).log.pages (count (d.inode f.ino).log)) (out : IsOut v.parts mid)
       (ended : EndsFlight who v.parts mid)
-      (gives : Gives (IsUnsharedAmong d node.map.map c.first (length c.blocks.items)) v.parts.free mid.free)
-      (finish : FinishesParts who tail f c mid v'.parts) where
-    ends : Ends d e who f c c.first (length c.blocks.items) v.parts v'.parts
-    ends = all_ends d v.parts (state v.device) who f c is_v flies kind is name at text op_is all_filled all_raised node node_is mid v'.parts tail
-        tail_is out ended gives finish
+      (gives : Gives (IsUnsharedAmong d node.map.map from n) v.parts.free mid.free)
+      (inodes_end : List InodeState → List InodeState → Type 0) (finish : FinishesBy inodes_end who tail f c mid v'.parts)
+      (inode : ChangesInode e f.ino c.size mid v'.parts) where
+    ends : Ends d e who f c from n v.parts v'.parts
+    ends = all_ends d v.parts (state v.device) who f c is_v flies kind is e from n decides node node_is mid v'.parts tail tail_is out ended gives
+        inodes_end finish inode
 
-    pub volume_now : IsVolume e v'.parts (state v'.device)
-    volume_now = volume_after d e v.parts v'.parts (state v.device) (state v'.device) who f c c.first (length c.blocks.items) is_v flies kind is
-        all_raised
-        (changes d v.parts (state v.device) who f c is_v flies kind is name at text op_is all_filled all_raised) ends (stands d e w ready_here)
+    pub volume_by : IsVolume e v'.parts (state v'.device)
+    volume_by = volume_after d e v.parts v'.parts (state v.device) (state v'.device) who f c from n is_v flies kind is decides.all_raised
+        decides.changes ends (stands d e w ready_here)
         (there d e w ready_here) settles (omega (arith, spare))
 
     rows_same : rows e ≡ rows d
     rows_same = rows_kept f.ino d e w
 
-    pub answers : (op : Op) → f.op ≡ op → Counts v.parts v'.parts → Answers state print who op Done v v' d
-    answers op same counts = record {
+    pub answers_by : (op : Op) → f.op ≡ op → Counts v.parts v'.parts → Answers state print who op Done v v' d
+    answers_by op same counts = record {
       after = e;
       moves = record {
-        volume = volume_now;
+        volume = volume_by;
         images = images;
-        own = own_after d v.parts (state v.device) who f c is_v flies kind is name at text op_is all_filled all_raised print;
-        accounts = λ own. write_accounts f.ino d e w (changes d v.parts (state v.device) who f c is_v flies kind is name at text op_is all_filled
-            all_raised).well print;
-        alone = λ by_reclaim. alone_was f.ino d e w (changes d v.parts (state v.device) who f c is_v flies kind is name at text op_is all_filled
-            all_raised).well;
+        own = decides.own print;
+        accounts = λ own. write_accounts f.ino d e w decides.changes.well print;
+        alone = λ by_reclaim. alone_was f.ino d e w decides.changes.well;
         traces = record {
           more = [];
           trace = ap (λ tr. tr.items) ends.keeps.trace ∙ sym (append-nil v.parts.trace.items);
@@ -177,11 +168,54 @@ module _ {D F : Type 0} (state : D → State) (print : Print) (v v' : Volume D F
       op_is = same;
       reply_is = refl;
       done = refl;
-      granted = subst (IsGranted (files d)) same (granted d v.parts (state v.device) who f c is_v flies kind is name at text op_is all_filled
-          all_raised);
-      grants = subst (λ (o : Op). Grants (files d) o Done) (sym op_is ∙ same) refl;
-      files_after = λ own. subst (λ (x : Op). IsSameFiles (files e) (after_op (files d) x)) same (files_after d v.parts (state v.device) who f c is_v
-          flies kind is name at text op_is all_filled all_raised print own);
+      granted = subst (IsGranted (files d)) same decides.granted;
+      grants = subst (λ (o : Op). Grants (files d) o Done) same decides.grants;
+      files_after = λ own. subst (λ (x : Op). IsSameFiles (files e) (after_op (files d) x)) same (decides.files_after print own);
       flew = record { flight = f; flies = flies; op_is = same; left_is = last_left };
       landed = ends.flight.landed;
     }
+
+-- the last event of a write
+module _ {D F : Type 0} (state : D → State) (print : Print) (v v' : Volume D F) (d : Disk) (who : ℕ) (f : Flight) (c : DataChange)
+    (is_v : IsVolume d v.parts (state v.device)) (flies : Flies v.parts who f) (kind : f.change ≡ Data c)
+    (is : IsDataFlight d who f c (state v.device)) (name : List ℕ) (at : ℕ) (text : List ℕ) (op_is : f.op ≡ Write name at text)
+    (all_filled : c.filled ≡ length c.blocks.items) (all_raised : f.raised ≡ length f.rows.items)
+    (between_them : AppendsBetween v.parts.geometry who f.ino f.fresh.items f.slots.items (state v.device) (state v'.device))
+    (there : AppendsThere v.parts.geometry who f.ino f.fresh.items f.slots.items (state v.device) (state v'.device))
+    (faults : (state v.device).faults ≤ (state v'.device).faults) where
+  abbrev e : Disk
+  e = after d v.parts (state v.device) who f c is_v flies kind is name at text op_is all_filled all_raised
+
+  abbrev decides : Decides d (state v.device) who f c e c.first (length c.blocks.items)
+  decides = write_decides d v.parts (state v.device) who f c is_v flies kind is name at text op_is all_filled all_raised
+
+  pub breaks : (op : Op) → f.op ≡ op → v'.parts.stopped ≡ true → v'.parts.geometry ≡ v.parts.geometry → v'.parts.trace ≡ v.parts.trace
+      → v'.parts.sharing ≡ v.parts.sharing
+      → v'.parts.history ≡ v.parts.history → Counts v.parts v'.parts
+      → Rose (state v.device).faults (state v'.device).faults
+      → flight_at v'.parts.flights.items (who - 1) ≡ Some f
+      → ((k : ℕ) → k ≢ who - 1 → flight_at v'.parts.flights.items k ≡ flight_at v.parts.flights.items k) → Breaks state print who (Some op) v v' d
+  breaks = breaks_by state print v v' d who f c is_v flies kind is e c.first (length c.blocks.items) decides between_them there faults
+
+  module _ (stands : AppendsNew v.parts.geometry who f.ino f.fresh.items f.slots.items (state v.device) (state v'.device))
+      (settles : SettlesAll who (state v.device) (state v'.device)) (spare : (state v.device).spare ≤ (state v'.device).spare + 9
+      * (length f.slots.items + length f.fresh.items) + 4)
+      (node : InodeState) (node_is : slice_get v.parts.inodes.items f.ino ≡ Some node)
+      (mid : Parts) (tail : ℕ) (tail_is : tail ≡ tail_at (d.inode f.ino).log.pages (count (d.inode f.ino).log)) (out : IsOut v.parts mid)
+      (ended : EndsFlight who v.parts mid)
+      (gives : Gives (IsUnsharedAmong d node.map.map c.first (length c.blocks.items)) v.parts.free mid.free)
+      (finish : FinishesParts who tail f c mid v'.parts) where
+    abbrev inodes_end : List InodeState → List InodeState → Type 0
+    inodes_end = MapsAt f.ino c.size tail f.fresh.items c.runs.items
+
+    inode : ChangesInode e f.ino c.size mid v'.parts
+    inode = write_inode d v.parts (state v.device) who f c is_v flies kind is name at text op_is all_filled all_raised mid v'.parts tail tail_is
+        out.inodes finish.inodes
+
+    pub volume_now : IsVolume e v'.parts (state v'.device)
+    volume_now = volume_by state print v v' d who f c is_v flies kind is e c.first (length c.blocks.items) decides between_them there faults stands
+        settles spare node node_is mid tail tail_is out ended gives inodes_end finish inode
+
+    pub answers : (op : Op) → f.op ≡ op → Counts v.parts v'.parts → Answers state print who op Done v v' d
+    answers = answers_by state print v v' d who f c is_v flies kind is e c.first (length c.blocks.items) decides between_them there faults stands
+        settles spare node node_is mid tail tail_is out ended gives inodes_end finish inode

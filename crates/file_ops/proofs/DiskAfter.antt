@@ -89,7 +89,7 @@ some_runs [] some = absurd (omega arith)
 some_runs (run ∷ runs) some = omega arith
 
 -- the places that some bytes touch
-touched_is : (at count : ℕ) → 1 ≤ count → touched at count ≡ (at + count + 4095) / 4096 - at / 4096
+pub touched_is : (at count : ℕ) → 1 ≤ count → touched at count ≡ (at + count + 4095) / 4096 - at / 4096
 touched_is at count some = let none : (count == 0) ≡ false = grind (arith, nat_tests) in
     ap (λ (b : Bool). if b then 0 else (at + count + 4095) / 4096 - at / 4096) none
 

@@ -1,4 +1,4 @@
--- What the last event of a write makes of the parts.
+-- What the last event of a write or a cut makes of the parts.
 use Rattle.std.proofs.Common.{◌≡◌, inl, inr, ⊎_elim, ℕ, ◌+◌, ◌-◌, ◌*◌, ◌<◌, ◌≤◌, List, [], ◌∷◌, ◌++◌, length, refl, sym, ◌∙◌, ap, subst, arith}
 use Rattle.std.specs.Prelude.{slice_get, Option, Some, Contains, vec_len, vec_capacity}
 use Rattle.std.specs.VecDeque.{deque_len, deque_capacity}
@@ -8,6 +8,10 @@ use Rattle.file_content.specs.Runs.{seen, all_seen}
 use Rattle.dn_model.specs.Log.{count, tail_at, slot_name}
 use Rattle.dn_model.specs.Maps.{Mapping}
 use Rattle.dn_model.specs.Disk.{Disk, maps}
+use Rattle.dn_model.specs.Files.{files, IsSameFiles}
+use Rattle.dn_model.specs.Own.{Print, IsOwn}
+use Rattle.dn_model.specs.Apply.{IsGranted, Grants, after_op}
+use Rattle.dn_model.specs.declared.op.Op.{Op}
 use Rattle.dn_model.specs.declared.op.Op.TheVariants.{Write}
 use Rattle.dn_model.specs.declared.op.Reply.TheVariants.{Done}
 use Rattle.dn_volume.specs.declared.flight.Flight.{Flight}
@@ -20,10 +24,11 @@ use Rattle.dn_volume.specs.Parties.{Flies, flight_at}
 use Rattle.dn_volume.specs.Flights.{IsDataFlight}
 use Rattle.dn_volume.specs.Reserve.{units_by, runs_by}
 use Rattle.dn_volume.specs.Agrees.{IsVolume}
-use Rattle.file_ops.specs.Ends.{ChangesData, Ends, EndsFlight, GivesPages}
+use Rattle.file_commit.specs.Append.{IsReadyToAppend}
+use Rattle.file_ops.specs.Ends.{ChangesData, ChangesInode, Ends, EndsFlight, GivesPages}
 use Rattle.file_ops.specs.Giving.{Gives, IsUnsharedAmong}
-use Rattle.file_ops.specs.Ending.{FinishesParts}
-use Rattle.file_ops.proofs.DiskAfter.{after, may, changes, old_fits}
+use Rattle.file_ops.specs.Ending.{MapsAt, FinishesBy}
+use Rattle.file_ops.proofs.DiskAfter.{after, may, changes, ready, old_fits, own_after, files_after, granted}
 use Rattle.file_ops.proofs.Ready.{file_is, freed_is, is_freed}
 use Rattle.file_ops.proofs.Slots.{mapped_slot}
 
@@ -44,59 +49,53 @@ pub record IsOut (b mid : Parts) : Type 0 where
   pub owed : mid.owed ≡ b.owed
   pub history : mid.history ≡ b.history
 
+-- The disk to which the last event of a write or a cut leads: n places from this one on are mapped to the flight's pages, or go.
+pub record Decides (d : Disk) (s : State) (who : ℕ) (f : Flight) (c : DataChange) (e : Disk) (from n : ℕ) : Type 0 where
+  pub all_filled : c.filled ≡ length c.blocks.items
+  pub all_raised : f.raised ≡ length f.rows.items
+  pub changes : ChangesData d e f c from n
+  pub ready : IsReadyToAppend d.geometry who f.ino f.fresh.items f.slots.items d e changes.event s
+  pub own : (print : Print) → IsOwn print d → IsOwn print e
+  pub files_after : (print : Print) → IsOwn print d → IsSameFiles (files e) (after_op (files d) f.op)
+  pub granted : IsGranted (files d) f.op
+  pub grants : Grants (files d) f.op Done
+  -- the item of a place that is mapped anew is that of one of the runs, past the log's tail
+  pub slots : (idx : ℕ) (m : Mapping) → from ≤ idx → idx < from + n → maps e f.ino idx ≡ Some m
+      → (j : ℕ) × (j < length c.runs.items) × (m.slot ≡ slot_name ((d.inode f.ino).log.pages ++ f.fresh.items) (count (d.inode f.ino).log + j))
+
 module _ (d : Disk) (b : Parts) (s : State) (who : ℕ) (f : Flight) (c : DataChange) (v : IsVolume d b s) (flies : Flies b who f)
-    (kind : f.change ≡ Data c) (is : IsDataFlight d who f c s)
-    (name : List ℕ) (at : ℕ) (text : List ℕ) (op_is : f.op ≡ Write name at text) (all_filled : c.filled ≡ length c.blocks.items)
-    (all_raised : f.raised ≡ length f.rows.items)
+    (kind : f.change ≡ Data c) (is : IsDataFlight d who f c s) (e : Disk) (from n : ℕ) (decides : Decides d s who f c e from n)
     (node : InodeState) (node_is : slice_get b.inodes.items f.ino ≡ Some node)
     (mid b' : Parts) (tail : ℕ) (tail_is : tail ≡ tail_at (d.inode f.ino).log.pages (count (d.inode f.ino).log)) (out : IsOut b mid)
     (ended : EndsFlight who b mid)
-    (gives : Gives (IsUnsharedAmong d node.map.map c.first (length c.blocks.items)) b.free mid.free) (finish : FinishesParts who tail f c mid b')
+    (gives : Gives (IsUnsharedAmong d node.map.map from n) b.free mid.free) (inodes_end : List InodeState → List InodeState → Type 0)
+    (finish : FinishesBy inodes_end who tail f c mid b') (inode : ChangesInode e f.ino c.size mid b')
   where
-    abbrev e : Disk
-    e = after d b s who f c v flies kind is name at text op_is all_filled all_raised
+    disk : ChangesData d e f c from n
+    disk = decides.changes
 
-    abbrev disk : ChangesData d e f c c.first (length c.blocks.items)
-    disk = changes d b s who f c v flies kind is name at text op_is all_filled all_raised
-
-    pub pages_given : GivesPages d f c.first (length c.blocks.items) b b'
+    pub pages_given : GivesPages d f from n b b'
     pages_given = record {
       pages = finish.free.pages ∙ gives.pages;
       in_order = finish.free.in_order;
       free = λ page. (
         (λ there. ⊎_elim
             (λ (mid_free : Contains mid.free.free page). ⊎_elim (λ was. inl was)
-            (λ a. inr (inr (freed_is d b s who f c v flies kind is node node_is c.first (length c.blocks.items) page a)))
+            (λ a. inr (inr (freed_is d b s who f c v flies kind is node node_is from n page a)))
             ((gives.free page).0 mid_free))
             (λ spare. inr (inl spare)) ((finish.free.free page).0 there)),
         (λ h. (finish.free.free page).1 (⊎_elim (λ was. inl ((gives.free page).1 (inl was)))
             (λ more. ⊎_elim (λ spare. inr spare)
-            (λ freed. inl ((gives.free page).1 (inr (is_freed d b s who f c v flies kind is node node_is c.first (length c.blocks.items) page
+            (λ freed. inl ((gives.free page).1 (inr (is_freed d b s who f c v flies kind is node node_is from n page
             freed)))) more) h)),
       );
       no_less = omega (arith, finish.free.no_less, gives.no_less);
     }
 
-    grows : node.size ≤ c.size
-    grows = omega (
-      arith,
-      old_fits d b s who f c v flies kind is name at text op_is all_filled all_raised,
-      (file_is d b s who f c v flies kind is node node_is).size_is,
-    )
-
     mid_state : (x : InodeState) → slice_get b.inodes.items f.ino ≡ Some x → slice_get mid.inodes.items f.ino ≡ Some x
     mid_state x was = ap (λ (ns : _). slice_get ns.items f.ino) out.inodes ∙ was
 
-    -- the slot of a place's item, past the log's tail
-    slot_waits : (idx : ℕ) (m : Mapping) → c.first ≤ idx → idx < c.first + length c.blocks.items → maps e f.ino idx ≡ Some m
-        → (j : ℕ) × (j < length (all_seen c.runs.items)) × (m.slot ≡ slot_name ((d.inode f.ino).log.pages ++ f.fresh.items)
-        (count (d.inode f.ino).log + j))
-    slot_waits idx m low high mapped =
-        let by = disk.drops.anew idx m low high mapped in
-        let found = mapped_slot f.ino d e disk.event disk.well c.size (all_seen c.runs.items) refl idx m mapped by.0 by.1 by.2 in
-        (found.0, found.1, found.2 ∙ ap (λ (ps : List ℕ). slot_name ps (count (d.inode f.ino).log + found.0)) disk.event.grown.pages)
-
-    pub all_ends : Ends d e who f c c.first (length c.blocks.items) b b'
+    pub all_ends : Ends d e who f c from n b b'
     all_ends =
         let q = finish.queue node (mid_state node node_is) in
         record {
@@ -116,20 +115,9 @@ module _ (d : Disk) (b : Parts) (s : State) (who : ℕ) (f : Flight) (c : DataCh
             others = λ k ne. ap (λ (fs : _). flight_at fs.items k) finish.flights ∙ ended.others k ne;
           };
           inode = record {
-            all = finish.inodes.all ∙ ap (λ (ns : _). length ns.items) out.inodes;
-            others = λ i ne. finish.inodes.others i ne ∙ ap (λ (ns : _). slice_get ns.items i) out.inodes;
-            here = λ old new was now.
-                let maps_it = finish.inodes.here old new (mid_state old was) now in
-                let held = file_is d b s who f c v flies kind is old was in
-                let same = some_same (slice_get b.inodes.items f.ino) node old node_is was in
-                record {
-                  used = maps_it.used;
-                  size_is = maps_it.size_is;
-                  round = maps_it.round;
-                  holder = maps_it.holder;
-                  places = (maps_it.file d old.size c.first _ held (may d b s who f c v flies kind is name at text op_is all_filled all_raised) tail_is
-                      (subst (λ (x : InodeState). x.size ≤ c.size) same grows)).places;
-                };
+            all = inode.all ∙ ap (λ (ns : _). length ns.items) out.inodes;
+            others = λ i ne. inode.others i ne ∙ ap (λ (ns : _). slice_get ns.items i) out.inodes;
+            here = λ old new was now. inode.here old new (mid_state old was) now;
           };
           pages = pages_given;
           releases = record {
@@ -142,11 +130,11 @@ module _ (d : Disk) (b : Parts) (s : State) (who : ℕ) (f : Flight) (c : DataCh
             more = q.more;
             items = q.items ∙ ap (λ (w : _). w.items ++ q.more) out.queue;
             each = λ idx m x low high mapped was.
-                let slot = slot_waits idx m low high mapped in
+                let slot = decides.slots idx m low high mapped in
                 let same = some_same (slice_get b.inodes.items f.ino) node x node_is was in
                 subst (λ (y : InodeState). Contains q.more (record { ino = f.ino; round = y.round; slot = m.slot })) same
                 (subst (λ (k : ℕ). Contains q.more (record { ino = f.ino; round = node.round; slot = k })) (sym slot.2)
-                (q.each d.geometry (d.inode f.ino).log disk.event.paged tail_is slot.0 (omega (arith, slot.1, length-map c.runs.items seen))));
+                (q.each d.geometry (d.inode f.ino).log disk.event.paged tail_is slot.0 slot.1));
             room = let same = ap (λ (w : _). w.room) out.queue in omega (arith, q.room, same);
           };
           history = (
@@ -159,10 +147,63 @@ module _ (d : Disk) (b : Parts) (s : State) (who : ℕ) (f : Flight) (c : DataCh
           );
           owed = record {
             units = ap (λ (x : Change). b'.owed.units + units_by f x) kind ∙ let same = finish.units ∙ ap (λ (o : _). o.units) out.owed in
-                omega (arith, same, all_filled, all_raised);
-            trace = let same = finish.owed_trace ∙ ap (λ (o : _). o.trace) out.owed in omega (arith, same, all_raised);
+                omega (arith, same, decides.all_filled, decides.all_raised);
+            trace = let same = finish.owed_trace ∙ ap (λ (o : _). o.trace) out.owed in omega (arith, same, decides.all_raised);
             history = finish.owed_history ∙ ap (λ (o : _). o.history) out.owed;
             queue = ap (λ (x : Change). b'.owed.queue + runs_by x) kind ∙ finish.owed_queue ∙ ap (λ (o : _). o.queue) out.owed;
             releases = finish.owed_releases ∙ ap (λ (o : _). o.releases) out.owed;
           };
         }
+
+-- a write
+module _ (d : Disk) (b : Parts) (s : State) (who : ℕ) (f : Flight) (c : DataChange) (v : IsVolume d b s) (flies : Flies b who f)
+    (kind : f.change ≡ Data c) (is : IsDataFlight d who f c s)
+    (name : List ℕ) (at : ℕ) (text : List ℕ) (op_is : f.op ≡ Write name at text) (all_filled : c.filled ≡ length c.blocks.items)
+    (all_raised : f.raised ≡ length f.rows.items) where
+  abbrev e : Disk
+  e = after d b s who f c v flies kind is name at text op_is all_filled all_raised
+
+  abbrev changed : ChangesData d e f c c.first (length c.blocks.items)
+  changed = changes d b s who f c v flies kind is name at text op_is all_filled all_raised
+
+  -- the slot of a place's item, past the log's tail
+  slot_waits : (idx : ℕ) (m : Mapping) → c.first ≤ idx → idx < c.first + length c.blocks.items → maps e f.ino idx ≡ Some m
+      → (j : ℕ) × (j < length c.runs.items) × (m.slot ≡ slot_name ((d.inode f.ino).log.pages ++ f.fresh.items) (count (d.inode f.ino).log + j))
+  slot_waits idx m low high mapped =
+      let by = changed.drops.anew idx m low high mapped in
+      let found = mapped_slot f.ino d e changed.event changed.well c.size (all_seen c.runs.items) refl idx m mapped by.0 by.1 by.2 in (
+        found.0,
+        omega (arith, found.1, length-map c.runs.items seen),
+        found.2 ∙ ap (λ (ps : List ℕ). slot_name ps (count (d.inode f.ino).log + found.0)) changed.event.grown.pages,
+      )
+
+  pub write_decides : Decides d s who f c e c.first (length c.blocks.items)
+  write_decides = record {
+    all_filled = all_filled;
+    all_raised = all_raised;
+    changes = changed;
+    ready = ready d b s who f c v flies kind is name at text op_is all_filled all_raised;
+    own = own_after d b s who f c v flies kind is name at text op_is all_filled all_raised;
+    files_after = files_after d b s who f c v flies kind is name at text op_is all_filled all_raised;
+    granted = granted d b s who f c v flies kind is name at text op_is all_filled all_raised;
+    grants = subst (λ (o : Op). Grants (files d) o Done) (sym op_is) refl;
+    slots = slot_waits;
+  }
+
+  pub write_inode : (mid b' : Parts) (tail : ℕ) → tail ≡ tail_at (d.inode f.ino).log.pages (count (d.inode f.ino).log) → mid.inodes ≡ b.inodes
+      → MapsAt f.ino c.size tail f.fresh.items c.runs.items mid.inodes.items b'.inodes.items → ChangesInode e f.ino c.size mid b'
+  write_inode mid b' tail tail_is inodes maps_at = record {
+    all = maps_at.all;
+    others = maps_at.others;
+    here = λ old new was now.
+        let maps_it = maps_at.here old new was now in
+        let held = file_is d b s who f c v flies kind is old (ap (λ (ns : _). slice_get ns.items f.ino) (sym inodes) ∙ was) in
+        record {
+          used = maps_it.used;
+          size_is = maps_it.size_is;
+          round = maps_it.round;
+          holder = maps_it.holder;
+          places = (maps_it.file d old.size c.first _ held (may d b s who f c v flies kind is name at text op_is all_filled all_raised) tail_is
+              (omega (arith, held.size_is, old_fits d b s who f c v flies kind is name at text op_is all_filled all_raised))).places;
+        };
+  }

@@ -1,4 +1,4 @@
--- What is known where the last event of a write is made.
+-- What is known where the last event of a write or a cut is made.
 use Rattle.std.proofs.Common.{◌≡◌, ◌⊎◌, inl, inr, ℕ, ◌+◌, ◌-◌, ◌*◌, ◌<◌, ◌≤◌, List, length, get_or, refl, sym, ◌∙◌, ap, subst, arith}
 use Rattle.std.specs.Prelude.{slice_get, slice_index, Some}
 use Rattle.std.proofs.lemmas.Option.{slice_get_read}
@@ -22,8 +22,9 @@ use Rattle.file_commit.specs.Append.{CanAppend, IsReadyToAppend}
 use Rattle.file_ops.specs.Ending.{IsLastOfWrite}
 use Rattle.file_ops.proofs.Basics.{same_flight}
 use Rattle.file_ops.proofs.Changed.{data_same}
-use Rattle.file_ops.proofs.DiskAfter.{after, event, may, ready}
+use Rattle.file_ops.proofs.DiskAfter.{may}
 use Rattle.file_ops.proofs.Nodes.{state_at}
+use Rattle.file_ops.proofs.Ended.{Decides, write_decides}
 use Rattle.file_ops.proofs.Ready.{owed_part}
 
 -- this flight is the client's, and all its pages are filled and all its rows are raised
@@ -53,26 +54,63 @@ is_last b who f c last was kind =
       all_raised = subst (λ (x : Flight). x.raised ≡ length x.rows.items) same last.all_raised;
     }
 
-module _ (d : Disk) (b : Parts) (s : State) (who : ℕ) (f : Flight) (c : DataChange) (v : IsVolume d b s) (last : IsLast b who f c) where
-  pub fact : IsDataFlight d who f c s
-  fact = subst (λ (x : Change). IsFlightOf d who f s x) last.kind (v.flights.each who f last.flies)
+-- of any write or cut in flight
+module _ (d : Disk) (b : Parts) (s : State) (who : ℕ) (f : Flight) (c : DataChange) (v : IsVolume d b s) (flies : Flies b who f)
+    (kind : f.change ≡ Data c) where
+  pub fact_of : IsDataFlight d who f c s
+  fact_of = subst (λ (x : Change). IsFlightOf d who f s x) kind (v.flights.each who f flies)
 
-  pub in_table : f.ino < b.geometry.inodes
-  in_table = subst (λ (g : Geometry). f.ino < g.inodes) v.fast.geometry fact.grows.in_table
+  pub in_table_of : f.ino < b.geometry.inodes
+  in_table_of = subst (λ (g : Geometry). f.ino < g.inodes) v.fast.geometry fact_of.grows.in_table
 
-  pub in_nodes : f.ino < length b.inodes.items
-  in_nodes = omega (arith, fact.grows.in_table, v.inodes.all)
+  pub in_nodes_of : f.ino < length b.inodes.items
+  in_nodes_of = omega (arith, fact_of.grows.in_table, v.inodes.all)
 
   used : IsUsed (d.inode f.ino).use_of
-  used = subst IsUsed (sym fact.grows.live) tt
+  used = subst IsUsed (sym fact_of.grows.live) tt
+
+  pub tail_within_of : inode_word f.ino 2 < length s.now
+  tail_within_of = v.fast.stands.within (inode_word f.ino 2) (tail_at (d.inode f.ino).log.pages (count (d.inode f.ino).log))
+      (of_logs (record { ino = f.ino; in_table = fact_of.grows.in_table; used = used; says = at_tail refl refl }))
+
+  pub tail_read_of : slice_index s.now (inode_word f.ino 2) ≡ tail_at (d.inode f.ino).log.pages (count (d.inode f.ino).log)
+  tail_read_of = v.fast.stands.reads (inode_word f.ino 2) (tail_at (d.inode f.ino).log.pages (count (d.inode f.ino).log))
+      (of_logs (record { ino = f.ino; in_table = fact_of.grows.in_table; used = used; says = at_tail refl refl }))
+
+  pub units_there_of : 9 * (length f.slots.items + length f.fresh.items) + 4 ≤ s.spare
+  units_there_of =
+      let part : units_by f (Data c) ≤ owed_sum b (λ room. room.units) = subst (λ (x : Change). units_by f x ≤ owed_sum b (λ room. room.units))
+      kind (owed_part d b s who f c v flies kind fact_of (node_of).0 (node_of).1 (λ room. room.units)) in
+      omega (arith, part, v.room.owes.units, v.room.units)
+    where
+      node_of : (n : InodeState) × (slice_get b.inodes.items f.ino ≡ Some n)
+      node_of = state_at b.inodes.items f.ino in_nodes_of
+
+  -- its items may be appended
+  pub can_append_of : (e : Disk) (from n : ℕ) → Decides d s who f c e from n → CanAppend b.geometry who f.ino f.fresh.items f.slots.items s
+  can_append_of e from n decides = record {
+    old = d;
+    new = e;
+    event = decides.changes.event;
+    is = subst (λ (g : Geometry). IsReadyToAppend g who f.ino f.fresh.items f.slots.items d e decides.changes.event s) v.fast.geometry decides.ready;
+  }
+
+-- of a write
+module _ (d : Disk) (b : Parts) (s : State) (who : ℕ) (f : Flight) (c : DataChange) (v : IsVolume d b s) (last : IsLast b who f c) where
+  pub fact : IsDataFlight d who f c s
+  fact = fact_of d b s who f c v last.flies last.kind
+
+  pub in_table : f.ino < b.geometry.inodes
+  in_table = in_table_of d b s who f c v last.flies last.kind
+
+  pub in_nodes : f.ino < length b.inodes.items
+  in_nodes = in_nodes_of d b s who f c v last.flies last.kind
 
   pub tail_within : inode_word f.ino 2 < length s.now
-  tail_within = v.fast.stands.within (inode_word f.ino 2) (tail_at (d.inode f.ino).log.pages (count (d.inode f.ino).log))
-      (of_logs (record { ino = f.ino; in_table = fact.grows.in_table; used = used; says = at_tail refl refl }))
+  tail_within = tail_within_of d b s who f c v last.flies last.kind
 
   pub tail_read : slice_index s.now (inode_word f.ino 2) ≡ tail_at (d.inode f.ino).log.pages (count (d.inode f.ino).log)
-  tail_read = v.fast.stands.reads (inode_word f.ino 2) (tail_at (d.inode f.ino).log.pages (count (d.inode f.ino).log))
-      (of_logs (record { ino = f.ino; in_table = fact.grows.in_table; used = used; says = at_tail refl refl }))
+  tail_read = tail_read_of d b s who f c v last.flies last.kind
 
   pub places_in_file : c.first + length c.blocks.items ≤ 4096
   places_in_file =
@@ -80,24 +118,11 @@ module _ (d : Disk) (b : Parts) (s : State) (who : ℕ) (f : Flight) (c : DataCh
       omega (arith, m.in_size, m.small, fact.covers)
 
   pub can_append : CanAppend b.geometry who f.ino f.fresh.items f.slots.items s
-  can_append = record {
-    old = d;
-    new = after d b s who f c v last.flies last.kind fact last.name last.at last.text last.op_is last.all_filled last.all_raised;
-    event = event d b s who f c v last.flies last.kind fact last.name last.at last.text last.op_is last.all_filled last.all_raised;
-    is = subst (λ (g : Geometry). IsReadyToAppend g who f.ino f.fresh.items f.slots.items d
-        (after d b s who f c v last.flies last.kind fact last.name last.at last.text last.op_is last.all_filled last.all_raised)
-        (event d b s who f c v last.flies last.kind fact last.name last.at last.text last.op_is last.all_filled last.all_raised) s) v.fast.geometry
-        (ready d b s who f c v last.flies last.kind fact last.name last.at last.text last.op_is last.all_filled last.all_raised);
-  }
+  can_append = can_append_of d b s who f c v last.flies last.kind _ _ _
+      (write_decides d b s who f c v last.flies last.kind fact last.name last.at last.text last.op_is last.all_filled last.all_raised)
 
   pub units_there : 9 * (length f.slots.items + length f.fresh.items) + 4 ≤ s.spare
-  units_there =
-      let part : units_by f (Data c) ≤ owed_sum b (λ room. room.units) = subst (λ (x : Change). units_by f x ≤ owed_sum b (λ room. room.units))
-      last.kind (owed_part d b s who f c v last.flies last.kind fact (node_of).0 (node_of).1 (λ room. room.units)) in
-      omega (arith, part, v.room.owes.units, v.room.units)
-    where
-      node_of : (n : InodeState) × (slice_get b.inodes.items f.ino ≡ Some n)
-      node_of = state_at b.inodes.items f.ino in_nodes
+  units_there = units_there_of d b s who f c v last.flies last.kind
 
 -- what a list holds at a place
 pub node_read : (nodes : List InodeState) (ino : ℕ) (x : InodeState) → ino < length nodes → x ≡ get_or nodes ino x → slice_get nodes ino ≡ Some x

@@ -1,4 +1,4 @@
--- What the last event of a write stands on.
+-- What the last event of a write or a cut stands on.
 use Rattle.std.proofs.Common.{
   ◌≡◌,
   inl,
@@ -27,7 +27,7 @@ use Rattle.std.proofs.Common.{
   subst,
   arith,
 }
-use Rattle.std.specs.Prelude.{slice_get, is_some, if◌then◌else◌, Option, Some, None, IsNone, Contains, vec_len, vec_capacity}
+use Rattle.std.specs.Prelude.{slice_get, slice_index, is_some, if◌then◌else◌, Option, Some, None, IsNone, Contains, vec_len, vec_capacity}
 use Rattle.std.specs.Option.{option_map}
 use Rattle.std.specs.FinMap.{get}
 use Rattle.std.specs.VecDeque.{deque_len, deque_capacity}
@@ -75,7 +75,7 @@ use Rattle.file_ops.specs.Giving.{Gives, IsUnshared, IsUnsharedAmong, CanGive}
 use Rattle.file_ops.specs.Ending.{CanFinish}
 use Rattle.file_ops.proofs.Basics.{flight_within}
 use Rattle.file_ops.proofs.DiskAfter.{may}
-use Rattle.file_ops.proofs.Taken.{fresh_taken, spare_taken, left_apart, right_apart}
+use Rattle.file_ops.proofs.Taken.{block_taken, fresh_taken, spare_taken, left_apart, right_apart}
 
 -- a place whose page has no row, as it is kept and on the disk
 pub unshared_place : (d : Disk) (o : Option DiskMapping) (page : ℕ) → IsUnshared d (option_map kept o) page
@@ -222,19 +222,17 @@ module _ (d : Disk) (b : Parts) (s : State) (who : ℕ) (f : Flight) (c : DataCh
           → rel + sum + up ≤ 1105920 → rs ≤ sum → w + 2 * rs < 18446744073709551616
       bound w up zc rel units inodes rs sum e1 le1 le2 le3 le4 le5 = omega arith
 
-  module _ (mid : Parts) (tail : ℕ) (name : List ℕ) (at : ℕ) (text : List ℕ) (op_is : f.op ≡ Write name at text)
-      (all_filled : c.filled ≡ length c.blocks.items) (all_raised : f.raised ≡ length f.rows.items)
+  module _ (mid : Parts) (tail from n : ℕ) (in_file : c.first + places_in (all_seen c.runs.items) ≤ 4096)
       (tail_is : tail ≡ tail_at (d.inode f.ino).log.pages (count (d.inode f.ino).log))
-      (gives : Gives (IsUnsharedAmong d node.map.map c.first (length c.blocks.items)) b.free mid.free)
+      (gives : Gives (IsUnsharedAmong d node.map.map from n) b.free mid.free)
       (inodes : mid.inodes ≡ b.inodes) (queue : mid.queue ≡ b.queue) (reclaiming : mid.reclaiming ≡ b.reclaiming) (owed : mid.owed ≡ b.owed)
       (history : mid.history ≡ b.history) where
-    in_file : c.first + places_in (all_seen c.runs.items) ≤ 4096
-    in_file = let m = may d b s who f c v flies kind is name at text op_is all_filled all_raised in omega (arith, m.in_size, m.small)
-
     block_small : (i : ℕ) → i < places_in (all_seen c.runs.items) → block_at (all_seen c.runs.items) i < 65536
     block_small i lt =
-        let m = may d b s who f c v flies kind is name at text op_is all_filled all_raised in
-        omega (arith, (m.blocks i lt).free.data_page.high, v.fast.valid.accepted.few_pages)
+        let below : i < length c.blocks.items = omega (arith, lt, is.covers) in
+        let unused = taken_unused (slice_index c.blocks.items i) (block_taken f c kind (slice_index c.blocks.items i)
+        (Contains-get_or c.blocks.items i 0 below)) in
+        omega (arith, is.blocks i below, unused.free.data_page.high, v.fast.valid.accepted.few_pages)
 
     spare_free : (page : ℕ) → Contains f.spare.items page → Contains mid.free.free page → ⊥
     spare_free page spare there = ⊎_elim
@@ -243,12 +241,12 @@ module _ (d : Disk) (b : Parts) (s : State) (who : ℕ) (f : Flight) (c : DataCh
         let his = v.space.takes who page (for_client f flies (spare_taken f c kind page spare)) in
         let some = flies.client in omega (arith, none, his, some))
         (λ a.
-        let place = at_disk (c.first + a.i) page a.is in
-        not_mapped d page (taken_unused page (spare_taken f c kind page spare)) (subst (IsMapped d) place.2 (mapped (c.first + a.i) place.0 place.1)))
+        let place = at_disk (from + a.i) page a.is in
+        not_mapped d page (taken_unused page (spare_taken f c kind page spare)) (subst (IsMapped d) place.2 (mapped (from + a.i) place.0 place.1)))
         ((gives.free page).0 there)
 
-    pub can_finish : CanFinish tail f c mid
-    can_finish = record {
+    pub can_end : CanFinish tail f c mid
+    can_end = record {
       kind = kind;
       spare_below = λ page spare. omega (
         arith,
@@ -300,3 +298,15 @@ module _ (d : Disk) (b : Parts) (s : State) (who : ℕ) (f : Flight) (c : DataCh
 
         fresh_small : (page : ℕ) → Contains f.fresh.items page → page < 65536
         fresh_small page has = omega (arith, (taken_unused page (fresh_taken f c kind page has)).free.data_page.high, v.fast.valid.accepted.few_pages)
+
+  -- a write's end
+  module _ (mid : Parts) (tail : ℕ) (name : List ℕ) (at : ℕ) (text : List ℕ) (op_is : f.op ≡ Write name at text)
+      (all_filled : c.filled ≡ length c.blocks.items) (all_raised : f.raised ≡ length f.rows.items)
+      (tail_is : tail ≡ tail_at (d.inode f.ino).log.pages (count (d.inode f.ino).log))
+      (gives : Gives (IsUnsharedAmong d node.map.map c.first (length c.blocks.items)) b.free mid.free)
+      (inodes : mid.inodes ≡ b.inodes) (queue : mid.queue ≡ b.queue) (reclaiming : mid.reclaiming ≡ b.reclaiming) (owed : mid.owed ≡ b.owed)
+      (history : mid.history ≡ b.history) where
+    pub can_finish : CanFinish tail f c mid
+    can_finish =
+        let m = may d b s who f c v flies kind is name at text op_is all_filled all_raised in
+        can_end mid tail c.first (length c.blocks.items) (omega (arith, m.in_size, m.small)) tail_is gives inodes queue reclaiming owed history

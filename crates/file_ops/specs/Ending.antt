@@ -76,8 +76,10 @@ pub record MapsAt (ino size tail : ℕ) (fresh : List ℕ) (runs : List Run) (ol
   pub here : (x y : InodeState) → slice_get old ino ≡ Some x → slice_get new ino ≡ Some y
       → MapsInode ino size tail fresh runs x y
 
--- What the end of a write does to the parts, after the pages that come free and the flight itself.
-pub record FinishesParts (who tail : ℕ) (f : Flight) (c : DataChange) (b b' : Parts) : Type 0 where
+-- What the end of a write or a cut does to the parts, after the pages that come free and the flight
+-- itself. The inodes' states change so.
+pub record FinishesBy (inodes_end : List InodeState → List InodeState → Type 0) (who tail : ℕ)
+    (f : Flight) (c : DataChange) (b b' : Parts) : Type 0 where
   pub geometry : b'.geometry ≡ b.geometry
   pub names : b'.names ≡ b.names
   pub fact : b'.fact ≡ b.fact
@@ -91,7 +93,7 @@ pub record FinishesParts (who tail : ℕ) (f : Flight) (c : DataChange) (b b' : 
   pub free : Gives (Contains f.spare.items) b.free b'.free
   pub queue : (n : InodeState) → slice_get b.inodes.items f.ino ≡ Some n
       → QueuesSlots f.ino n.round tail f.fresh.items (length c.runs.items) b.queue b'.queue
-  pub inodes : MapsAt f.ino c.size tail f.fresh.items c.runs.items b.inodes.items b'.inodes.items
+  pub inodes : inodes_end b.inodes.items b'.inodes.items
   pub releases : b'.reclaiming.releases.items ≡ b.reclaiming.releases.items ++ f.rows.items
   pub releases_len : deque_len b'.reclaiming.releases ≡ deque_len b.reclaiming.releases + length
       f.rows.items
@@ -107,6 +109,11 @@ pub record FinishesParts (who tail : ℕ) (f : Flight) (c : DataChange) (b b' : 
       ∷ []
   pub history_len : vec_len b'.history ≡ vec_len b.history + 1
   pub history_capacity : vec_capacity b'.history ≡ vec_capacity b.history
+
+-- at the end of a write, the places of its runs are mapped
+abbrev pub FinishesParts : (who tail : ℕ) → Flight → DataChange → Parts → Parts → Type 0
+FinishesParts who tail f c b b' = FinishesBy
+    (MapsAt f.ino c.size tail f.fresh.items c.runs.items) who tail f c b b'
 
 -- there is room for all of it
 pub record CanFinish (tail : ℕ) (f : Flight) (c : DataChange) (b : Parts) : Type 0 where

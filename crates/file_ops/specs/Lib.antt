@@ -1,3 +1,6 @@
 pub mod Ends
 pub mod Giving
 pub mod Ending
+pub mod Filling
+pub mod Advancing
+pub mod Asking

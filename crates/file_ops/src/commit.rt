@@ -19,7 +19,8 @@ use pm_device::Pm;
 /// file's log by one store of its tail (NOVA, FAST 2016). The pages that it leaves are free, or their rows wait to be
 /// released (DeNova, IPDPS 2022); its items wait for the daemon, and it enters the history.
 ///
-/// A stop on the way leaves an image with the files of before or of after. `Stopped` where a fence of the device failed.
+/// A crash on the way leaves an image with the files of before or of after. `Stopped` where a fence of the device
+/// failed.
 pub fn commit_write<D: Pm, F: Fingerprint>(v: &mut Volume<D, F>, who: u32) -> Outcome
     requires agrees { Agrees D.state v.old }
     requires running { v.old.parts.stopped ≡ false }

@@ -1,5 +1,6 @@
 // A flight ends.
-ghost use Rattle.std.specs.Prelude.{◌≡◌, ◌≢◌, ◌⊎◌, ◌+◌, ◌-◌, ◌<◌, ◌≤◌, ℕ, List, length, All, IsSome, Some, None, slice_get};
+ghost use Rattle.std.specs.Prelude.{◌≡◌, ◌≢◌, ◌⊎◌, ◌+◌, ◌-◌, ◌<◌, ◌≤◌, ℕ, List, length, All};
+ghost use Rattle.std.specs.Prelude.{IsSome, Some, None, slice_get};
 ghost use Rattle.law_write.specs.Runs.{places_in};
 ghost use Rattle.dn_volume.specs.declared.flight.Flight.{Flight};
 ghost use Rattle.dn_volume.specs.declared.volume.InodeState.{InodeState};
@@ -100,8 +101,8 @@ pub fn repay(owed: &mut Room, units: u64, runs: u64, rows: u64)
     owed.releases -= rows;
 }
 
-/// Ends a write in what is kept in memory, but for the pages that come free: its spare page is given back, its places are
-/// mapped, its items and rows wait, its inode is let go, and it enters the history.
+/// Ends a write in what is kept in memory, but for the pages that come free: its spare page is given back, its places
+/// are mapped, its items and rows wait, its inode is let go, and it enters the history.
 pub fn finish_parts(parts: &mut Parts, who: u32, tail: u64, flight: Flight)
     requires can { (c : DataChange) × CanFinish tail flight c parts.old }
     ensures { (c : DataChange) → CanFinish tail flight c parts.old → FinishesParts who tail flight c

@@ -1,4 +1,4 @@
--- A creation that begins: the volume in memory agrees with the same disk.
+-- An operation on names that begins: the volume in memory agrees with the same disk.
 use Rattle.std.proofs.Common.{
   ◌≡◌,
   ◌≢◌,
@@ -46,7 +46,10 @@ use Rattle.pm_layout.specs.declared.Geometry.{Geometry}
 use Rattle.pm_layout.specs.Geometry.{slots}
 use Rattle.log_entry.specs.Spelling.{spelling, spelled, more_count, more_slots}
 use Rattle.log_entry.proofs.Spelled.{length-spelled-cons}
-use Rattle.log_entry.specs.declared.item.LogItem.TheVariants.{Add}
+use Rattle.log_entry.specs.declared.item.LogItem.{LogItem}
+use Rattle.log_entry.specs.declared.item.LogItem.TheVariants.{Add, Forget}
+use Rattle.dn_model.specs.declared.op.Op.{Op}
+use Rattle.dn_model.specs.declared.op.Op.TheVariants.{Create, Write, Read, Cut, Remove, Rename, Size, List as ListAll}
 use Rattle.file_content.specs.Pages.{AreApart}
 use Rattle.dn_model.specs.Log.{count}
 use Rattle.dn_model.specs.Disk.{Disk, Use, IsUsed, Free, Live, Dying, rows}
@@ -55,7 +58,9 @@ use Rattle.dn_model.specs.History.{needed, name_slots}
 use Rattle.law_write.specs.Events.{IsUnused}
 use Rattle.law_write.proofs.Counting.{total-change}
 use Rattle.law_unique.proofs.Listings.{none_listed}
-use Rattle.law_names.specs.Operations.{creation}
+use Rattle.law_names.specs.NameChange.{NameChange as DiskChange}
+use Rattle.law_names.specs.Operations.{renaming}
+use Rattle.law_names.proofs.Links.{names_eq}
 use Rattle.dn_volume.specs.declared.units.TheConstants.{SLOT_UNITS, TURN_UNITS, NAMES_UNITS, FALL_UNITS, ZERO_CHECK_UNITS}
 use Rattle.dn_volume.specs.declared.flight.Flight.{Flight}
 use Rattle.dn_volume.specs.declared.flight.Change.{Change}
@@ -70,8 +75,8 @@ use Rattle.dn_volume.specs.Parties.{Flies, Holds, by_client, by_daemon, Takes, f
 use Rattle.dn_volume.specs.Inodes.{AreHolders, as_use}
 use Rattle.dn_volume.specs.Space.{HasSpace, AreSlotsOf}
 use Rattle.dn_volume.specs.Balance.{raised, added, dropped, raised_by, times, raised_to_share, added_to_share, raised_to_die, AreCounted}
-use Rattle.dn_volume.specs.Flights.{IsFlight, IsFlightOf, as_turn}
-use Rattle.dn_volume.specs.PlannedNames.{PlansNames, name_put}
+use Rattle.dn_volume.specs.Flights.{IsFlight, IsFlightOf}
+use Rattle.dn_volume.specs.PlannedNames.{PlansNames}
 use Rattle.dn_volume.specs.Reclaims.{one_if, dying_units}
 use Rattle.dn_volume.specs.Reserve.{HasRoom, owed_sum, owed_to, runs_by, units_to_share, changes_to_share}
 use Rattle.dn_volume.specs.Shares.{IsWaiting, in_queue, is_begun, IsQueued}
@@ -83,10 +88,11 @@ use Rattle.dn_volume.proofs.Stills.{still_same}
 use Rattle.dn_volume.proofs.OthersStay.{others_stay}
 use Rattle.dn_volume.proofs.Shorts.{one_flight}
 use Rattle.name_ops.proofs.Landed.{contains_or_not}
-use Rattle.name_ops.specs.Beginning.{CanCreate, IsPlanned, TakesHold, Begins, CreationsBegin}
+use Rattle.name_ops.specs.Finding.{op_slots}
+use Rattle.name_ops.specs.Beginning.{IsPlanned, TakesHold, Begins, NamesBegin}
 
 -- a log with k slots more, on one page more where its last hasn't the room
-grown_fits : (pages n k fresh : ℕ) → 1 ≤ k → k ≤ 63 → pages ≡ (n + 62) / 63 → fresh ≡ (if nat_lt (63 * pages - n) k then 1 else 0)
+pub grown_fits : (pages n k fresh : ℕ) → 1 ≤ k → k ≤ 63 → pages ≡ (n + 62) / 63 → fresh ≡ (if nat_lt (63 * pages - n) k then 1 else 0)
     → pages + fresh ≡ (n + k + 62) / 63
 grown_fits pages n k fresh some few fits needs = ⊎_elim
     (λ (lt : 63 * pages - n < k). let one : fresh ≡ 1 = needs ∙ cond-true (nat_lt (63 * pages - n) k) 1 0 (lt-ltb (63 * pages - n) k lt) in
@@ -95,18 +101,65 @@ grown_fits pages n k fresh some few fits needs = ⊎_elim
     omega (arith, some, few, fits, le, none))
     (cases_lt (63 * pages - n) k)
 
--- the slots of a name's addition
+-- the slots of a name's items
 length-more : (name : List ℕ) (from n : ℕ) → length (more_slots name from n) ≡ n
 length-more name from zero = refl
 length-more name from (suc n) = ap suc (length-more name (from + 7) n)
 
-length-add : (ino : ℕ) (name : List ℕ) → length (spelled (Add ino name ∷ [])) ≡ name_slots name
+length-add : (ino : ℕ) (name : List ℕ) (items : List LogItem) → length (spelled (Add ino name ∷ items)) ≡ name_slots name + length (spelled items)
 unfolding spelling
-length-add ino name = length-spelled-cons (Add ino name) [] ∙ (let more = length-more name 5 (more_count name) in omega (arith, more))
+length-add ino name items = length-spelled-cons (Add ino name) items ∙ (let more = length-more name 5 (more_count name) in omega (arith, more))
 
-module _ (d : Disk) (b b' : Parts) (s t : State) (who : ℕ) (f : Flight) (name : List ℕ) (c : NameChange) (volume : IsVolume d b s)
+length-forget : (name : List ℕ) (items : List LogItem) → length (spelled (Forget name ∷ items)) ≡ name_slots name + length (spelled items)
+unfolding spelling
+length-forget name items = length-spelled-cons (Forget name) items ∙ (let more = length-more name 5 (more_count name) in omega (arith, more))
+
+-- They are those of its items. There are some, and they fit a page. The pages that it needs are for them alone.
+pub record HasSlots (d : Disk) (op : Op) (change : DiskChange) : Type 0 where
+  pub slots : length (spelled change.more) ≡ op_slots op
+  pub some : 1 ≤ op_slots op
+  pub few : op_slots op ≤ 63
+  pub needs : needed d op ≡ (if nat_lt (63 * length (d.inode 0).log.pages - count (d.inode 0).log) (op_slots op) then 1 else 0)
+
+renaming_more : (from to : List ℕ) (ino : ℕ) (replaced : Option ℕ) (fresh : List ℕ) → (renaming from to ino replaced fresh).more ≡ Forget from ∷ Add
+    ino to ∷ []
+renaming_more from to ino None fresh = refl
+renaming_more from to ino (Some other) fresh = refl
+
+pub has_slots : (d : Disk) (f : Flight) (change : DiskChange) (op : Op) → PlansNames d f change op → HasSlots d op change
+has_slots d f change (Create name) plan = record {
+  slots = ap (λ (x : DiskChange). length (spelled x.more)) plan.is ∙ length-add change.ino name [] ∙ (let zero' : name_slots name + 0 ≡ name_slots
+      name = omega arith in zero');
+  some = omega arith;
+  few = let few = plan.legal.few in omega (arith, few);
+  needs = refl;
+}
+has_slots d f change (Write name at text) plan = absurd plan
+has_slots d f change (Read name at count') plan = absurd plan
+has_slots d f change (Cut name to) plan = absurd plan
+has_slots d f change (Remove name) plan = record {
+  slots = ap (λ (x : DiskChange). length (spelled x.more)) plan.is ∙ length-forget name [] ∙ (let zero' : name_slots name + 0 ≡ name_slots name =
+      omega arith in zero');
+  some = omega arith;
+  few = let few = plan.legal.few in omega (arith, few);
+  needs = refl;
+}
+has_slots d f change (Rename from to) plan = record {
+  slots = ap (λ (x : DiskChange). length (spelled x.more)) plan.is ∙ ap (λ (xs : List LogItem). length (spelled xs)) (renaming_more from to plan.ino
+      plan.replaced f.fresh.items) ∙ length-forget from (Add plan.ino to ∷ [])
+      ∙ (let second = length-add plan.ino to [] in let both : name_slots from + length (spelled (Add plan.ino to ∷ [])) ≡ name_slots from +
+      name_slots to = omega (arith, second) in both);
+  some = omega arith;
+  few = let few_from = plan.legal_from.few in let few_to = plan.legal_to.few in omega (arith, few_from, few_to);
+  needs = ⊎_elim (λ same. absurd (plan.apart (sym same.1))) (λ other. ap (λ (x : Bool). if x then 0 else (if nat_lt (63 * length
+      (d.inode 0).log.pages - count (d.inode 0).log) (name_slots from + name_slots to) then 1 else 0)) other.0) (names_eq from to);
+}
+has_slots d f change (Size name) plan = absurd plan
+has_slots d f change ListAll plan = absurd plan
+
+module _ (d : Disk) (b b' : Parts) (s t : State) (who : ℕ) (f : Flight) (c : NameChange) (change : DiskChange) (volume : IsVolume d b s)
     (agree : Agree s.now s.past) (device : IsSame s t)
-    (can : CanCreate d name c.node) (planned : IsPlanned d f name c) (begins : Begins who f b b' t) where
+    (planned : IsPlanned d f c change) (begins : Begins who f b b' t) where
   place_other : (q : ℕ) → 1 ≤ q → q ≢ who → q - 1 ≢ who - 1
   place_other q some other same = other (let one = begins.client in omega (arith, some, one, same))
 
@@ -276,20 +329,12 @@ module _ (d : Disk) (b b' : Parts) (s t : State) (who : ℕ) (f : Flight) (name 
           by (its_own same is) = takes.held (subst (λ (h : Flight). Contains h.held.items ino) is has) ∙ ap Some (sym same)
           by (another other was) = kept_by ino q n' n at takes (by_client g was has)
 
-      held_small : (ino : ℕ) → Contains f.held.items ino → ino < d.geometry.inodes
-      held_small ino has = small (subst (λ (xs : List ℕ). Contains xs ino) planned.held_is has)
-        where
-          small : Contains (0 ∷ c.node ∷ []) ino → ino < d.geometry.inodes
-          small (zero, lt, is) = let few = can.in_table in omega (arith, is, few)
-          small (suc zero, lt, is) = let few = can.in_table in omega (arith, is, few)
-          small (suc (suc k), lt, is) = absurd (omega (arith, lt))
-
       in_table' : (ino q : ℕ) → Holds b' q ino → ino < d.geometry.inodes
       in_table' ino q (by_daemon sharing is shares same) = volume.holders.in_table ino q (by_daemon sharing is (sym begins.sharing ∙ shares) same)
       in_table' ino q (by_client g flies has) = by (whose q g flies)
         where
           by : Whose q g → ino < d.geometry.inodes
-          by (its_own same is) = held_small ino (subst (λ (h : Flight). Contains h.held.items ino) is has)
+          by (its_own same is) = planned.in_table ino (subst (λ (h : Flight). Contains h.held.items ino) is has)
           by (another other was) = volume.holders.in_table ino q (by_client g was has)
 
   -- Counts: it has raised none.
@@ -384,58 +429,45 @@ module _ (d : Disk) (b b' : Parts) (s t : State) (who : ℕ) (f : Flight) (name 
 
   enough_room : length ((d.inode 0).log.pages ++ f.fresh.items) ≡ (count (d.inode 0).log + length f.slots.items + 62) / 63
   enough_room =
-      let fits = (volume.fast.valid.logs 0 (let few = can.in_table in omega (arith, few)) (subst IsUsed (sym volume.fast.valid.root) tt)).paged.fits
+      let fits = (volume.fast.valid.logs 0 (planned.in_table 0 planned.holds_root) (subst IsUsed (sym volume.fast.valid.root) tt)).paged.fits
       in
       let long = length-append (d.inode 0).log.pages f.fresh.items in
-      let slots_long : length f.slots.items ≡ name_slots name = sym (ap length planned.slots_are) ∙ length-add c.node name in
-      let few = can.legal.few in
-      let needs : length f.fresh.items ≡ (if nat_lt (63 * length (d.inode 0).log.pages - count (d.inode 0).log) (name_slots name) then 1 else 0) =
-      planned.enough in
+      let has = has_slots d f change f.op planned.plans in
+      let slots_long : length f.slots.items ≡ op_slots f.op = sym (ap length planned.slots_are) ∙ has.slots in
       long
-      ∙ grown_fits (length (d.inode 0).log.pages) (count (d.inode 0).log) (name_slots name) (length f.fresh.items) (omega arith) (omega (arith, few))
-      fits needs
+      ∙ grown_fits (length (d.inode 0).log.pages) (count (d.inode 0).log) (op_slots f.op) (length f.fresh.items) has.some has.few
+      fits (planned.enough ∙ has.needs)
       ∙ ap (λ (n : ℕ). (count (d.inode 0).log + n + 62) / 63) (sym slots_long)
 
   own_flight : IsFlight d who f t
   own_flight = subst (IsFlightOf d who f t) (sym planned.change_is) (record {
     root = planned.ino_is;
     grows = record {
-      in_table = let few = can.in_table in let root = planned.ino_is in omega (arith, few, root);
+      in_table = let few = planned.in_table 0 planned.holds_root in let root = planned.ino_is in omega (arith, few, root);
       live = ap (λ (i : ℕ). (d.inode i).use_of) planned.ino_is ∙ volume.fast.valid.root;
-      holds = subst (λ (xs : List ℕ). Contains xs f.ino) (sym planned.held_is) (0, omega arith, sym planned.ino_is);
+      holds = subst (Contains f.held.items) (sym planned.ino_is) planned.holds_root;
       room = subst (λ (i : ℕ). length ((d.inode i).log.pages ++ f.fresh.items) ≡ (count (d.inode i).log + length f.slots.items + 62) / 63)
           (sym planned.ino_is) enough_room;
       apart = subst AreApart (sym taken_is) planned.apart;
-      takes = ap length taken_is ∙ planned.enough ∙ ap (needed d) (sym planned.op_is);
-      undying = λ i cut has dies. no_dying i cut (subst (λ (xs : List ℕ). Contains xs i) planned.held_is has) dies;
+      takes = ap length taken_is ∙ planned.enough;
+      undying = planned.undying;
     };
-    change = creation name c.node f.fresh.items;
-    plans = subst (PlansNames d f (creation name c.node f.fresh.items)) (sym planned.op_is)
-        (record { legal = can.legal; unnamed = can.unnamed; free = can.free; held = planned.held_is; is = refl });
-    node_is = refl;
-    turn_is = sym (ap as_turn planned.turn_is);
-    file = can.file;
-    node_in_table = can.in_table;
-    holds_node = subst (λ (xs : List ℕ). Contains xs c.node) (sym planned.held_is) (1, omega arith, refl);
+    change = change;
+    plans = planned.plans;
+    node_is = planned.node_is;
+    turn_is = planned.turn_is;
+    file = planned.file;
+    node_in_table = planned.in_table c.node planned.holds_node;
+    holds_node = planned.holds_node;
     slots = planned.slots_are;
     no_rows = planned.no_rows;
-    put_is = planned.put_is ∙ sym (ap name_put planned.op_is);
+    put_is = planned.put_is;
     ready = λ set. let unset = planned.unprepared in absurd (clash c.prepared unset set);
     tail = λ set. let unset = planned.unprepared in absurd (clash c.prepared unset set);
   })
     where
       clash : (x : Bool) → x ≡ false → x ≡ true → ⊥
       clash x low high = cc
-
-      use_clash : (u : Use) (cut : ℕ) → u ≡ Dying cut → (u ≡ Live) ⊎ (u ≡ Free) → ⊥
-      use_clash u cut dies (inl live) = cc
-      use_clash u cut dies (inr free) = cc
-
-      no_dying : (i cut : ℕ) → Contains (0 ∷ c.node ∷ []) i → (d.inode i).use_of ≡ Dying cut → ⊥
-      no_dying i cut (zero, lt, is) dies = use_clash (d.inode i).use_of cut dies
-          (inl (ap (λ (j : ℕ). (d.inode j).use_of) (sym is) ∙ volume.fast.valid.root))
-      no_dying i cut (suc zero, lt, is) dies = use_clash (d.inode i).use_of cut dies (inr (ap (λ (j : ℕ). (d.inode j).use_of) (sym is) ∙ can.free))
-      no_dying i cut (suc (suc k), lt, is) dies = absurd (omega (arith, lt))
 
   each : (q : ℕ) (g : Flight) → Flies b' q g → IsFlight d q g t
   each q g flies = by (whose q g flies)
@@ -560,5 +592,5 @@ module _ (d : Disk) (b b' : Parts) (s t : State) (who : ℕ) (f : Flight) (name 
     still = still;
   }
 
-pub creations_begin : CreationsBegin
-creations_begin d b b' s t who f name c volume agree device can planned begins = begun d b b' s t who f name c volume agree device can planned begins
+pub names_begin : NamesBegin
+names_begin d b b' s t who f c change volume agree device planned begins = begun d b b' s t who f c change volume agree device planned begins

@@ -346,7 +346,8 @@ module _ (d : Disk) (b b' : Parts) (s t : State) (who : ℕ) (f : Flight) (c : N
   enough_units : 25 ≤ (owed_to (Some f)).units
   enough_units = let is : units_by f f.change ≡ units_by f (Names c) = ap (units_by f) is_names in omega (arith, is)
 
-  module _ (units : s.spare ≤ t.spare + 25) (dying_same : b'.reclaiming ≡ b.reclaiming) (inodes : (ino : ℕ) (n' : InodeState)
+  module _ (units : s.spare ≤ t.spare + 25) (dying_same : b'.reclaiming.raised ≡ b.reclaiming.raised)
+      (zero_same : b'.reclaiming.zero_check ≡ b.reclaiming.zero_check) (releases_same : b'.reclaiming.releases ≡ b.reclaiming.releases) (inodes : (ino : ℕ) (n' : InodeState)
       → slice_get b'.inodes.items ino ≡ Some n' → (n : InodeState) × (slice_get b.inodes.items ino ≡ Some n) × (n'.map ≡ n.map)) where
     pub room : HasRoom b' t
     room =
@@ -370,13 +371,14 @@ module _ (d : Disk) (b b' : Parts) (s t : State) (who : ℕ) (f : Flight) (c : N
           owes = record {
             units = subst (λ x. owed_sum b' (λ r. r.units) + units_to_share x + (FALL_UNITS * one_if b'.reclaiming.raised + ZERO_CHECK_UNITS * one_if
                 b'.reclaiming.zero_check) ≤ b'.owed.units) (sym ln.sharing)
-                (subst (λ x. owed_sum b' (λ r. r.units) + units_to_share b.sharing + (FALL_UNITS * one_if x.raised + ZERO_CHECK_UNITS * one_if
-                x.zero_check) ≤ b'.owed.units) (sym dying_same) (omega (arith, s_units, o_units, w_units)));
+                (let raised_as : one_if b'.reclaiming.raised ≡ one_if b.reclaiming.raised = ap (λ r. one_if r) dying_same in
+                let zero_as : one_if b'.reclaiming.zero_check ≡ one_if b.reclaiming.zero_check = ap (λ r. one_if r) zero_same in
+                omega (arith, s_units, o_units, w_units, raised_as, zero_as));
             trace = subst (λ x. owed_sum b' (λ r. r.trace) + changes_to_share x ≤ b'.owed.trace) (sym ln.sharing)
                 (omega (arith, s_trace, o_trace, w_trace));
             history = omega (arith, s_history, o_history, w_history);
             queue = omega (arith, s_queue, o_queue, w_queue);
-            releases = subst (λ x. owed_sum b' (λ r. r.releases) + one_if x.raised ≤ b'.owed.releases) (sym dying_same)
+            releases = subst (λ x. owed_sum b' (λ r. r.releases) + one_if x ≤ b'.owed.releases) (sym dying_same)
                 (omega (arith, s_releases, o_releases, w_releases));
           };
           units = let enough = enough_units in let there = was.units in omega (arith, enough, there, o_units, units);
@@ -384,7 +386,7 @@ module _ (d : Disk) (b b' : Parts) (s t : State) (who : ℕ) (f : Flight) (c : N
           history = let there = was.history in let longer = l.history_len in let same = l.history_room in
               omega (arith, there, o_history, longer, same);
           queue = subst (λ x. b'.owed.queue ≤ x.room) (sym ln.queue) (let there = was.queue in omega (arith, there, o_queue));
-          releases = subst (λ x. deque_len x.releases + b'.owed.releases ≤ deque_capacity x.releases) (sym dying_same) (let there = was.releases in
+          releases = subst (λ x. deque_len x + b'.owed.releases ≤ deque_capacity x) (sym releases_same) (let there = was.releases in
               omega (arith, there, o_releases));
           names = let there = was.names in let one = ln.names_room in omega (arith, there, o_history, one);
           places = λ q g x n' other is at. places_on q g x n' other is at;

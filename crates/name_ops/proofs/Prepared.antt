@@ -1,9 +1,10 @@
--- The first advance of a creation stores and flushes what has to stand before its commit, and goes on.
+-- The first advance of an operation on names: it is prepared, and nothing that is read changes.
 use Rattle.std.proofs.Common.{
   ◌≡◌,
   ◌≢◌,
   ◌⊎◌,
   inl,
+  inr,
   ⊎_elim,
   ℕ,
   ◌+◌,
@@ -45,8 +46,11 @@ use Rattle.dn_model.specs.Growth.{Prepared, new_head, new_footer, new_slot}
 use Rattle.dn_model.specs.Disk.{Disk, IsUsed}
 use Rattle.dn_model.specs.Image.{StandsFor}
 use Rattle.dn_model.specs.Own.{Print}
-use Rattle.law_names.specs.NameChange.{NameChange as DiskChange, MayChange, FreshNames, root_after}
-use Rattle.law_names.specs.Operations.{creation}
+use Rattle.dn_model.specs.declared.op.Op.{Op}
+use Rattle.dn_model.specs.declared.op.Op.TheVariants.{Create, Write, Read, Cut, Remove, Rename, Size, List as ListAll}
+use Rattle.law_names.specs.NameChange.{NameChange as DiskChange, Turn as DiskTurn, Stays, Comes, Goes, MayChange, FreshNames, root_after}
+use Rattle.law_names.specs.NameChange.{turn_field, turn_words}
+use Rattle.law_names.specs.Operations.{creation, removal, renaming}
 use Rattle.law_names.specs.NameLaws.{StandsStill}
 use Rattle.law_names.proofs.ChangedValid.{root_paged}
 use Rattle.law_names.proofs.Places.{prepared_place, high_not_inode}
@@ -66,7 +70,7 @@ use Rattle.dn_volume.specs.Space.{AreSlotsOf}
 use Rattle.dn_model.specs.Counts.{total}
 use Rattle.dn_model.specs.History.{needed}
 use Rattle.file_content.specs.Pages.{AreApart}
-use Rattle.dn_volume.specs.PlannedNames.{PlansCreate, PlansNames}
+use Rattle.dn_volume.specs.PlannedNames.{PlansNames}
 use Rattle.dn_volume.specs.Flights.{IsFlight, IsNameFlight, GrowsBy}
 use Rattle.dn_volume.specs.Reserve.{slots_of, HasRoom, owed_sum, owed_to, units_by, prepared_units, runs_by, units_to_share, changes_to_share}
 use Rattle.dn_volume.specs.Reclaims.{one_if, dying_units}
@@ -80,17 +84,61 @@ use Rattle.dn_volume.proofs.OthersStay.{others_stay}
 use Rattle.dn_volume.proofs.Stills.{still_flushes}
 use Rattle.dn_volume.proofs.Stepped.{others_same, ops_kept, same_holders, same_space, same_counts, same_queue}
 use Rattle.dn_volume.proofs.Replaced.{few, flies_new, Whose, whose, its_own, another, owed_moved as moved_room}
-use Rattle.name_ops.specs.Preparing.{StoresCreation, with_change, prepared_change, Prepares, IsToPrepareCreate, CreationsPrepare}
-use Rattle.name_ops.proofs.Planned.{flight, plan, same_change, fresh_taken_by, changes, held_is}
+use Rattle.name_ops.specs.Preparing.{StoresNames, with_change, prepared_change, Prepares, IsToPrepare, NamesPrepare}
+use Rattle.name_ops.proofs.NameFlight.{may, fresh_is, fresh_taken_by, holds_root, holds_ino}
 
-module _ (d : Disk) (b b' : Parts) (s u t : State) (who : ℕ) (f : Flight) (name : List ℕ) (c : NameChange) (tail : ℕ) (volume : IsVolume d b s)
-    (agree_u : Agree u.now u.past) (agree_t : Agree t.now t.past)
-    (to : IsToPrepareCreate b who f name c)
-    (stores : StoresCreation d who (creation name c.node f.fresh.items) (SLOT_UNITS * slots_of f + TURN_UNITS) s u t)
-    (tail_is : tail ≡ tail_at (root_after d (creation name c.node f.fresh.items)).pages (count (root_after d (creation name c.node f.fresh.items))))
+-- the words of an inode that turns
+turn_fits : (turn : DiskTurn) (log : Log) → turn_field turn + length (turn_words turn log) ≤ 4
+turn_fits Stays log = omega arith
+turn_fits Comes log = omega arith
+turn_fits Goes log = omega arith
+
+turn_starts : (turn : DiskTurn) → 1 ≤ turn_field turn
+turn_starts Stays = omega arith
+turn_starts Comes = omega arith
+turn_starts Goes = omega arith
+
+-- what was planned is so of an operation that holds the same and makes the same
+plans_then : (d : Disk) (f f' : Flight) (change : DiskChange) (op : Op) → f'.held ≡ f.held → f'.fresh ≡ f.fresh → PlansNames d f change op
+    → PlansNames d f' change op
+plans_then d f f' change (Create name) held fresh plan = record {
+  legal = plan.legal;
+  unnamed = plan.unnamed;
+  free = plan.free;
+  held = ap (λ xs. xs.items) held ∙ plan.held;
+  is = plan.is ∙ ap (λ xs. creation name change.ino xs.items) (sym fresh);
+}
+plans_then d f f' change (Write name at text) held fresh plan = absurd plan
+plans_then d f f' change (Read name at count') held fresh plan = absurd plan
+plans_then d f f' change (Cut name to) held fresh plan = absurd plan
+plans_then d f f' change (Remove name) held fresh plan = record {
+  legal = plan.legal;
+  leads = plan.leads;
+  held = ap (λ xs. xs.items) held ∙ plan.held;
+  is = plan.is ∙ ap (λ xs. removal name change.ino xs.items) (sym fresh);
+}
+plans_then d f f' change (Rename from to) held fresh plan = record {
+  legal_from = plan.legal_from;
+  legal_to = plan.legal_to;
+  apart = plan.apart;
+  ino = plan.ino;
+  leads = plan.leads;
+  replaced = plan.replaced;
+  replaces = plan.replaces;
+  held = ap (λ xs. xs.items) held ∙ plan.held;
+  is = plan.is ∙ ap (λ xs. renaming from to plan.ino plan.replaced xs.items) (sym fresh);
+}
+plans_then d f f' change (Size name) held fresh plan = absurd plan
+plans_then d f f' change ListAll held fresh plan = absurd plan
+
+module _ (d : Disk) (b b' : Parts) (s u t : State) (who : ℕ) (f : Flight) (c : NameChange) (tail : ℕ) (fl : IsNameFlight d who f c s)
+    (volume : IsVolume d b s) (agree_u : Agree u.now u.past) (agree_t : Agree t.now t.past)
+    (to : IsToPrepare b who f c)
+    (stores : StoresNames d who fl.change (SLOT_UNITS * slots_of f + TURN_UNITS) s u t)
+    (tail_is : tail ≡ tail_at (root_after d fl.change).pages (count (root_after d fl.change)))
     (prepares : Prepares who f c tail b b') where
   abbrev change : DiskChange
-  change = creation name c.node f.fresh.items
+  change = fl.change
 
   abbrev f' : Flight
   f' = with_change f (Names (prepared_change c tail))
@@ -99,16 +147,10 @@ module _ (d : Disk) (b b' : Parts) (s u t : State) (who : ℕ) (f : Flight) (nam
   st = prepares.steps
 
   can : MayChange d change
-  can = changes d b s who f name c volume to.flies to.op_is to.change_is
+  can = may d b s who f c volume to.flies to.change_is fl
 
-  abbrev fl : IsNameFlight d who f c s
-  fl = flight d b s who f name c volume to.flies to.op_is to.change_is
-
-  pl : PlansCreate d f name fl.change
-  pl = plan d b s who f name c volume to.flies to.op_is to.change_is
-
-  change_same : fl.change ≡ change
-  change_same = same_change d b s who f name c volume to.flies to.op_is to.change_is
+  fresh_same : change.fresh ≡ f.fresh.items
+  fresh_same = fresh_is d b s who f c volume to.flies to.change_is fl
 
   abbrev new : Log
   new = root_after d change
@@ -117,19 +159,19 @@ module _ (d : Disk) (b b' : Parts) (s u t : State) (who : ℕ) (f : Flight) (nam
   Root = Said (Prepared 0 (d.inode 0).log new)
 
   abbrev Turn' : ℕ → Type 0
-  Turn' = IsIn (inode_word c.node 1) 3
+  Turn' = IsIn (inode_word change.ino (turn_field change.turn)) (length (turn_words change.turn (d.inode change.ino).log))
 
   long_u : length u.now ≡ 512 * d.geometry.pages
   long_u = stores.prepared.only.words ∙ volume.fast.long
 
   long_t : length t.now ≡ 512 * d.geometry.pages
-  long_t = stores.cleared.only.words ∙ long_u
+  long_t = stores.turned.only.words ∙ long_u
 
   root_still : StandsStill d s u
   root_still = root_stores d change can s u stores.prepared.only volume.fast.stands agree_u long_u
 
   turn_still : StandsStill d u t
-  turn_still = turn_stores d change can u t stores.cleared.only root_still.stands agree_t long_t
+  turn_still = turn_stores d change can u t stores.turned.only root_still.stands agree_t long_t
 
   pub images : LeavesOnly s t (λ c. StandsFor c d)
   images = leaves_only-then s u t (λ c. StandsFor c d) root_still.images turn_still.images
@@ -139,23 +181,28 @@ module _ (d : Disk) (b b' : Parts) (s u t : State) (who : ℕ) (f : Flight) (nam
 
   -- what was prepared still stands once the inode is cleared
   not_turned : (a v : ℕ) → Prepared 0 (d.inode 0).log new a v → Turn' a → ⊥
-  not_turned a v told here = ⊎_elim
-      (λ head. let file = fl.file in omega (arith, head, file, here.0))
-      (λ high. high_not_inode d.geometry a c.node (a - inode_word c.node 0) high fl.node_in_table (omega (arith, here.0, here.1))
-      (omega (arith, here.0)))
+  not_turned a v told here =
+      let starts = turn_starts change.turn in
+      let fits = turn_fits change.turn (d.inode change.ino).log in
+      let low = here.0 in
+      let high' = here.1 in
+      ⊎_elim
+      (λ head. let file = can.file in omega (arith, head, file, low, starts))
+      (λ high. high_not_inode d.geometry a change.ino (a - inode_word change.ino 0) high can.in_table (omega (arith, low, high', fits))
+      (omega (arith, low)))
       (prepared_place d.geometry 0 (d.inode 0).log new a v (root_paged d change can) told)
 
   root_ready : IsReady who (Prepared 0 (d.inode 0).log new) t
   root_ready =
       let was = stores.prepared.ready in
       record {
-        within = λ a v told. let lt = was.within a v told in let same = stores.cleared.only.words in omega (arith, lt, same);
-        reads = λ a v told. stores.cleared.only.read a (not_turned a v told) ∙ was.reads a v told;
-        flushed = λ a v told. stores.cleared.keeps.flushed who a tt (not_turned a v told) (was.within a v told) (was.flushed a v told);
+        within = λ a v told. let lt = was.within a v told in let same = stores.turned.only.words in omega (arith, lt, same);
+        reads = λ a v told. stores.turned.only.read a (not_turned a v told) ∙ was.reads a v told;
+        flushed = λ a v told. stores.turned.keeps.flushed who a tt (not_turned a v told) (was.within a v told) (was.flushed a v told);
       }
 
   ready : IsReady who (FreshNames d change) t
-  ready = fresh_ready d change who t root_ready (turn_ready d change can who u t long_u stores.cleared)
+  ready = fresh_ready d change who t root_ready (turn_ready d change can who u t long_u stores.turned)
 
   taken_same : blocks_of f.change ≡ []
   taken_same = ap blocks_of to.change_is
@@ -176,13 +223,7 @@ module _ (d : Disk) (b b' : Parts) (s u t : State) (who : ℕ) (f : Flight) (nam
     root = fl.root;
     grows = grows;
     change = fl.change;
-    plans = subst (PlansNames d f' fl.change) (sym to.op_is) (record {
-      legal = pl.legal;
-      unnamed = pl.unnamed;
-      free = pl.free;
-      held = pl.held;
-      is = pl.is;
-    });
+    plans = plans_then d f f' fl.change f.op refl refl fl.plans;
     node_is = fl.node_is;
     turn_is = fl.turn_is;
     file = fl.file;
@@ -191,22 +232,33 @@ module _ (d : Disk) (b b' : Parts) (s u t : State) (who : ℕ) (f : Flight) (nam
     slots = fl.slots;
     no_rows = fl.no_rows;
     put_is = fl.put_is;
-    ready = λ set. subst (λ (x : DiskChange). IsReady who (FreshNames d x) t) (sym change_same) ready;
-    tail = λ set. subst (λ (x : DiskChange). tail ≡ tail_at (root_after d x).pages (count (root_after d x))) (sym change_same) tail_is;
+    ready = λ set. ready;
+    tail = λ set. tail_is;
   }
 
   -- what is left to others
   abbrev inodes : List ℕ
-  inodes = 0 ∷ c.node ∷ []
+  inodes = f.held.items
+
+  in_root : Contains inodes 0
+  in_root = holds_root d b s who f c volume to.flies to.change_is fl
+
+  in_node : Contains inodes change.ino
+  in_node = holds_ino d b s who f c volume to.flies to.change_is fl
+
+  pages_of_new : (k : ℕ) → k < length new.pages → Contains ((d.inode 0).log.pages) (slice_index new.pages k) ⊎ Contains change.fresh
+      (slice_index new.pages k)
+  pages_of_new k lt = Contains-append_cases (d.inode 0).log.pages change.fresh (slice_index new.pages k)
+      (k, lt, get_or_default_zero new.pages k (slice_index new.pages k) lt)
 
   in_pages : (k : ℕ) → k < length new.pages → Contains ((d.inode 0).log.pages) (slice_index new.pages k) ⊎ Contains f.fresh.items
       (slice_index new.pages k)
-  in_pages k lt = Contains-append_cases (d.inode 0).log.pages f.fresh.items (slice_index new.pages k)
-      (k, lt, get_or_default_zero new.pages k (slice_index new.pages k) lt)
+  in_pages k lt = ⊎_elim (λ old. inl old) (λ fresh. inr (subst (λ (xs : List ℕ). Contains xs (slice_index new.pages k)) fresh_same fresh))
+      (pages_of_new k lt)
 
   of_new_page : (k a : ℕ) → k < length new.pages → IsInPage (slice_index new.pages k) a → IsWordOf inodes f.fresh.items d a
   of_new_page k a lt here = ⊎_elim
-      (λ old. of_log 0 (slice_index new.pages k) (0, omega arith, refl) (let few = fl.node_in_table in omega (arith, few))
+      (λ old. of_log 0 (slice_index new.pages k) in_root (let few = fl.node_in_table in omega (arith, few))
       (subst IsUsed (sym volume.fast.valid.root) tt) old here)
       (λ fresh. of_page (slice_index new.pages k) fresh here) (in_pages k lt)
 
@@ -214,7 +266,7 @@ module _ (d : Disk) (b b' : Parts) (s u t : State) (who : ℕ) (f : Flight) (nam
   of_root a said = by_case said.value said.told
     where
       by_case : (v : ℕ) → Prepared 0 (d.inode 0).log new a v → IsWordOf inodes f.fresh.items d a
-      by_case v (new_head none some place value) = of_inode 0 (0, omega arith, refl) (let few = fl.node_in_table in omega (arith, few))
+      by_case v (new_head none some place value) = of_inode 0 in_root (let few = fl.node_in_table in omega (arith, few))
           (omega (arith, place), omega (arith, place))
       by_case v (new_footer k late lt place value) = of_new_page k a (omega (arith, lt)) (omega (arith, place), omega (arith, place))
       by_case v (new_slot k j late lt word place value) =
@@ -222,7 +274,12 @@ module _ (d : Disk) (b b' : Parts) (s u t : State) (who : ℕ) (f : Flight) (nam
           of_new_page (k / 63) a (omega (arith, lt, fits)) (omega (arith, place, word), omega (arith, place, word))
 
   of_turn : (a : ℕ) → Turn' a → IsWordOf inodes f.fresh.items d a
-  of_turn a here = of_inode c.node (1, omega arith, refl) fl.node_in_table (omega (arith, here.0), omega (arith, here.1))
+  of_turn a here =
+      let starts = turn_starts change.turn in
+      let fits = turn_fits change.turn (d.inode change.ino).log in
+      let low = here.0 in
+      let high = here.1 in
+      of_inode change.ino in_node can.in_table (omega (arith, low), omega (arith, high, fits))
 
   rest : KeepsRest inodes f.fresh.items d d
   rest = record {
@@ -240,9 +297,9 @@ module _ (d : Disk) (b b' : Parts) (s u t : State) (who : ℕ) (f : Flight) (nam
     rest = rest;
     only = stores_only-then (IsWordOf inodes f.fresh.items d) s u t (stores_only-weaken Root (IsWordOf inodes f.fresh.items d) s u of_root
         stores.prepared.only)
-        (stores_only-weaken Turn' (IsWordOf inodes f.fresh.items d) u t of_turn stores.cleared.only);
+        (stores_only-weaken Turn' (IsWordOf inodes f.fresh.items d) u t of_turn stores.turned.only);
     others = λ q a other out lt flushed.
-        stores.cleared.keeps.flushed q a tt (λ here. out (of_turn a here)) (let same = stores.prepared.only.words in omega (arith, lt, same))
+        stores.turned.keeps.flushed q a tt (λ here. out (of_turn a here)) (let same = stores.prepared.only.words in omega (arith, lt, same))
         (stores.prepared.keeps.flushed q a tt (λ said. out (of_root a said)) lt flushed);
   }
 
@@ -252,9 +309,8 @@ module _ (d : Disk) (b b' : Parts) (s u t : State) (who : ℕ) (f : Flight) (nam
   stay : ((q : ℕ) (g : Flight) → q ≢ who → Flies b' q g → IsFlight d q g t) × StayInHand who d b'
   stay = others_stay who inodes f.fresh.items d d b b' s t volume (subst (λ (g : Geometry). StandsFast d g t) st.geometry fast)
       (record {
-        inode = λ i has. inl (by_client f to.flies
-            (subst (λ (xs : List ℕ). Contains xs i) (sym (held_is d b s who f name c volume to.flies to.op_is to.change_is)) has));
-        page = λ page has. inl (fresh_taken_by d b s who f name c volume to.flies to.op_is to.change_is page has);
+        inode = λ i has. inl (by_client f to.flies has);
+        page = λ page has. inl (fresh_taken_by d b s who f c volume to.flies to.change_is fl page has);
       })
       leaves same (λ other. ap (λ r. r.raised) st.reclaiming)
 
@@ -368,24 +424,24 @@ module _ (d : Disk) (b b' : Parts) (s u t : State) (who : ℕ) (f : Flight) (nam
   pub others : SameOthers who b b'
   others = same
 
-pub creations_prepare : {D F : Type 0} (state : D → State) → CreationsPrepare D F state
-creations_prepare state print v v' u d who f name c tail volume agree_u agree_t to stores tail_is prepares counts = record {
+pub names_prepare : {D F : Type 0} (state : D → State) → NamesPrepare D F state
+names_prepare state print v v' u d who f c tail fl volume agree_u agree_t to stores tail_is prepares counts = record {
   after = d;
   moves = record {
-    volume = (moved d v.parts v'.parts (state v.device) u (state v'.device) who f name c tail volume agree_u agree_t to stores tail_is prepares
+    volume = (moved d v.parts v'.parts (state v.device) u (state v'.device) who f c tail fl volume agree_u agree_t to stores tail_is prepares
         print).0;
-    images = (moved d v.parts v'.parts (state v.device) u (state v'.device) who f name c tail volume agree_u agree_t to stores tail_is prepares
+    images = (moved d v.parts v'.parts (state v.device) u (state v'.device) who f c tail fl volume agree_u agree_t to stores tail_is prepares
         print).1;
     own = λ own. own;
     accounts = λ own. quiet_accounts print d;
     alone = λ is. quiet_alone d;
     traces = record { more = []; trace = ap (λ xs. xs.items) prepares.trace ∙ sym (append-nil v.parts.trace.items); words = λ slot. refl };
-    others = others d v.parts v'.parts (state v.device) u (state v'.device) who f name c tail volume agree_u agree_t to stores tail_is prepares;
+    others = others d v.parts v'.parts (state v.device) u (state v'.device) who f c tail fl volume agree_u agree_t to stores tail_is prepares;
     counts = counts;
     geometry = prepares.steps.geometry;
     faults = stores.faults;
   };
   quiet = λ other. refl;
-  ops = ops d v.parts v'.parts (state v.device) u (state v'.device) who f name c tail volume agree_u agree_t to stores tail_is prepares;
+  ops = ops d v.parts v'.parts (state v.device) u (state v'.device) who f c tail fl volume agree_u agree_t to stores tail_is prepares;
   history = ap (λ xs. xs.items) prepares.history;
 }

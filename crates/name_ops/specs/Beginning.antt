@@ -12,7 +12,6 @@ use Rattle.std.specs.Prelude.{
   false,
   List,
   [],
-  ◌∷◌,
   length,
   slice_get,
   Some,
@@ -24,43 +23,39 @@ use Rattle.std.specs.Prelude.{
 use Rattle.std.specs.FinMap.{get}
 use Rattle.pm_device.specs.State.{State, IsSame, Agree}
 use Rattle.page_alloc.specs.Free.{IsInOrder}
-use Rattle.log_entry.specs.Name.{IsLegal}
 use Rattle.log_entry.specs.Spelling.{spelled}
-use Rattle.log_entry.specs.declared.item.LogItem.TheVariants.{Add}
 use Rattle.file_content.specs.Pages.{AreApart}
-use Rattle.dn_model.specs.Disk.{Disk, Free}
-use Rattle.dn_model.specs.Files.{named}
+use Rattle.dn_model.specs.Disk.{Disk, Dying}
 use Rattle.dn_model.specs.History.{needed}
-use Rattle.dn_model.specs.declared.op.Op.TheVariants.{Create}
+use Rattle.law_names.specs.NameChange.{NameChange as DiskChange}
 use Rattle.dn_volume.specs.declared.flight.Flight.{Flight}
 use Rattle.dn_volume.specs.declared.flight.Change.TheVariants.{Names}
 use Rattle.dn_volume.specs.declared.flight.NameChange.{NameChange}
-use Rattle.dn_volume.specs.declared.flight.Turn.TheVariants as turn
 use Rattle.dn_volume.specs.declared.volume.InodeState.{InodeState}
 use Rattle.dn_volume.specs.declared.volume.Parts.{Parts}
 use Rattle.dn_volume.specs.Parties.{Flies, flight_at}
+use Rattle.dn_volume.specs.PlannedNames.{PlansNames, name_put}
+use Rattle.dn_volume.specs.Flights.{as_turn}
 use Rattle.dn_volume.specs.Reserve.{owed_to}
 use Rattle.dn_volume.specs.Agrees.{IsVolume}
 
--- the name has no file, and this inode is free
-pub record CanCreate (d : Disk) (name : List ℕ) (node : ℕ) : Type 0 where
-  pub legal : IsLegal name
-  pub unnamed : named d name ≡ None
-  pub file : 1 ≤ node
-  pub in_table : node < d.geometry.inodes
-  pub free : (d.inode node).use_of ≡ Free
-
--- a creation that was planned so
-pub record IsPlanned (d : Disk) (f : Flight) (name : List ℕ) (c : NameChange) : Type 0 where
-  pub op_is : f.op ≡ Create name
+-- An operation on names that was planned so: it makes this change of the disk, holds the root, and
+-- has the pages that it needs.
+pub record IsPlanned (d : Disk) (f : Flight) (c : NameChange) (change : DiskChange) : Type 0 where
+  pub plans : PlansNames d f change f.op
   pub change_is : f.change ≡ Names c
-  pub turn_is : c.turn ≡ turn.Comes
+  pub node_is : change.ino ≡ c.node
+  pub turn_is : change.turn ≡ as_turn c.turn
+  pub file : 1 ≤ c.node
   pub unprepared : c.prepared ≡ false
-  pub put_is : c.put ≡ Some name
+  pub put_is : c.put ≡ name_put f.op
   pub ino_is : f.ino ≡ 0
-  pub held_is : f.held.items ≡ 0 ∷ c.node ∷ []
-  pub slots_are : spelled (Add c.node name ∷ []) ≡ f.slots.items
-  pub enough : length f.fresh.items ≡ needed d (Create name)
+  pub holds_root : Contains f.held.items 0
+  pub holds_node : Contains f.held.items c.node
+  pub in_table : (ino : ℕ) → Contains f.held.items ino → ino < d.geometry.inodes
+  pub undying : (ino cut : ℕ) → Contains f.held.items ino → (d.inode ino).use_of ≡ Dying cut → ⊥
+  pub slots_are : spelled change.more ≡ f.slots.items
+  pub enough : length f.fresh.items ≡ needed d f.op
   pub apart : AreApart f.fresh.items
   pub no_spare : f.spare.items ≡ []
   pub no_rows : f.rows.items ≡ []
@@ -108,7 +103,8 @@ pub record Begins (who : ℕ) (f : Flight) (b b' : Parts) (t : State) : Type 0 w
   pub history_room : vec_len b'.history + b'.owed.history ≤ vec_capacity b'.history
   pub names_room : b'.owed.history ≤ b'.names.room
 
-abbrev pub CreationsBegin : Type 0
-CreationsBegin = (d : Disk) (b b' : Parts) (s t : State) (who : ℕ) (f : Flight) (name : List ℕ)
-    (c : NameChange) → IsVolume d b s → Agree s.now s.past → IsSame s t
-    → CanCreate d name c.node → IsPlanned d f name c → Begins who f b b' t → IsVolume d b' t
+-- so the volume agrees with the same disk
+abbrev pub NamesBegin : Type 0
+NamesBegin = (d : Disk) (b b' : Parts) (s t : State) (who : ℕ) (f : Flight) (c : NameChange)
+    (change : DiskChange) → IsVolume d b s → Agree s.now s.past → IsSame s t
+    → IsPlanned d f c change → Begins who f b b' t → IsVolume d b' t

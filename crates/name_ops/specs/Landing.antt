@@ -1,54 +1,43 @@
 -- What a commit of an operation on names does to what is kept in memory.
-use Rattle.std.specs.Prelude.{
-  ◌≡◌,
-  ◌≢◌,
-  ◌⊎◌,
-  ◌↔◌,
-  ℕ,
-  ◌+◌,
-  ◌-◌,
-  ◌≤◌,
-  true,
-  false,
-  List,
-  [],
-  ◌∷◌,
-  ◌++◌,
-  length,
-  slice_get,
-  Some,
-  None,
-  Contains,
-  vec_len,
-  vec_capacity,
-}
-use Rattle.std.specs.FinMap.{get}
+use Rattle.std.specs.Prelude.{◌≡◌, ◌≢◌, ◌⊎◌, ◌↔◌, ℕ, ◌+◌, ◌-◌, ◌*◌, ◌≤◌, true, false, is_some}
+use Rattle.std.specs.Prelude.{List, [], ◌∷◌, ◌++◌, length, slice_get, if◌then◌else◌}
+use Rattle.std.specs.Prelude.{Option, Some, None, Contains, vec_len, vec_capacity}
+use Rattle.std.specs.Ordering.{nat_cmp}
+use Rattle.std.specs.FinMap.{FinMap, get}
+use Rattle.file_index.specs.declared.page_map.Mapping.{Mapping}
 use Rattle.pm_device.specs.State.{State, Agree}
+use Rattle.pm_device.specs.State.{Rose}
 use Rattle.pm_device.specs.Settled.{LeavesOnly, StoresOnly, KeepsFlushed, Others, SettlesAll}
+use Rattle.pm_layout.specs.Geometry.{inode_word}
+use Rattle.log_entry.specs.Spelling.{pages_of}
 use Rattle.page_alloc.specs.Free.{IsInOrder}
 use Rattle.name_journal.specs.declared.change.Change.{Change}
 use Rattle.name_journal.specs.Changes.{IsTouched}
 use Rattle.name_journal.specs.AllOrNone.{AllOrNone, IsAllDone}
+use Rattle.dn_model.specs.Counts.{total}
 use Rattle.dn_model.specs.Disk.{Disk}
 use Rattle.dn_model.specs.declared.op.Entry.{Entry}
 use Rattle.dn_model.specs.Own.{Print}
 use Rattle.dn_model.specs.declared.op.Op.{Op}
-use Rattle.dn_model.specs.declared.op.Op.TheVariants.{Create}
+use Rattle.dn_model.specs.declared.op.Op.TheVariants as op
 use Rattle.dn_model.specs.declared.op.Reply.{Reply}
 use Rattle.dn_model.specs.declared.op.Reply.TheVariants.{Done}
-use Rattle.law_names.specs.NameChange.{name_changes, names_changed}
-use Rattle.law_names.specs.Operations.{creation, with_name}
+use Rattle.law_names.specs.NameChange.{state_changes}
+use Rattle.law_names.specs.Operations.{with_name}
 use Rattle.dn_volume.specs.declared.flight.Flight.{Flight}
 use Rattle.dn_volume.specs.declared.flight.Change.TheVariants.{Names}
 use Rattle.dn_volume.specs.declared.flight.NameChange.{NameChange}
+use Rattle.dn_volume.specs.declared.flight.Turn.{Turn}
+use Rattle.dn_volume.specs.declared.flight.Turn.TheVariants as turn
 use Rattle.dn_volume.specs.declared.volume.InodeState.{InodeState}
 use Rattle.dn_volume.specs.declared.volume.InodeUse.TheVariants as used
 use Rattle.dn_volume.specs.declared.volume.Parts.{Parts}
 use Rattle.dn_volume.specs.Parties.{Flies, flight_at}
+use Rattle.dn_volume.specs.Flights.{as_turn}
 use Rattle.dn_volume.specs.Reserve.{owed_to}
 use Rattle.dn_volume.specs.declared.volume.Volume.{Volume}
 use Rattle.dn_volume.specs.Agrees.{IsVolume}
-use Rattle.dn_volume.specs.Events.{Counts, Answers}
+use Rattle.dn_volume.specs.Events.{Counts, Answers, Breaks}
 
 -- these changes were made by one commit of the journal
 pub record CommitsAll (inodes who : ℕ) (changes : List Change) (s t : State) : Type 0 where
@@ -96,40 +85,75 @@ pub record LandsNames (who : ℕ) (f : Flight) (b b' : Parts) : Type 0 where
   pub names_room : b.names.room ≤ b'.names.room + 1
   pub inodes : length b'.inodes.items ≡ length b.inodes.items
 
--- an inode comes to life as a file of no bytes; the others stay
-pub record ComesToLife (node ino : ℕ) (n n' : InodeState) : Type 0 where
+-- which inode each name leads to once an operation on names is done
+abbrev pub names_after : Op → (List ℕ → Option ℕ) → ℕ → List ℕ → Option ℕ
+names_after (op.Create name) leads node = with_name leads name (Some node)
+names_after (op.Write name at text) leads node = leads
+names_after (op.Read name at count) leads node = leads
+names_after (op.Cut name to) leads node = leads
+names_after (op.Remove name) leads node = with_name leads name None
+names_after (op.Rename from to) leads node = with_name (with_name leads from None) to (leads from)
+names_after (op.Size name) leads node = leads
+names_after op.List leads node = leads
+
+-- An inode comes to life as a file of no bytes, or is dying and keeps the places below the pages of
+-- its size, or stays.
+abbrev pub Turned : Turn → InodeState → InodeState → Type 0
+Turned turn.Stays n n' = (n'.used ≡ n.used) × (n'.size ≡ n.size)
+Turned turn.Comes n n' = (n'.used ≡ used.Live) × (n'.size ≡ 0)
+Turned turn.Goes n n' = (n'.used ≡ used.Dying (pages_of n.size)) × (n'.size ≡ n.size)
+
+-- the inode of the change turns; the others stay
+pub record TurnsInode (change : NameChange) (ino : ℕ) (n n' : InodeState) : Type 0 where
   pub map : n'.map ≡ n.map
   pub round : n'.round ≡ n.round
-  pub here : ino ≡ node → (n'.used ≡ used.Live) × (n'.size ≡ 0)
-  pub elsewhere : ino ≢ node → (n'.used ≡ n.used) × (n'.size ≡ n.size)
+  pub here : ino ≡ change.node → Turned change.turn n n'
+  pub elsewhere : ino ≢ change.node → (n'.used ≡ n.used) × (n'.size ≡ n.size)
 
--- a file was created
-pub record LandsCreate (who : ℕ) (f : Flight) (name : List ℕ) (node : ℕ) (b b' : Parts) : Type 0
-  where
-    pub lands : LandsNames who f b b'
-    pub names : (other : List ℕ) → get b'.names.map other ≡ with_name (get b.names.map) name
-        (Some node) other
-    pub reclaiming : b'.reclaiming ≡ b.reclaiming
-    pub each : (ino : ℕ) (n' : InodeState) → slice_get b'.inodes.items ino ≡ Some n'
-        → (n : InodeState) × (slice_get b.inodes.items ino ≡ Some n) × ComesToLife node ino n
-        n' × LetsGo f ino n n'
+-- how many places of a file are mapped, as they are kept
+unfoldable pub places_in : FinMap nat_cmp Mapping → ℕ
+places_in map = total 4096 (λ idx. if is_some (get map idx) then 1 else 0)
 
--- a creation is in flight, and all that has to stand before its commit was stored
-pub record IsToCreate (b : Parts) (who : ℕ) (f : Flight) (name : List ℕ) (c : NameChange) : Type 0
-  where
-    pub flies : Flies b who f
-    pub op_is : f.op ≡ Create name
-    pub change_is : f.change ≡ Names c
-    pub prepared : c.prepared ≡ true
+abbrev pub places_kept : InodeState → ℕ
+places_kept n = places_in n.map.map
 
-abbrev pub after_create : Disk → List ℕ → Flight → NameChange → Disk
-after_create d name f c = names_changed d (creation name c.node f.fresh.items)
+-- the units of work that reclaim gets: one for an inode that is dying, and four for each place
+abbrev pub turn_units : Turn → ℕ → ℕ
+turn_units turn.Stays places = 0
+turn_units turn.Comes places = 0
+turn_units turn.Goes places = 1 + 4 * places
 
-abbrev pub CreationsLand : Type 0
-CreationsLand = (d : Disk) (b b' : Parts) (s t : State) (who : ℕ) (f : Flight) (name : List ℕ)
-    (c : NameChange) → IsVolume d b s → Agree s.now s.past → IsToCreate b who f name c
-    → CommitsAll d.geometry.inodes who (name_changes d (creation name c.node f.fresh.items)) s t
-    → LandsCreate who f name c.node b b' → IsVolume (after_create d name f c) b' t
+-- The names, the inode that turns and the holders are those of after, and reclaim has its work
+-- more.
+pub record LandsChange (who : ℕ) (f : Flight) (c : NameChange) (b b' : Parts) : Type 0 where
+  pub lands : LandsNames who f b b'
+  pub names : (other : List ℕ) → get b'.names.map other ≡ names_after f.op (get b.names.map) c.node
+      other
+  pub each : (ino : ℕ) (n' : InodeState) → slice_get b'.inodes.items ino ≡ Some n'
+      → (n : InodeState) × (slice_get b.inodes.items ino ≡ Some n) × TurnsInode c ino n n' × LetsGo f
+      ino n n'
+  pub raised : b'.reclaiming.raised ≡ b.reclaiming.raised
+  pub zero_check : b'.reclaiming.zero_check ≡ b.reclaiming.zero_check
+  pub releases : b'.reclaiming.releases ≡ b.reclaiming.releases
+  pub waiting : (n : InodeState) → slice_get b.inodes.items c.node ≡ Some n
+      → b'.reclaiming.waiting ≡ b.reclaiming.waiting + turn_units c.turn (places_kept n)
+
+-- an operation on names is in flight, and all that has to stand before its commit was stored
+pub record IsToCommit (b : Parts) (who : ℕ) (f : Flight) (c : NameChange) : Type 0 where
+  pub flies : Flies b who f
+  pub change_is : f.change ≡ Names c
+  pub prepared : c.prepared ≡ true
+
+-- the state of an inode that turns
+abbrev pub state_value : Turn → Option ℕ
+state_value turn.Stays = None
+state_value turn.Comes = Some 1
+state_value turn.Goes = Some 2
+
+-- the words that its commit changes: the root's tail, and the state of the inode that turns
+abbrev pub flight_changes : NameChange → List Change
+flight_changes c = record { at = inode_word 0 2; value = c.tail } ∷ state_changes (as_turn c.turn)
+    c.node
 
 -- the entry that it adds to the history
 pub record AddsEntry (who : ℕ) (op : Op) (reply : Reply) (b b' : Parts) : Type 0 where
@@ -139,12 +163,38 @@ pub record AddsEntry (who : ℕ) (op : Op) (reply : Reply) (b b' : Parts) : Type
   pub op_is : entry.op ≡ op
   pub reply_is : entry.reply ≡ reply
 
--- so the last advance of a creation answers it
-abbrev pub CreationsAnswer : (D F : Type 0) → (D → State) → Type 0
-CreationsAnswer D F state = (print : Print) (v v' : Volume D F) (d : Disk) (who : ℕ) (f : Flight)
-    (name : List ℕ) (c : NameChange) → IsVolume d v.parts (state v.device)
+-- so the last advance of an operation on names answers it
+abbrev pub NamesAnswer : (D F : Type 0) → (D → State) → Type 0
+NamesAnswer D F state = (print : Print) (v v' : Volume D F) (d : Disk) (who : ℕ) (f : Flight)
+    (c : NameChange) → IsVolume d v.parts (state v.device)
     → Agree (state v.device).now (state v.device).past
-    → IsToCreate v.parts who f name c → CommitsAll d.geometry.inodes who
-    (name_changes d (creation name c.node f.fresh.items)) (state v.device) (state v'.device)
-    → LandsCreate who f name c.node v.parts v'.parts → AddsEntry who (Create name) Done v.parts
-    v'.parts → Counts v.parts v'.parts → Answers state print who (Create name) Done v v' d
+    → IsToCommit v.parts who f c
+    → CommitsAll d.geometry.inodes who (flight_changes c) (state v.device) (state v'.device)
+    → LandsChange who f c v.parts v'.parts → AddsEntry who f.op Done v.parts v'.parts
+    → Counts v.parts v'.parts → Answers state print who f.op Done v v' d
+
+-- a fence failed while the words changed
+pub record FailsToCommit (inodes who : ℕ) (changes : List Change) (s t : State) : Type 0 where
+  pub images : LeavesOnly s t (AllOrNone inodes who changes s)
+  pub only : StoresOnly (IsTouched changes) s t
+  pub rose : Rose s.faults t.faults
+  pub faults : s.faults ≤ t.faults
+
+-- the volume is stopped; all else is what it was
+pub record Stops (b b' : Parts) : Type 0 where
+  pub stopped : b'.stopped ≡ true
+  pub geometry : b'.geometry ≡ b.geometry
+  pub flights : (k : ℕ) → flight_at b'.flights.items k ≡ flight_at b.flights.items k
+  pub sharing : b'.sharing ≡ b.sharing
+  pub history : b'.history ≡ b.history
+  pub trace : b'.trace ≡ b.trace
+
+-- so the last advance breaks off, and the operation is in flight still
+abbrev pub NamesBreak : (D F : Type 0) → (D → State) → Type 0
+NamesBreak D F state = (print : Print) (v v' : Volume D F) (d : Disk) (who : ℕ) (f : Flight)
+    (c : NameChange) → IsVolume d v.parts (state v.device)
+    → Agree (state v.device).now (state v.device).past
+    → IsToCommit v.parts who f c
+    → FailsToCommit d.geometry.inodes who (flight_changes c) (state v.device) (state v'.device)
+    → Stops v.parts v'.parts → Counts v.parts v'.parts
+    → Breaks state print who (Some f.op) v v' d

@@ -262,6 +262,6 @@ pub place_lowers : (b b' : Parts) (p : DyingPlace) (word : ℕ) → RaisesPlace 
 place_lowers b b' p word change = record {
   left_is = refl;
   less = omega (arith, change.waiting);
-  queue = ap (λ (ws : List Work). length ws) change.kept.queue;
+  queue = change.kept.queue;
   sharing = change.sharing;
 }

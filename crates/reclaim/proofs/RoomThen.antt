@@ -155,7 +155,7 @@ module _ {D F : Type 0} (state : D → State) (w w1 : Volume D F) (made : MakesR
       (λ n less. record {
         left_is = less.left_is;
         less = subst (λ (k : ℕ). w2.parts.reclaiming.waiting < k) (same_part (λ p. p.reclaiming.waiting) refl) less.less;
-        queue = less.queue ∙ same_part (λ p. length p.queue.items) refl;
+        queue = less.queue ∙ same_part (λ p. p.queue.items) refl;
         sharing = less.sharing ∙ same_part (λ p. p.sharing) refl;
       }) outcome
       (subst (λ (p : Parts). Works state print 16 (reclaim_stand p) ReclaimLowers w1 w2 d outcome) made.parts is)

@@ -56,7 +56,7 @@ some_work b some = record { some = λ rests. omega (arith, some, rests); loose =
 
 -- and less of it afterwards
 pub less_work : (b b' : Parts) → KeepsWork b b' → b'.reclaiming.waiting < b.reclaiming.waiting → ReclaimLowers b b' b'.reclaiming.waiting
-less_work b b' kept less = record { left_is = refl; less = less; queue = ap (λ (q : _). length q.items) kept.queue; sharing = kept.sharing }
+less_work b b' kept less = record { left_is = refl; less = less; queue = ap (λ (q : _). q.items) kept.queue; sharing = kept.sharing }
 
 pub done_at : (at word value : ℕ) (s u : State) → at ≡ word → IsDone 16 at value s u → IsDone 16 word value s u
 done_at at word value s u same = subst (λ (a : ℕ). IsDone 16 a value s u) same

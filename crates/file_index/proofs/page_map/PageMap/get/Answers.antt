@@ -1,16 +1,9 @@
-use Rattle.std.proofs.Common.{sym, ap, ◌∙◌, Some}
-use Rattle.std.specs.Cmp.{nat_cmp_total}
-use Rattle.std.specs.FinMap.{nat_cmp-IsAntisymmetric}
-use Rattle.file_index.proofs.Indexes.{get_at, get_in_gap}
+use Rattle.std.proofs.Common.{sym, ◌∙◌}
+use Rattle.file_index.specs.Radix.{cells}
+use Rattle.file_index.proofs.PageMaps.{get_is}
 use Rattle.file_index.proofs.page_map.PageMap.get.Goals as goal
 
-pub returns-in-Ok : goal.returns-in-Ok
-returns-in-Ok c =
-    let has = rw c.deref.ensures.value at c.in-Ok.ensures.found in
-    let found = get_at nat_cmp_total nat_cmp-IsAntisymmetric c.self.inside.entries.items c.args.idx c.in-Ok.at c.self.invariant has c.index.result.now in
-    rw (← c.self.view_is) (ap (λ e. Some e.1) c.index.ensures ∙ sym found)
-
-pub returns-in-Err : goal.returns-in-Err
-returns-in-Err c =
-    let gap = rw c.deref.ensures.value at c.in-Err.ensures.absent in
-    rw (← c.self.view_is) (sym (get_in_gap nat_cmp_total nat_cmp-IsAntisymmetric c.self.inside.entries.items c.args.idx c.in-Err.field-0 gap))
+pub returns : goal.returns
+returns c =
+    let read = rw c.deref.ensures.value at c.read_cell.ensures in
+    rw (← c.self.view_is) (read ∙ sym (get_is (cells c.self.inside.nodes.items) (cells c.self.inside.spare.items) c.args.idx c.self.invariant))

@@ -1,0 +1,8 @@
+mod Found
+pub mod RoomKept
+pub mod Loose
+pub mod Answered
+mod HoldsAll
+pub mod Members
+pub mod Started
+pub mod Opened

@@ -1,0 +1,5 @@
+pub mod Held
+pub mod Answering
+pub mod Room
+pub mod Starting
+pub mod Begun

@@ -1,0 +1,4 @@
+mod RowLists
+pub mod LiveFiles
+mod InTheWay
+mod OnlyRoom

@@ -1,0 +1,6 @@
+pub mod Pages
+pub mod Daemon
+pub mod Fronts
+pub mod Looked
+pub mod Stepped
+pub mod Remapped

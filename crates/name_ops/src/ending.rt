@@ -1,0 +1,163 @@
+// An operation on names ends, in what is kept in memory.
+ghost use Rattle.std.specs.Prelude.{◌≡◌, ◌≢◌, ◌↔◌, ◌*◌, ◌-◌, ◌+◌, ◌<◌, ◌≤◌, ℕ, List, length, Some, None, IsSome, IfSome, All, Contains, is_some, if◌then◌else◌};
+ghost use Rattle.std.specs.FinMap.{get};
+ghost use Rattle.page_alloc.specs.Free.{IsInOrder};
+ghost use Rattle.file_content.specs.Pages.{AreApart};
+ghost use Rattle.dn_volume.specs.declared.flight.NameChange.{NameChange as KeptChange};
+ghost use Rattle.dn_volume.specs.PlannedNames.{name_put};
+ghost use Rattle.dn_volume.specs.Parties.{flight_at};
+ghost use Rattle.name_ops.specs.Ending.{Gives, LetsGoOf, KeepsPlaces, IsCreate, CanLand, FinishesNames};
+ghost use Rattle.name_ops.specs.Landing.{names_after, Turned, places_in, places_kept, turn_units};
+
+use dn_model::{Entry, Op, Reply};
+use dn_volume::units::NAMES_UNITS;
+use dn_volume::{Change, Flight, InodeState, InodeUse, Parts, Turn};
+use file_index::{MOST_PLACES, NameMap, PageMap};
+use log_entry::Name;
+use page_alloc::FreeSet;
+use pm_layout::PAGE_BYTES;
+
+/// Takes out the flight of a client, who has one.
+pub fn take_flight(flights: &mut Vec<Option<Flight>>, who: u32) -> Flight
+    requires client { 1 ≤ who }
+    requires there { IsSome (flight_at flights.old.items (who - 1)) }
+    ensures was { flight_at flights.old.items (who - 1) ≡ Some result }
+    ensures clients { length flights.new.items ≡ length flights.old.items }
+    ensures landed { flight_at flights.new.items (who - 1) ≡ None }
+    ensures others { (k : ℕ) → k ≢ who - 1 → flight_at flights.new.items k ≡ flight_at
+        flights.old.items k }
+{
+    flights[who as usize - 1].take().unwrap()
+}
+
+/// Puts the flight of a client back.
+pub fn put_back(flights: &mut Vec<Option<Flight>>, who: u32, flight: Flight)
+    requires client { 1 ≤ who }
+    requires there { who - 1 < length flights.old.items }
+    ensures clients { length flights.new.items ≡ length flights.old.items }
+    ensures here { flight_at flights.new.items (who - 1) ≡ Some flight }
+    ensures others { (k : ℕ) → k ≢ who - 1 → flight_at flights.new.items k ≡ flight_at
+        flights.old.items k }
+{
+    flights[who as usize - 1] = Some(flight);
+}
+
+/// Gives back pages, which are different ones and not free.
+pub fn give_back_pages(free: &mut FreeSet, pages: &[u64])
+    requires below { (page : ℕ) → Contains pages.now page → page < free.old.pages }
+    requires taken { (page : ℕ) → Contains pages.now page → ¬ Contains free.old.free page }
+    requires apart { AreApart pages.now }
+    requires in_order { IsInOrder free.old }
+    ensures { Gives (Contains pages.now) free.old free.new }
+{
+    for i in 0..pages.len() {
+        free.give_back(pages[i]);
+    }
+}
+
+/// These inodes are held by nobody.
+pub fn let_go(inodes: &mut Vec<InodeState>, held: &[u64])
+    requires { All (λ ino. ino < length inodes.old.items) held.now }
+    ensures { LetsGoOf (Contains held.now) inodes.old.items inodes.new.items }
+{
+    for i in 0..held.len() {
+        inodes[held[i] as usize].holder = None;
+    }
+}
+
+// One where a place is mapped.
+fn place_at(map: &PageMap, idx: u64) -> u64
+    ensures { result ≡ (if is_some (get map.now.map idx) then 1 else 0) }
+{
+    match map.get(idx) {
+        Some(_) => 1,
+        None => 0,
+    }
+}
+
+// How many places of a file are mapped.
+fn count_places(map: &PageMap) -> u64
+    ensures { result ≡ places_in map.now.map }
+{
+    let mut places = 0;
+    for idx in 0..MOST_PLACES {
+        places += place_at(map, idx);
+    }
+    places
+}
+
+/// The units of reclaim's work that an inode is for once it has turned: one for a dying inode, and four for each of its
+/// places.
+pub fn units_of_turn(node: &InodeState, turn: Turn) -> u64
+    ensures { result ≡ turn_units turn (places_kept node.now) }
+{
+    match turn {
+        Turn::Stays | Turn::Comes => 0,
+        Turn::Goes => 1 + 4 * count_places(&node.map),
+    }
+}
+
+/// An inode comes to life as a file of no bytes, or is dying, or stays.
+pub fn turn_inode(node: &mut InodeState, turn: Turn)
+    requires { node.old.size ≤ 16777216 }
+    ensures turned { Turned turn node.old node.new }
+    ensures keeps { KeepsPlaces node.old node.new }
+{
+    match turn {
+        Turn::Stays => {}
+        Turn::Comes => {
+            node.used = InodeUse::Live;
+            node.size = 0;
+        }
+        Turn::Goes => {
+            node.used = InodeUse::Dying {
+                cut: node.size.div_ceil(PAGE_BYTES),
+            };
+        }
+    }
+}
+
+// The names lead where they lead after an operation.
+fn change_names(names: &mut NameMap, op: &Op, node: u64, put: Option<Name>)
+    requires kind { IsCreate op.now }
+    requires put_is { put ≡ name_put op.now }
+    requires room { 0 < names.old.room }
+    ensures names { (other : List ℕ) → get names.new.map other ≡ names_after op.now
+        (get names.old.map) node other }
+    ensures room { names.old.room ≤ names.new.room + 1 }
+{
+    match op {
+        Op::Create { .. } => {
+            if let Some(name) = put {
+                names.put(name, node);
+            }
+        }
+        _ => unreachable!(),
+    }
+}
+
+/// Ends an operation on names in what is kept in memory, but for its flight: the names and the inode that turns are those
+/// of after, what it held is let go, what it was owed is owed no more, and it enters the history.
+pub fn land_names(parts: &mut Parts, who: u32, mut flight: Flight)
+    requires can { (c : KeptChange) × CanLand flight c parts.old }
+    ensures { (c : KeptChange) → CanLand flight c parts.old
+        → FinishesNames who flight c parts.old parts.new }
+{
+    let Change::Names(change) = &mut flight.change else {
+        unreachable!()
+    };
+    let put = change.put.take();
+    let node = change.node as usize;
+    parts.reclaiming.waiting += units_of_turn(&parts.inodes[node], change.turn);
+    turn_inode(&mut parts.inodes[node], change.turn);
+    let_go(&mut parts.inodes, &flight.held);
+    give_back_pages(&mut parts.free, &flight.spare);
+    change_names(&mut parts.names, &flight.op, change.node, put);
+    parts.owed.units -= NAMES_UNITS;
+    parts.owed.history -= 1;
+    parts.history.push_reserved(Entry {
+        who,
+        op: flight.op,
+        reply: Reply::Done,
+    });
+}

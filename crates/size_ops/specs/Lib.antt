@@ -1,0 +1,4 @@
+pub mod Ending
+pub mod Planning
+pub mod Sizing
+pub mod Taking
