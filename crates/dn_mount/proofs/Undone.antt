@@ -152,6 +152,9 @@ module _ (s u : State) (long : length u.now ≡ length s.now) (d : Disk) (stood 
   pub undo_stands : u.now ≡ rolled s.now → Still u → Stands (DiskSays d) u
   undo_stands now still = still_stands d stood.valid u (long ∙ stood.size) (subst (Reads (DiskSays d)) (sym now) stood.reads) still
 
+pub same_then : (s t u : State) → IsSame s t → IsSame t u → IsSame s u
+same_then s t u first next = record { now = next.now ∙ first.now; past = next.past ∙ first.past; faults = next.faults ∙ first.faults }
+
 -- a device with the same past leaves the same images
 module _ (s t : State) (same : IsSame s t) where
   pub leaves_to_same : (P : List ℕ → Type 0) → LeavesOnly s s P → LeavesOnly s t P

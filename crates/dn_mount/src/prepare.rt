@@ -1,8 +1,8 @@
 // A device is made ready to be repaired: its head is read, and its journal is rolled back.
-ghost use Rattle.std.specs.Prelude.{◌≡◌, ◌*◌, ◌+◌, ◌≤◌, OnOk, IfOk, IfErr};
+ghost use Rattle.std.specs.Prelude.{◌≡◌, ◌*◌, ◌+◌, ◌≤◌, slice_index, OnOk, IfOk, IfErr};
 ghost use Rattle.pm_device.specs.State.{IsSame};
 ghost use Rattle.pm_device.specs.Settled.{Still, LeavesOnly};
-ghost use Rattle.pm_layout.specs.Geometry.{IsAccepted};
+ghost use Rattle.pm_layout.specs.Geometry.{IsAccepted, gate_word};
 ghost use Rattle.dn_model.specs.Disk.{Disk};
 ghost use Rattle.dn_model.specs.Image.{StandsFor};
 ghost use Rattle.dn_mount.specs.Mounted.{IsMountFault};
@@ -30,6 +30,7 @@ fn make_room<D: Pm>(device: &mut D, g: &Geometry) -> Result<(), MountFault>
 }
 
 /// Reads the head of a device and rolls its journal back. A stop at any moment leaves an image that stands for the same.
+/// Where the journal is closed, nothing is stored.
 ///
 /// # Errors
 /// `Image` where the head or the journal has a fault, and which comes first; then nothing was stored. `NoMemory` where
@@ -39,6 +40,8 @@ pub fn prepare<D: Pm>(device: &mut D) -> Result<Geometry, MountFault>
     ensures ready { IfOk result (IsPrepared (D.state device.old) (D.state device.new)) }
     ensures images { (d : Disk) → StandsFor (D.state device.old).now d
         → LeavesOnly (D.state device.old) (D.state device.new) (λ c. StandsFor c d) }
+    ensures closed { slice_index (D.state device.old).now gate_word ≡ 0
+        → IsSame (D.state device.old) (D.state device.new) }
     ensures fault { IfErr result (IsMountFault (D.state device.old) (D.state device.new)) }
     ensures faults { (D.state device.old).faults ≤ (D.state device.new).faults }
 {

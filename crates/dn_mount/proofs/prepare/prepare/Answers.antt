@@ -1,9 +1,11 @@
 use Rattle.std.proofs.Common.{rules, ◌≡◌, ◌<◌, ℕ, List, length, sym, ap, subst, ◌∙◌, arith}
+use Rattle.std.specs.Prelude.{slice_index}
 use Rattle.pm_device.proofs.Flushed.{settled_same}
+use Rattle.pm_layout.specs.Geometry.{gate_word}
 use Rattle.dn_model.specs.Image.{StandsFor}
 use Rattle.dn_model.specs.Faults.{HasGate, geometry_of}
 use Rattle.name_journal.proofs.Opened.{still_has}
-use Rattle.dn_mount.proofs.Undone.{leaves_to_same, leaves_from_same, back_from_same, fault_from_same}
+use Rattle.dn_mount.proofs.Undone.{leaves_to_same, leaves_from_same, back_from_same, fault_from_same, same_then}
 use Rattle.dn_mount.proofs.prepare.prepare.Goals as goal
 
 pub returns-in-Err-clause-images : goal.returns-in-Err-clause-images
@@ -40,3 +42,15 @@ returns-clause-ready g c =
           c.in_ok-undo.ensures.back;
       room = omega (arith, c.in_ok-make_room.ensures.room, c.undo.ensures.spare);
     }
+
+pub returns-in_err-undo-clause-closed : goal.returns-in_err-undo-clause-closed
+returns-in_err-undo-clause-closed g c =
+    let S = g.D.Pm.state in
+    λ shut. same_then (S c.args.device.now) (S c.make_room.new.device) (S c.undo.new.device) c.make_room.ensures.same
+    (c.undo.ensures.closed (subst (λ (ws : List ℕ). slice_index ws gate_word ≡ 0) (sym c.make_room.ensures.same.now) shut))
+
+pub returns-clause-closed : goal.returns-clause-closed
+returns-clause-closed g c =
+    let S = g.D.Pm.state in
+    λ shut. same_then (S c.args.device.now) (S c.make_room.new.device) (S c.undo.new.device) c.make_room.ensures.same
+    (c.undo.ensures.closed (subst (λ (ws : List ℕ). slice_index ws gate_word ≡ 0) (sym c.make_room.ensures.same.now) shut))
