@@ -5,7 +5,7 @@ use Rattle.std.proofs.lemmas.Bool.{cases_eq}
 use Rattle.std.proofs.lemmas.List.{length-map}
 use Rattle.std.proofs.lemmas.Option.{slice_get_within, slice_get-map}
 use Rattle.pm_device.specs.State.{State, Agree}
-use Rattle.pm_device.specs.Settled.{LeavesOnly, StoresOnly}
+use Rattle.pm_device.specs.Settled.{Still, LeavesOnly, StoresOnly}
 use Rattle.pm_device.proofs.Only.{stores_only-none, stores_only-then}
 use Rattle.pm_layout.specs.declared.Geometry.{Geometry}
 use Rattle.dn_model.specs.Table.{Row}
@@ -55,6 +55,7 @@ pub record IsPartSettled (found : List RowValue) (mapped : List ℕ) (i : ℕ) (
   pub spare : s0.spare ≤ s.spare + 9 * i
   pub faults : s0.faults ≤ s.faults
   pub only : StoresOnly (IsTableWord t0.geometry) s0 s
+  pub still : Still s0 → Still s
   pub front : (d : Disk) → IsTableToSettle d t0 found mapped s0 → IsFront d i t s0 s
 
 geometry_same : (d e : Disk) → IsSameBut d e → e.geometry ≡ d.geometry
@@ -65,6 +66,7 @@ front_begins found mapped t s agree = record {
   spare = omega arith;
   faults = omega arith;
   only = stores_only-none _ s agree;
+  still = λ still. still;
   front = λ d is. record {
     disk = d;
     settles = settles_same d;

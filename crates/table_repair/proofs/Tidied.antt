@@ -2,7 +2,7 @@
 use Rattle.std.proofs.Common.{◌≡◌, ◌≢◌, ◌⊎◌, inl, inr, ⊎_elim, ℕ, ◌+◌, ◌<◌, ◌≤◌, List, refl, sym, ◌∙◌, ap, subst, arith}
 use Rattle.std.specs.Prelude.{Contains}
 use Rattle.pm_device.specs.State.{State, Agree}
-use Rattle.pm_device.specs.Settled.{LeavesOnly, StoresOnly}
+use Rattle.pm_device.specs.Settled.{Still, LeavesOnly, StoresOnly}
 use Rattle.pm_device.proofs.Moments.{leaves_only-weaken}
 use Rattle.pm_device.proofs.Only.{stores_only-then}
 use Rattle.pm_layout.specs.declared.Geometry.{Geometry}
@@ -27,6 +27,7 @@ use Rattle.law_table_calls.proofs.Disks.{call_images, call_made}
 use Rattle.table_repair.specs.Settling.{SettlesFrom, HasSettling, StandsWith, CountsAreSettled, TableIsSettled}
 use Rattle.table_repair.proofs.Later.{leaves_then}
 use Rattle.table_repair.proofs.Changes.{settles_then, settles_rows, same_mappings}
+use Rattle.table_repair.proofs.Stills.{tidy_still}
 
 -- the words tell which pointers are stale, where two disks that they hold have the same rows
 stale_same : (d e : Disk) (words : List ℕ) (t : Table) → IsTable d words t → IsTable e words t → rows e ≡ rows d → (page : ℕ) → IsStale d page
@@ -99,3 +100,6 @@ module _ (d : Disk) (t : Table) (s : State) (counts : CountsAreSettled d t s) (u
       none_stale = λ page stale. tidied.none_stale page (stale_same made.disk tidied.disk u.now t made.table tidied.table
           (tidied.clears.rows_same ∙ sym made.are) page stale);
     }
+
+    pub tidy_keeps_still : Still s → Still u
+    tidy_keeps_still = tidy_still e made.disk (ap (λ (x : Disk). x.geometry) made.same) s u (stores e is.table) made.stands

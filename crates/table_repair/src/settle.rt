@@ -1,7 +1,7 @@
 // A table is settled.
 ghost use Rattle.std.specs.Prelude.{◌≡◌, ◌+◌, ◌*◌, ◌<◌, ◌≤◌, length, All, OnOk, IsErr};
 ghost use Rattle.pm_device.specs.State.{Rose};
-ghost use Rattle.pm_device.specs.Settled.{StoresOnly};
+ghost use Rattle.pm_device.specs.Settled.{Still, StoresOnly};
 ghost use Rattle.law_table.specs.Words.{IsTableWord};
 ghost use Rattle.fact_scan.specs.Seen.{as_row};
 ghost use Rattle.fact_scan.specs.declared.row.Row.{Row as RowValue};
@@ -35,6 +35,7 @@ fn count_row<D: Pm>(
         (D.state device.new)) }
     ensures only { StoresOnly (IsTableWord fact.now.geometry) (D.state device.old)
         (D.state device.new) }
+    ensures still { OnOk result (Still (D.state device.old) → Still (D.state device.new)) }
     ensures spare { (D.state device.old).spare ≤ (D.state device.new).spare + 3 }
     ensures faults { (D.state device.old).faults ≤ (D.state device.new).faults }
     ensures failed { IsErr result → Rose (D.state device.old).faults (D.state device.new).faults }
@@ -62,6 +63,7 @@ fn drop_row<D: Pm>(
         mappings (D.state device.old) (D.state device.new)) }
     ensures only { StoresOnly (IsTableWord fact.old.geometry) (D.state device.old)
         (D.state device.new) }
+    ensures still { OnOk result (Still (D.state device.old) → Still (D.state device.new)) }
     ensures spare { (D.state device.old).spare ≤ (D.state device.new).spare + 6 }
     ensures faults { (D.state device.old).faults ≤ (D.state device.new).faults }
     ensures failed { IsErr result → Rose (D.state device.old).faults (D.state device.new).faults }
@@ -88,6 +90,7 @@ fn settle_row<D: Pm>(
         (D.state device.old) (D.state device.new)) }
     ensures only { StoresOnly (IsTableWord fact.old.geometry) (D.state device.old)
         (D.state device.new) }
+    ensures still { OnOk result (Still (D.state device.old) → Still (D.state device.new)) }
     ensures spare { (D.state device.old).spare ≤ (D.state device.new).spare + ROW_UNITS }
     ensures faults { (D.state device.old).faults ≤ (D.state device.new).faults }
     ensures failed { IsErr result → Rose (D.state device.old).faults (D.state device.new).faults }
@@ -113,6 +116,7 @@ fn settle_rows<D: Pm>(
         (D.state device.old) (D.state device.new)) }
     ensures only { StoresOnly (IsTableWord fact.old.geometry) (D.state device.old)
         (D.state device.new) }
+    ensures still { OnOk result (Still (D.state device.old) → Still (D.state device.new)) }
     ensures spare { (D.state device.old).spare ≤ (D.state device.new).spare + ROW_UNITS * length
         rows.now }
     ensures faults { (D.state device.old).faults ≤ (D.state device.new).faults }
@@ -150,6 +154,7 @@ pub fn settle_table<D: Pm>(
         (D.state device.old) (D.state device.new)) }
     ensures only { StoresOnly (IsTableWord fact.old.geometry) (D.state device.old)
         (D.state device.new) }
+    ensures still { OnOk result (Still (D.state device.old) → Still (D.state device.new)) }
     ensures spare { (D.state device.old).spare ≤ (D.state device.new).spare + ROW_UNITS * length
         rows.now + PAGE_UNITS * fact.old.geometry.pages }
     ensures faults { (D.state device.old).faults ≤ (D.state device.new).faults }

@@ -50,6 +50,7 @@ loop-row-preserved g c =
           (S c.loop-row.device) c.loop-row.invariant
           (get_or c.args.rows.now c.loop-row.row-index none) (get_at c.args.rows.now c.loop-row.row-index none (omega arith)) c.requires.table
           (S c.settle_row.new.device) c.settle_row.ensures.only;
+      still = λ still. c.in_ok-settle_row.ensures.still (c.loop-row.invariant.still still);
       front = λ d is. next_front c.args.rows.now c.args.mapped.now c.loop-row.row-index c.args.fact.now c.loop-row.fact (S c.args.device.now)
           (S c.loop-row.device) c.loop-row.invariant
           (get_or c.args.rows.now c.loop-row.row-index none) (get_at c.args.rows.now c.loop-row.row-index none (omega arith)) d is
