@@ -44,3 +44,9 @@ pub returns-clause-still : goal.returns-clause-still
 returns-clause-still g c =
     let S = g.D.Pm.state in
     on_ok_map c.recount.result _ _ (settles_still c.args.who (S c.args.device.now) (S c.recount.new.device)) c.recount.ensures.settles
+
+pub returns-then-row-eq0-clause-quiet : goal.returns-then-row-eq0-clause-quiet
+returns-then-row-eq0-clause-quiet g c = λ still. stores_only-none _ (g.D.Pm.state c.args.device.now) (g.met.D.Pm.agree c.args.device.now)
+
+pub returns-clause-quiet : goal.returns-clause-quiet
+returns-clause-quiet g c = λ still. absurd (c.if-row-eq0.false still)

@@ -1,4 +1,4 @@
-use Rattle.std.proofs.Common.{refl, sym, ◌∙◌, arith}
+use Rattle.std.proofs.Common.{refl, arith}
 use Rattle.pm_device.proofs.Only.{stores_only-none}
 use Rattle.fact_scan.specs.Seen.{as_row}
 use Rattle.fact_calls.proofs.Called.{both_done}
@@ -51,3 +51,9 @@ pub returns-clause-still : goal.returns-clause-still
 returns-clause-still g c =
     let S = g.D.Pm.state in
     on_ok_map c.remove_zero.result _ _ (settles_still c.args.who (S c.args.device.now) (S c.remove_zero.new.device)) c.remove_zero.ensures.settles
+
+pub returns-then-mappings-ne0-clause-quiet : goal.returns-then-mappings-ne0-clause-quiet
+returns-then-mappings-ne0-clause-quiet g c = λ some. stores_only-none _ (g.D.Pm.state c.args.device.now) (g.met.D.Pm.agree c.args.device.now)
+
+pub returns-clause-quiet : goal.returns-clause-quiet
+returns-clause-quiet g c = λ some. absurd (some (omega arith))
