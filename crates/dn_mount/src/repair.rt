@@ -4,9 +4,11 @@ ghost use Rattle.pm_device.specs.Settled.{Still};
 ghost use Rattle.pm_layout.specs.Geometry.{IsAccepted};
 ghost use Rattle.dn_model.specs.Disk.{Disk};
 ghost use Rattle.dn_model.specs.Image.{StandsFor, HasNoFault};
+ghost use Rattle.dn_model.specs.Counts.{Exact};
+ghost use Rattle.dn_volume.specs.Agrees.{HasNoStale};
 ghost use Rattle.dn_check.specs.Passing.{IsWhole};
 ghost use Rattle.image_keep.specs.Keeping.{AreKeptTo};
-ghost use Rattle.dn_mount.specs.Mounted.{IsMountFault, IsRepaired, LeavesRepairs};
+ghost use Rattle.dn_mount.specs.Mounted.{IsMountFault, IsRepaired, LeavesRepairs, IsClean, StoresNothing};
 ghost use Rattle.dn_mount.specs.Reading.{IsReadyOf, HasReady, IsSettleFault};
 
 use crate::fault::MountFault;
@@ -64,6 +66,8 @@ fn settle_read<D: Pm>(
         → LeavesRepairs d (D.state device.old) (D.state device.new) }
     ensures done { IfOk result (λ scan. (d : Disk) → IsReadyOf d g.now (D.state device.old) read
         → IsRepaired d scan (D.state device.new)) }
+    ensures quiet { (d : Disk) → IsReadyOf d g.now (D.state device.old) read → Exact d
+        → HasNoStale d → StoresNothing (D.state device.old) (D.state device.new) }
     ensures fault { IfErr result (IsSettleFault (D.state device.old) (D.state device.new)) }
     ensures faults { (D.state device.old).faults ≤ (D.state device.new).faults }
 {
@@ -79,7 +83,8 @@ fn settle_read<D: Pm>(
 /// under way to the mappings of its page, removes the rows without mappings, and clears stale pointers. A count word of
 /// a row with references and no update under way isn't stored to.
 ///
-/// A stop at any moment leaves an image without a fault that has the same files, if the words had no fault.
+/// A stop at any moment leaves an image without a fault that has the same files, if the words had no fault. Where the
+/// journal is closed, all counts are exact and no pointer is stale, nothing is stored.
 ///
 /// # Errors
 /// `Image` exactly where the words have a fault by the twelve rules, and which comes first. `NoMemory` where memory runs
@@ -91,6 +96,9 @@ pub fn repair<D: Pm>(alloc: Global, device: &mut D) -> Result<Scan, MountFault>
         → IsRepaired d scan (D.state device.new)) }
     ensures images { (d : Disk) → StandsFor (D.state device.old).now d
         → LeavesRepairs d (D.state device.old) (D.state device.new) }
+    ensures quiet { (d : Disk) → StandsFor (D.state device.old).now d
+        → IsClean d (D.state device.old).now
+        → StoresNothing (D.state device.old) (D.state device.new) }
     ensures fault { IfErr result (IsMountFault (D.state device.old) (D.state device.new)) }
     ensures faults { (D.state device.old).faults ≤ (D.state device.new).faults }
 {

@@ -1,5 +1,7 @@
 use Rattle.std.proofs.Common.{◌≡◌, ◌<◌, ℕ, List, length, map, refl, sym, ap, subst, ◌∙◌, arith}
 use Rattle.std.specs.Prelude.{All}
+use Rattle.pm_device.specs.Settled.{Nowhere}
+use Rattle.pm_device.proofs.Only.{stores_only-none}
 use Rattle.pm_layout.specs.Geometry.{slots}
 use Rattle.pm_layout.specs.declared.Geometry.{Geometry}
 use Rattle.dn_model.specs.Disk.{Disk}
@@ -98,3 +100,35 @@ returns-clause-done g c =
       scan_is = is_scan d c.args.g.now s c.args.read is c.requires.kept c.in_ok-free.free free c.settle_table.new.fact (S c.settle_table.new.device)
           c.settle_table.ensures.only.words (c.in_ok-settle_table.ensures.still is.still) settled;
     })
+
+pub returns-in_err-fact-clause-quiet : goal.returns-in_err-fact-clause-quiet
+returns-in_err-fact-clause-quiet g c = λ d is exact none. stores_only-none Nowhere (g.D.Pm.state c.args.device.now) (g.met.D.Pm.agree c.args.device.now)
+
+pub returns-in_err-free-clause-quiet : goal.returns-in_err-free-clause-quiet
+returns-in_err-free-clause-quiet g c = λ d is exact none. stores_only-none Nowhere (g.D.Pm.state c.args.device.now) (g.met.D.Pm.agree c.args.device.now)
+
+pub returns-in_err-settle_table-clause-quiet : goal.returns-in_err-settle_table-clause-quiet
+returns-in_err-settle_table-clause-quiet g c =
+    let S = g.D.Pm.state in
+    let s = S c.args.device.now in
+    λ d is exact none.
+    let table : IsTable d s.now c.in_ok-fact.fact = c.in_ok-fact.ensures.table d s.now
+    (subst (λ (rs : List RowValue). HasRowsOf d c.args.g.now s.now (map as_row rs)) (sym c.deref.ensures.value) (rows_of d c.args.g.now s c.args.read is)) in
+    c.settle_table.ensures.quiet d
+    (subst (λ (rs : List RowValue). IsTableToSettle d c.in_ok-fact.fact rs c.deref-5.result.now s) (sym c.deref-4.ensures.value)
+    (subst (λ (ns : List ℕ). IsTableToSettle d c.in_ok-fact.fact c.args.read.image.table.rows.items ns s) (sym c.deref-5.ensures.value)
+    (to_settle d c.args.g.now s c.args.read is c.in_ok-fact.fact table)))
+    exact (λ page stale. none.none page stale.in_image stale.some stale.no_row)
+
+pub returns-clause-quiet : goal.returns-clause-quiet
+returns-clause-quiet g c =
+    let S = g.D.Pm.state in
+    let s = S c.args.device.now in
+    λ d is exact none.
+    let table : IsTable d s.now c.in_ok-fact.fact = c.in_ok-fact.ensures.table d s.now
+    (subst (λ (rs : List RowValue). HasRowsOf d c.args.g.now s.now (map as_row rs)) (sym c.deref.ensures.value) (rows_of d c.args.g.now s c.args.read is)) in
+    c.settle_table.ensures.quiet d
+    (subst (λ (rs : List RowValue). IsTableToSettle d c.in_ok-fact.fact rs c.deref-5.result.now s) (sym c.deref-4.ensures.value)
+    (subst (λ (ns : List ℕ). IsTableToSettle d c.in_ok-fact.fact c.args.read.image.table.rows.items ns s) (sym c.deref-5.ensures.value)
+    (to_settle d c.args.g.now s c.args.read is c.in_ok-fact.fact table)))
+    exact (λ page stale. none.none page stale.in_image stale.some stale.no_row)
