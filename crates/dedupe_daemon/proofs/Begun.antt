@@ -120,13 +120,15 @@ module _ (d : Disk) (b : Parts) (s : State) (v : IsVolume d b s) (sharing : Shar
         absurd (ne (sym same ∙ ap (λ (y : Sharing). y.work.ino) (one_item b'.sharing x sharing is change.begun)))
 
     holds_it : (who : ℕ) → Holds b' who ino → who ≡ 15
-    holds_it who (by_client f flies held) = absurd (nobody_holds who (by_client f (flies_before b b' (flights_same b b' change.kept) who f flies) held))
+    holds_it who (by_client f flies held) = absurd (nobody_holds who (by_client f (flies_before b b' (flights_same b b' change.kept) who f flies)
+        held))
     holds_it who (by_daemon x him is same) = him
 
     told_after : (i who : ℕ) (n : InodeState) → slice_get b'.inodes.items i ≡ Some n → (n.holder ≡ Some who) ↔ Holds b' who i
     told_after i who n at = elim (cases_eq i ino) [
       | inl same ↦
-          let was = was_held (Some 15) ino b.inodes.items b'.inodes.items change.inodes ino_inside n (ap (slice_get b'.inodes.items) (sym same) ∙ at) in (
+          let was = was_held (Some 15) ino b.inodes.items b'.inodes.items change.inodes ino_inside n (ap (slice_get b'.inodes.items) (sym same) ∙ at)
+          in (
             (λ holder. by_daemon sharing (one_who n.holder who 15 holder was.2.holder_is) change.begun (sym same)),
             (λ holds. was.2.holder_is ∙ ap Some (sym (holds_it who (subst (Holds b' who) same holds)))),
           )

@@ -68,7 +68,8 @@ module _ {D F : Type 0} (state : D → State) (w : Volume D F) (sharing : Sharin
         let is = (v.sharing sharing begun).begun in
         tag_shown d sharing.work.ino (log d w.parts (state w.device) v sharing begun look all_done) (flag_word sharing.work.slot) 3
         (flagged sharing.work.slot Complete)
-        (end_retags d w.parts (state w.device) v sharing begun look all_done) (state w.device) (state w'.device) w.parts.geometry v.fast sets.only print
+        (end_retags d w.parts (state w.device) v sharing begun look all_done) (state w.device) (state w'.device) w.parts.geometry v.fast sets.only
+        print
         (end_own d w.parts (state w.device) v sharing begun look all_done print)
         (λ own. alone_kept d sharing.work.ino (log d w.parts (state w.device) v sharing begun look all_done) (flag_word sharing.work.slot) 3
         (flagged sharing.work.slot Complete) (end_retags d w.parts (state w.device) v sharing begun look all_done)

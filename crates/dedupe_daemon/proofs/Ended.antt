@@ -44,7 +44,8 @@ use Rattle.dedupe_daemon.proofs.PassEnds.{begun_write}
 no_holder : (h : Option ℕ) (who : ℕ) → h ≡ None → h ≡ Some who → ⊥
 no_holder h who none some = cc
 
-module _ (d : Disk) (b : Parts) (s : State) (v : IsVolume d b s) (sharing : Sharing) (begun_is : b.sharing ≡ Some sharing) (look : sharing.step ≡ Look)
+module _ (d : Disk) (b : Parts) (s : State) (v : IsVolume d b s) (sharing : Sharing) (begun_is : b.sharing ≡ Some sharing) (look : sharing.step ≡
+    Look)
     (all_done : sharing.count ≤ sharing.done) where
   abbrev pub begun : IsBegun d sharing
   begun = (v.sharing sharing begun_is).begun
@@ -56,7 +57,8 @@ module _ (d : Disk) (b : Parts) (s : State) (v : IsVolume d b s) (sharing : Shar
   slot = sharing.work.slot
 
   abbrev pub log : Log
-  log = flag_log d v.fast.valid ino slot sharing.first sharing.count begun.block begun.size InProcess begun.mask (begun_write d sharing begun) Complete
+  log = flag_log d v.fast.valid ino slot sharing.first sharing.count begun.block begun.size InProcess begun.mask (begun_write d sharing begun)
+      Complete
 
   abbrev e : Disk
   e = relogged d ino log

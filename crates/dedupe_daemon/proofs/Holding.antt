@@ -44,7 +44,8 @@ module _ (holder : Option ℕ) (ino : ℕ) (old new : List InodeState) (change :
   ]
 
   -- and so does the room of each index
-  pub room_on : (b : Parts) (s : State) → HasRoom b s → b.inodes.items ≡ old → (who : ℕ) (f : Flight) (c : DataChange) (y : InodeState) → Flies b who f
+  pub room_on : (b : Parts) (s : State) → HasRoom b s → b.inodes.items ≡ old → (who : ℕ) (f : Flight) (c : DataChange) (y : InodeState) → Flies b who
+      f
       → f.change ≡ Data c → slice_get new f.ino ≡ Some y → length c.blocks.items ≤ y.map.room
   room_on b s room same who f c y flies is at = elim (cases_eq f.ino ino) [
     | inl here ↦

@@ -17,7 +17,18 @@ use Rattle.dn_model.proofs.Append.{log_word_in_data}
 use Rattle.inode_log.specs.Reflags.{Reflags}
 use Rattle.law_log_swap.proofs.Relogged.{maps_before}
 use Rattle.dn_volume.specs.Agrees.{StandsFast}
-use Rattle.dedupe_daemon.proofs.Items.{StandsAt, stands_at, front_within, item_slot, same_item, item_word, write_words, mapped_by_item, in_middle, placed_middle}
+use Rattle.dedupe_daemon.proofs.Items.{
+  StandsAt,
+  stands_at,
+  front_within,
+  item_slot,
+  same_item,
+  item_word,
+  write_words,
+  mapped_by_item,
+  in_middle,
+  placed_middle,
+}
 
 -- a Write stands at a slot of a live inode's log
 pub record HasWrite (d : Disk) (ino slot first n block size : ℕ) (flag : Flag) (mask : ℕ) : Type 0 where

@@ -55,7 +55,8 @@ module _ {D F : Type 0} (state : D → State) (w : Volume D F) (sharing : Sharin
 
       shown : DaemonShown print d after (state w.device) (state w'.device)
       shown = tag_shown d sharing.work.ino (log d w.parts (state w.device) v sharing looking) (mask_word sharing.work.slot) mask
-          (masked sharing.work.slot mask) (retags d w.parts (state w.device) v sharing looking) (state w.device) (state w'.device) w.parts.geometry v.fast
+          (masked sharing.work.slot mask) (retags d w.parts (state w.device) v sharing looking) (state w.device) (state w'.device) w.parts.geometry
+          v.fast
           sets_mask.only print (own_then d w.parts (state w.device) v sharing looking print)
           (mask_accounts d w.parts (state w.device) v sharing looking print page to) agree sets_mask.faults sets_mask.any_moment
 

@@ -36,7 +36,18 @@ use Rattle.dedupe_daemon.proofs.Bits.{bit_set, bits_kept, bits_only, bits_below}
 use Rattle.dedupe_daemon.proofs.DaemonEvent.{DaemonEvent, others_kept}
 use Rattle.dedupe_daemon.proofs.Holding.{held_once}
 use Rattle.dedupe_daemon.proofs.ItemAt.{IsOfItem, item_spelled, places_of, placed_change, word_is}
-use Rattle.dedupe_daemon.proofs.RelogDisk.{IsRetagged, some_of, bytes_still, disk_kept, it_lives, only_it, place_was, inodes_kept, tag_leaves, tag_fast}
+use Rattle.dedupe_daemon.proofs.RelogDisk.{
+  IsRetagged,
+  some_of,
+  bytes_still,
+  disk_kept,
+  it_lives,
+  only_it,
+  place_was,
+  inodes_kept,
+  tag_leaves,
+  tag_fast,
+}
 use Rattle.dedupe_daemon.proofs.FlagDisk.{mask_log, may_mask, mask_retags, mask_bits, mask_here, mask_there}
 use Rattle.dedupe_daemon.proofs.Passed.{nodes_same, holds_on, holds_back, waits_on, pass_room, raises_none, adds_none, sharing_next}
 use Rattle.dedupe_daemon.proofs.PassEnds.{begun_write}
@@ -66,7 +77,8 @@ module _ (d : Disk) (b : Parts) (s : State) (v : IsVolume d b s) (sharing : Shar
       b.geometry s v.fast 6 (omega arith)
 
   abbrev pub log : Log
-  log = mask_log d v.fast.valid ino slot sharing.first sharing.count begun.block begun.size InProcess begun.mask (begun_write d sharing begun) new_mask
+  log = mask_log d v.fast.valid ino slot sharing.first sharing.count begun.block begun.size InProcess begun.mask (begun_write d sharing begun)
+      new_mask
 
   abbrev e : Disk
   e = relogged d ino log
@@ -155,7 +167,8 @@ module _ (d : Disk) (b : Parts) (s : State) (v : IsVolume d b s) (sharing : Shar
             row = to.row;
             there = to.there;
             other = λ equal. to.other (equal ∙ bytes);
-            same = sym (All-contains (λ (r : Row). r.print ≡ print (page_bytes d r.page)) (rows d) to.row own.prints to.there) ∙ to.print_is ∙ ap print
+            same = sym (All-contains (λ (r : Row). r.print ≡ print (page_bytes d r.page)) (rows d) to.row own.prints to.there) ∙ to.print_is ∙ ap
+                print
                 (sym bytes);
           }))
           (λ old. inl (record {
@@ -169,7 +182,8 @@ module _ (d : Disk) (b : Parts) (s : State) (v : IsVolume d b s) (sharing : Shar
           mapped : maps d ino idx ≡ Some n
           mapped = ap (λ (j : ℕ). maps d j idx) (sym here) ∙ was.maps
 
-          one_mapping : (x y : Mapping) → maps d ino (sharing.first + sharing.done) ≡ Some x → maps d ino (sharing.first + sharing.done) ≡ Some y → x ≡ y
+          one_mapping : (x y : Mapping) → maps d ino (sharing.first + sharing.done) ≡ Some x → maps d ino (sharing.first + sharing.done) ≡ Some y → x
+              ≡ y
           one_mapping x y there now = cc
 
   pub mask_accounts : (print : Print) (page : ℕ) → IsToMask print d sharing page → IsOwn print d → AccountsFor print d e
@@ -243,12 +257,14 @@ module _ (d : Disk) (b : Parts) (s : State) (v : IsVolume d b s) (sharing : Shar
             (subst (λ (ns : List InodeState). AreInodesOf d ns) (sym (nodes_same b sharing looking b' change)) v.inodes);
         holders = record {
           told = λ i who n at.
-              let was = v.holders.told i who n (ap (λ (ns : List InodeState). slice_get ns i) (sym (nodes_same b sharing looking b' change)) ∙ at) in (
+              let was = v.holders.told i who n (ap (λ (ns : List InodeState). slice_get ns i) (sym (nodes_same b sharing looking b'
+              change)) ∙ at) in (
                 (λ holder. holds_on b sharing looking b' change who i (was.0 holder)),
                 (λ holds. was.1 (holds_back b sharing looking b' change who i
                     holds)),
               );
-          in_table = λ i who holds. subst (λ g. i < g.inodes) (sym retags.one.geometry) (v.holders.in_table i who (holds_back b sharing looking b' change
+          in_table = λ i who holds. subst (λ g. i < g.inodes) (sym retags.one.geometry) (v.holders.in_table i who (holds_back b sharing looking b'
+              change
               who i holds));
         };
         queue = record {

@@ -48,7 +48,8 @@ module _ {D F : Type 0} (state : D → State) (w : Volume D F) (agrees : Agrees 
   pub read_inside : 512 * page + 512 ≤ length (state w.device).now
   read_inside = page_inside found.0 w.parts (state w.device) found.1 page (read found.0 found.1)
 
-  pub read_bytes : (bytes : List ℕ) → IsPageOf (state w.device).now page bytes → (d : Disk) → IsVolume d w.parts (state w.device) → bytes ≡ page_bytes d
+  pub read_bytes : (bytes : List ℕ) → IsPageOf (state w.device).now page bytes → (d : Disk) → IsVolume d w.parts (state w.device) → bytes ≡
+      page_bytes d
       page
   read_bytes bytes is d v = page_read d w.parts (state w.device) v page (read d v) bytes is
 

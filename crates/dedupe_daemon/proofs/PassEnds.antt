@@ -21,7 +21,8 @@ use Rattle.dedupe_daemon.proofs.QuietEvent.{shown_same}
 use Rattle.dedupe_daemon.proofs.Passed.{pass_event, place_owed, changes_owed}
 
 -- the begun item stands in its log
-pub begun_write : (d : Disk) (sharing : Sharing) (begun : IsBegun d sharing) → HasWrite d sharing.work.ino sharing.work.slot sharing.first sharing.count
+pub begun_write : (d : Disk) (sharing : Sharing) (begun : IsBegun d sharing) → HasWrite d sharing.work.ino sharing.work.slot sharing.first
+    sharing.count
     begun.block begun.size InProcess begun.mask
 begun_write d sharing begun = record { in_table = begun.in_table; live = begun.live; item = begun.item }
 

@@ -74,7 +74,8 @@ module _ (b : Parts) (sharing : Sharing) (looking : IsLooking b sharing) where
     pub holds_back : (who ino : ℕ) → Holds b' who ino → Holds b who ino
     holds_back who ino (by_client f flies has) = by_client f (flies_before b b' (flights_same b b' change.kept) who f flies) has
     holds_back who ino (by_daemon item him is same) =
-        by_daemon sharing him looking.begun (ap (λ (x : Sharing). x.work.ino) (one_item b'.sharing (after_place sharing) item change.passed is) ∙ same)
+        by_daemon sharing him looking.begun (ap (λ (x : Sharing). x.work.ino) (one_item b'.sharing (after_place sharing) item change.passed is) ∙
+        same)
 
     pub waits_on : (ino slot : ℕ) → IsWaiting b ino slot → IsWaiting b' ino slot
     waits_on ino slot (in_queue work n has of_ino of_slot at round) =
@@ -82,7 +83,8 @@ module _ (b : Parts) (sharing : Sharing) (looking : IsLooking b sharing) where
         (ap (λ (ns : List InodeState). slice_get ns ino) nodes_same ∙ at) round
     waits_on ino slot (is_begun item is of_ino of_slot) =
         let same = one_item b.sharing sharing item looking.begun is in
-        is_begun (after_place sharing) change.passed (ap (λ (x : Sharing). x.work.ino) same ∙ of_ino) (ap (λ (x : Sharing). x.work.slot) same ∙ of_slot)
+        is_begun (after_place sharing) change.passed (ap (λ (x : Sharing). x.work.ino) same ∙ of_ino) (ap (λ (x : Sharing). x.work.slot) same ∙
+        of_slot)
 
     pub pass_room : (s u : State) → HasRoom b s → b'.owed.units ≤ u.spare → HasRoom b' u
     pass_room s u room spare = room_kept b b' s u change.kept (record {
@@ -163,7 +165,8 @@ module _ (d : Disk) (b b' : Parts) (s : State) (v : IsVolume d b s) (sharing : S
     inodes_are = subst (λ (ns : List InodeState). AreInodesOf d ns) (sym (nodes_same b sharing looking b' change)) v.inodes;
     holders = record {
       told = λ ino who n at.
-          let was = v.holders.told ino who n (ap (λ (ns : List InodeState). slice_get ns ino) (sym (nodes_same b sharing looking b' change)) ∙ at) in (
+          let was = v.holders.told ino who n (ap (λ (ns : List InodeState). slice_get ns ino) (sym (nodes_same b sharing looking b'
+          change)) ∙ at) in (
             (λ holder. holds_on b sharing looking b' change who ino (was.0 holder)),
             (λ holds. was.1 (holds_back b sharing looking b' change who ino
                 holds)),

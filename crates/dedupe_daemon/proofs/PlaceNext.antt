@@ -95,9 +95,11 @@ module _ (d : Disk) (b : Parts) (s : State) (v : IsVolume d b s) (sharing : Shar
   pub item_small : (sharing.work.slot < 2 ^ 32) × (sharing.done < 64) × (sharing.first + sharing.done < 2 ^ 64) × (8 * sharing.work.slot + 8 ≤ length
       s.now)
   item_small =
-      let spelled = item_spelled d v.fast.valid sharing.work.ino sharing.work.slot sharing.first sharing.count begun.block begun.size InProcess begun.mask
+      let spelled = item_spelled d v.fast.valid sharing.work.ino sharing.work.slot sharing.first sharing.count begun.block begun.size InProcess
+      begun.mask
       (begun_write d sharing begun) in
-      let page = slot_in_data d v.fast.valid sharing.work.ino sharing.work.slot sharing.first sharing.count begun.block begun.size InProcess begun.mask
+      let page = slot_in_data d v.fast.valid sharing.work.ino sharing.work.slot sharing.first sharing.count begun.block begun.size InProcess
+      begun.mask
       (begun_write d sharing begun) in (
         omega (arith, page.high, v.fast.valid.accepted.few_pages),
         omega (arith, spelled.1, looking.some),

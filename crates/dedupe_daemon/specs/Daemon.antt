@@ -66,6 +66,7 @@ pub record EndsItem (ino : ℕ) (b b' : Parts) : Type 0 where
 abbrev pub after_place : Sharing → Sharing
 after_place sharing = record sharing { done = sharing.done + 1; step = Look }
 
+-- the place that was looked at is done
 pub record PassesPlace (sharing : Sharing) (b b' : Parts) : Type 0 where
   pub kept : KeepsAll b b'
   pub inodes : b'.inodes ≡ b.inodes

@@ -71,8 +71,8 @@ fn look<D: Pm, F: Fingerprint>(v: &mut Volume<D, F>, sharing: Sharing) -> Outcom
 /// raised row; or the row is settled; and an item without a place left is flagged complete.
 ///
 /// `Running` tells the events that are left of the item, `Idle` that no item waits, `Busy` that another actor holds the
-/// inode of the front item. `NoMemory` comes only where nothing is begun, and nothing was changed then. `Stopped` where a
-/// fence of the device failed.
+/// inode of the front item. `NoMemory` comes only where nothing is begun, and nothing was changed then. `Stopped` where
+/// a fence of the device failed.
 pub fn daemon<D: Pm, F: Fingerprint>(v: &mut Volume<D, F>) -> Outcome
     requires agrees { Agrees D.state v.old }
     requires running { v.old.parts.stopped ≡ false }

@@ -1,8 +1,34 @@
 -- A rollback leaves images that stand for what the words stood for.
 use Rattle.std.proofs.Common.{◌≡◌, ◌⊎◌, inl, inr, ⊎_elim, ℕ, ◌+◌, ◌*◌, ◌/◌, ◌%◌, ◌<◌, ◌≤◌, List, length, sym, ◌∙◌, ap, subst, arith}
-use Rattle.std.specs.Prelude.{slice_index}
-use Rattle.pm_device.specs.State.{State, Agree}
-use Rattle.pm_device.specs.Settled.{Still, LeavesOnly}
+use Rattle.std.specs.Prelude.{slice_index, Option}
+use Rattle.pm_device.specs.Past.{Past, Left, moment}
+use Rattle.pm_device.specs.State.{State, Agree, IsSame, Rose}
+use Rattle.pm_device.specs.Settled.{Still, Extends, LeavesOnly, StoresOnly}
+use Rattle.pm_device.proofs.Only.{stores_only-then, stores_only-same}
+use Rattle.dn_model.specs.Faults.{
+  HasGeometry,
+  HasGate,
+  HasLinks,
+  FaultOf,
+  not_an_image,
+  wrong_version,
+  bad_geometry,
+  bad_journal,
+  bad_inode,
+  bad_log,
+  bad_link,
+  bad_table,
+  bad_pointer,
+  double_mapped,
+  bad_count,
+  crowded,
+}
+use Rattle.dn_model.specs.declared.fault.ImageFault.{ImageFault}
+use Rattle.law_image_read.proofs.ImageRead.{read_to_links}
+use Rattle.image_head.specs.Heads.{IsHeadFault}
+use Rattle.dn_mount.specs.declared.fault.MountFault.{MountFault}
+use Rattle.dn_mount.specs.declared.fault.MountFault.TheVariants.{Image, NoMemory, Failed}
+use Rattle.dn_mount.specs.Mounted.{RollsBack, IsMountFault}
 use Rattle.pm_device.specs.Reading.{Reads, Stands}
 use Rattle.pm_layout.specs.declared.Geometry.{Geometry}
 use Rattle.pm_layout.specs.Geometry.{InData, inode_word, gate_word}
@@ -110,7 +136,7 @@ module _ (inodes : ℕ) (w c : List ℕ) (gate : IsGate inodes w) (has : HasGate
   pub gate_kept : IsGate inodes c
   gate_kept = ⊎_elim gate_same gate_shut has.gate
 
-module _ (g : Geometry) (s u : State) (long : length u.now ≡ length s.now) (d : Disk) (same : d.geometry ≡ g) (stood : StandsFor s.now d) where
+module _ (s u : State) (long : length u.now ≡ length s.now) (d : Disk) (stood : StandsFor s.now d) where
   pub undo_images : Agree u.now u.past → LeavesOnly s u (λ c. rolled c ≡ rolled s.now) → LeavesOnly s u (HasGateOf s.now)
       → LeavesOnly s u (λ c. StandsFor c d)
   undo_images agree rolls gates = record {
@@ -125,3 +151,82 @@ module _ (g : Geometry) (s u : State) (long : length u.now ≡ length s.now) (d 
 
   pub undo_stands : u.now ≡ rolled s.now → Still u → Stands (DiskSays d) u
   undo_stands now still = still_stands d stood.valid u (long ∙ stood.size) (subst (Reads (DiskSays d)) (sym now) stood.reads) still
+
+pub same_then : (s t u : State) → IsSame s t → IsSame t u → IsSame s u
+same_then s t u first next = record { now = next.now ∙ first.now; past = next.past ∙ first.past; faults = next.faults ∙ first.faults }
+
+-- a device with the same past leaves the same images
+module _ (s t : State) (same : IsSame s t) where
+  pub leaves_to_same : (P : List ℕ → Type 0) → LeavesOnly s s P → LeavesOnly s t P
+  leaves_to_same P leaves = record {
+    extends = subst (Extends s.past) (sym same.past) leaves.extends;
+    each = λ m c late left. leaves.each m c late (subst (λ (p : Option Past). Left p m c) same.past left);
+  }
+
+  pub leaves_from_same : (u : State) (P : List ℕ → Type 0) → LeavesOnly t u P → LeavesOnly s u P
+  leaves_from_same u P leaves = record {
+    extends = subst (λ (p : Option Past). Extends p u.past) same.past leaves.extends;
+    each = λ m c late left. leaves.each m c (subst (λ (p : Option Past). moment p ≤ m) (sym same.past) late) left;
+  }
+
+  module _ (agree : Agree s.now s.past) (u : State) where
+    rolls_from_same : RollsBack t u → RollsBack s u
+    rolls_from_same back = record {
+      now = subst (λ (ws : List ℕ). u.now ≡ rolled ws) same.now back.now;
+      still = back.still;
+      images = leaves_from_same u (λ c. rolled c ≡ rolled s.now)
+          (subst (λ (ws : List ℕ). LeavesOnly t u (λ c. rolled c ≡ rolled ws)) same.now back.images);
+      only = stores_only-then (λ a. IsJournaled (slice_index s.now 3) a ⊎ (a ≡ gate_word)) s t u
+          (stores_only-same (λ a. IsJournaled (slice_index s.now 3) a ⊎ (a ≡ gate_word)) s t agree same)
+          (subst (λ (ws : List ℕ). StoresOnly (λ a. IsJournaled (slice_index ws 3) a ⊎ (a ≡ gate_word)) t u) same.now back.only);
+    }
+
+    pub back_from_same : RollsBack t u → RollsBack s u
+    back_from_same = rolls_from_same
+
+    pub fault_from_same : (fault : MountFault) → IsMountFault t u fault → IsMountFault s u fault
+    fault_from_same (Image fault) is = record {
+      is = subst (λ (ws : List ℕ). FaultOf ws fault) same.now is.is;
+      head = λ head. let after = is.head head in record {
+        now = after.now ∙ same.now;
+        past = after.past ∙ same.past;
+        faults = after.faults ∙ same.faults;
+      };
+      rest = λ rest. rolls_from_same (is.rest rest);
+    }
+    fault_from_same NoMemory is = tt
+    fault_from_same Failed is = subst (λ (n : ℕ). Rose n u.faults) same.faults is
+
+-- a gate that isn't refused is one
+pub gate_of : (c : List ℕ) → HasGeometry c → ((IsGate (slice_index c 3) c → ⊥) → ⊥) → HasGate c
+gate_of c head not_not = ⊎_elim (λ (bad : (f : ImageFault) × FaultOf c f). by_fault bad.0 bad.1) (λ (links : (d : Disk) × HasLinks c d). links.1.logs.inodes.gate)
+    (read_to_links c)
+  where
+    by_fault : (f : ImageFault) → FaultOf c f → HasGate c
+    by_fault f (not_an_image not) = absurd (not head.image)
+    by_fault f (wrong_version image other) = absurd (other head.version)
+    by_fault f (bad_geometry image version not) = absurd (not head.accepted head.size)
+    by_fault f (bad_journal has not) = absurd (not_not not)
+    by_fault f (bad_inode ino has least) = has
+    by_fault f (bad_log d ino place has used fault least) = has.gate
+    by_fault f (bad_link d ino logs least) = logs.inodes.gate
+    by_fault f (bad_table d slot links fault) = links.logs.inodes.gate
+    by_fault f (bad_pointer d page table reads least) = table.links.logs.inodes.gate
+    by_fault f (double_mapped d page pointers least) = pointers.table.links.logs.inodes.gate
+    by_fault f (bad_count d front rest row pointers none split near far) = pointers.table.links.logs.inodes.gate
+    by_fault f (crowded d free pointers none near has few) = pointers.table.links.logs.inodes.gate
+
+-- a fault of an image whose head and journal have none is a later one
+pub later_fault : (c : List ℕ) → HasGate c → (f : ImageFault) → FaultOf c f → IsHeadFault f → ⊥
+later_fault c gate f (not_an_image not) head = not gate.geometry.image
+later_fault c gate f (wrong_version image other) head = other gate.geometry.version
+later_fault c gate f (bad_geometry image version not) head = not gate.geometry.accepted gate.geometry.size
+later_fault c gate f (bad_journal has not) head = not gate.gate
+later_fault c gate f (bad_inode ino has least) head = head
+later_fault c gate f (bad_log d ino place has used fault least) head = head
+later_fault c gate f (bad_link d ino logs least) head = head
+later_fault c gate f (bad_table d slot links fault) head = head
+later_fault c gate f (bad_pointer d page table reads least) head = head
+later_fault c gate f (double_mapped d page pointers least) head = head
+later_fault c gate f (bad_count d front rest row pointers none split near far) head = head
+later_fault c gate f (crowded d free pointers none near has few) head = head

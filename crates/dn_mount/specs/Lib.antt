@@ -1,3 +1,5 @@
 pub mod Scanned
 pub mod Kept
+pub mod Faults
 pub mod Mounted
+pub mod Reading

@@ -22,20 +22,7 @@ use Rattle.dn_model.specs.Counts.{Exact}
 use Rattle.dn_model.specs.Faults.{FaultOf}
 use Rattle.dn_model.specs.Own.{Print, IsOwn}
 use Rattle.dn_model.specs.declared.fault.ImageFault.{ImageFault}
-use Rattle.dn_model.specs.declared.fault.ImageFault.TheVariants.{
-  NotAnImage,
-  WrongVersion,
-  BadGeometry,
-  BadJournal,
-  BadInode,
-  BadLog,
-  BadLink,
-  BadTable,
-  BadPointer,
-  DoubleMapped,
-  BadCount,
-  Crowded,
-}
+use Rattle.image_head.specs.Heads.{IsHeadFault}
 use Rattle.dn_volume.specs.declared.volume.Volume.{Volume}
 use Rattle.dn_volume.specs.Agrees.{IsVolume, HasNoStale}
 use Rattle.dn_volume.specs.Accounts.{KeepsAlone}
@@ -50,21 +37,6 @@ use Rattle.dn_mount.specs.declared.parts.Scan.{Scan}
 use Rattle.dn_mount.specs.Kept.{KeepsFiles}
 use Rattle.dn_mount.specs.Scanned.{IsScanOf, AreNoFlights}
 
--- a fault of the head or of the journal, which are read before anything is rolled back
-abbrev pub IsOfHead : ImageFault → Type 0
-IsOfHead NotAnImage = Unit {0}
-IsOfHead (WrongVersion found) = Unit {0}
-IsOfHead BadGeometry = Unit {0}
-IsOfHead BadJournal = Unit {0}
-IsOfHead (BadInode ino) = ⊥
-IsOfHead (BadLog ino place) = ⊥
-IsOfHead (BadLink ino) = ⊥
-IsOfHead (BadTable slot) = ⊥
-IsOfHead (BadPointer page) = ⊥
-IsOfHead (DoubleMapped page) = ⊥
-IsOfHead (BadCount slot) = ⊥
-IsOfHead (Crowded free) = ⊥
-
 -- the journal was rolled back, and nothing else was stored
 pub record RollsBack (s u : State) : Type 0 where
   pub now : u.now ≡ rolled s.now
@@ -76,8 +48,8 @@ pub record RollsBack (s u : State) : Type 0 where
 -- stored, any other once the journal was rolled back.
 pub record IsRefused (fault : ImageFault) (s u : State) : Type 0 where
   pub is : FaultOf s.now fault
-  pub head : IsOfHead fault → IsSame s u
-  pub rest : (IsOfHead fault → ⊥) → RollsBack s u
+  pub head : IsHeadFault fault → IsSame s u
+  pub rest : (IsHeadFault fault → ⊥) → RollsBack s u
 
 -- why there is no scan and no volume
 abbrev pub IsMountFault : State → State → MountFault → Type 0

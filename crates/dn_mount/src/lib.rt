@@ -4,4 +4,7 @@
 
 pub mod fault;
 pub mod parts;
+pub mod prepare;
+pub mod read;
+pub mod repair;
 pub mod undo;

@@ -99,7 +99,8 @@ module _ (d : Disk) (b : Parts) (s : State) (v : IsVolume d b s) (name : List �
     root_small = let many = v.fast.valid.accepted.inodes in let all = v.inodes.all in omega (arith, many, all)
 
     pub small_created : All (λ i. i < length b.inodes.items) (0 ∷ [])
-    small_created k x lt = let none : k ≡ 0 = omega (arith, lt) in subst (λ (j : ℕ). get_or (0 ∷ []) j x < length b.inodes.items) (sym none) root_small
+    small_created k x lt = let none : k ≡ 0 = omega (arith, lt) in subst (λ (j : ℕ). get_or (0 ∷ []) j x < length b.inodes.items) (sym none)
+        root_small
 
     pub busy_created : (holder : ℕ) → IsHeldAmong b.inodes.items (0 ∷ []) holder → IsBusy d b (Create name) holder
     busy_created holder held = record { granted = granted_created; held = held_first d b s v (0 ∷ []) holder held }

@@ -36,7 +36,8 @@ pub two_lists : {A B : Type 0} (P : List A → List B → Type 0) (xs xs' : List
 two_lists P xs xs' ys ys' one other has = subst (λ zs. P zs ys') one (subst (λ zs. P xs zs) other has)
 
 -- what a list holds at a place
-pub node_at : (nodes : List InodeState) (ino : ℕ) (x : InodeState) → ino < length nodes → x ≡ slice_index_or nodes ino x → slice_get nodes ino ≡ Some x
+pub node_at : (nodes : List InodeState) (ino : ℕ) (x : InodeState) → ino < length nodes → x ≡ slice_index_or nodes ino x
+    → slice_get nodes ino ≡ Some x
 node_at nodes ino x lt is = slice_get_read nodes (length nodes) ino x refl lt is
 
 -- the room for its first advance

@@ -1,5 +1,34 @@
 -- An operation on names has landed: the volume in memory agrees with the disk of after.
-use Rattle.std.proofs.Common.{◌≡◌, ◌≢◌, ◌⊎◌, inl, inr, ⊎_elim, ℕ, zero, suc, ◌+◌, ◌*◌, ◌<◌, ◌≤◌, Bool, List, [], ◌∷◌, ◌++◌, length, refl, sym, ◌∙◌, ap, subst, arith, Option, Some, None}
+use Rattle.std.proofs.Common.{
+  ◌≡◌,
+  ◌≢◌,
+  ◌⊎◌,
+  inl,
+  inr,
+  ⊎_elim,
+  ℕ,
+  zero,
+  suc,
+  ◌+◌,
+  ◌*◌,
+  ◌<◌,
+  ◌≤◌,
+  Bool,
+  List,
+  [],
+  ◌∷◌,
+  ◌++◌,
+  length,
+  refl,
+  sym,
+  ◌∙◌,
+  ap,
+  subst,
+  arith,
+  Option,
+  Some,
+  None,
+}
 use Rattle.std.specs.Prelude.{Contains, All, is_some, slice_get, if◌then◌else◌}
 use Rattle.std.specs.FinMap.{get}
 use Rattle.std.specs.Option.{option_map}
@@ -198,8 +227,10 @@ module _ (d : Disk) (b b' : Parts) (s t : State) (who : ℕ) (f : Flight) (c : N
   touched_words a (inl named') = by_place named'.i named'.lt named'.is
     where
       by_place : (i : ℕ) → i < length (name_changes d change) → a ≡ address (name_changes d change) i → IsWordOf f.held.items f.fresh.items d a
-      by_place zero lt is = of_inode 0 (holds_root d b s who f c volume to.flies to.change_is flight) (let few = can.in_table in omega (arith, few)) (omega (arith, is), omega (arith, is))
-      by_place (suc i) lt is = of_inode change.ino (holds_ino d b s who f c volume to.flies to.change_is flight) can.in_table (state_word change.turn change.ino i a (omega (arith, lt)) is)
+      by_place zero lt is = of_inode 0 (holds_root d b s who f c volume to.flies to.change_is flight) (let few = can.in_table in
+          omega (arith, few)) (omega (arith, is), omega (arith, is))
+      by_place (suc i) lt is = of_inode change.ino (holds_ino d b s who f c volume to.flies to.change_is flight) can.in_table (state_word change.turn
+          change.ino i a (omega (arith, lt)) is)
 
   module _ (commit : CommitsAll d.geometry.inodes who (name_changes d change) s t) (lands : LandsChange who f c b b') where
     abbrev e : Disk
@@ -269,7 +300,8 @@ module _ (d : Disk) (b b' : Parts) (s t : State) (who : ℕ) (f : Flight) (c : N
         by_size (is_here here') used =
             let as_turned : e.inode ino ≡ turned change.turn (d.inode ino) =
             ap (λ (i : ℕ). e.inode i) here' ∙ at_ino d change node_file ∙ ap (λ (i : ℕ). turned change.turn (d.inode i)) (sym here') in
-            ap (λ (x : Inode). size_of x.log) as_turned ∙ (turned_so (same_node here')).size_is (subst (λ (x : Inode). IsUsed x.use_of) as_turned used)
+            ap (λ (x : Inode). size_of x.log) as_turned ∙ (turned_so (same_node here')).size_is (subst (λ (x : Inode). IsUsed x.use_of) as_turned
+                used)
         by_size (elsewhere some other) used =
             ap (λ (x : Inode). size_of x.log) (at_other d change ino some other) ∙ was.size_is
             (subst (λ (x : Inode). IsUsed x.use_of) (at_other d change ino some other) used) ∙ sym (turns.elsewhere (apart_node other)).1
@@ -328,7 +360,8 @@ module _ (d : Disk) (b b' : Parts) (s t : State) (who : ℕ) (f : Flight) (c : N
     same = same_others d b b' s t who f c change volume can to.flies to.change_is fresh_same lands.lands
 
     stay : ((q : ℕ) (g : Flight) → q ≢ who → Flies b' q g → IsFlight e q g t) × StayInHand who e b'
-    stay = others_stay who inodes f.fresh.items d e b b' s t volume (subst (λ (g : Geometry). StandsFast e g t) lands.lands.lands.geometry fast) for_it
+    stay = others_stay who inodes f.fresh.items d e b b' s t volume (subst (λ (g : Geometry). StandsFast e g t) lands.lands.lands.geometry fast)
+        for_it
         leaves same
         (λ other. lands.raised)
 
@@ -405,7 +438,8 @@ module _ (d : Disk) (b b' : Parts) (s t : State) (who : ℕ) (f : Flight) (c : N
         all = lands.lands.inodes ∙ volume.inodes.all ∙ ap (λ (g : Geometry). g.inodes) (sym (same_geometry d change));
         each = inode_is;
       };
-      holders = holders d b b' s t who f c change volume can to.flies to.change_is fresh_same lands.lands (λ ino n' at. let was = lands.each ino n' at in
+      holders = holders d b b' s t who f c change volume can to.flies to.change_is fresh_same lands.lands (λ ino n' at. let was =
+          lands.each ino n' at in
           (was.0, was.1, was.3));
       space = space d b b' s t who f c change volume can to.flies to.change_is fresh_same lands.lands;
       table = table d b b' s t who f c change volume can to.flies to.change_is fresh_same lands.lands;
@@ -423,7 +457,8 @@ module _ (d : Disk) (b b' : Parts) (s t : State) (who : ℕ) (f : Flight) (c : N
       pointers = none_stale_kept d e (same_geometry d change) pointers_same
           (λ row has. record { row = row; there = subst (λ (rs : List Row). Contains rs row) (sym (same_rows d change)) has; page_is = refl })
           volume.pointers;
-      room = room d b b' s t who f c change volume can to.flies to.change_is fresh_same lands.lands commit.spare lands.raised lands.zero_check lands.releases
+      room = room d b b' s t who f c change volume can to.flies to.change_is fresh_same lands.lands commit.spare lands.raised lands.zero_check
+          lands.releases
           (λ ino n' at. let was = lands.each ino n' at in (was.0, was.1, was.2.map));
       trace = subst (λ (g : Geometry). All (λ (x : CountChange). x.slot < slots g) b'.trace.items) (sym lands.lands.lands.geometry)
           (subst (λ xs. All (λ (x : CountChange). x.slot < slots b.geometry) xs.items) (sym lands.lands.trace) volume.trace);

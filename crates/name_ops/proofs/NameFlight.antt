@@ -1,6 +1,29 @@
 -- An operation on names in flight, whichever it is: it may change the disk so, other names lead where they lead, and
 -- the files are those after it.
-use Rattle.std.proofs.Common.{◌≡◌, ◌≢◌, ⊎_elim, ℕ, ◌+◌, ◌<◌, ◌≤◌, List, [], ◌∷◌, ◌++◌, length, refl, sym, ◌∙◌, ap, subst, arith, Option, Some, None, length-append}
+use Rattle.std.proofs.Common.{
+  ◌≡◌,
+  ◌≢◌,
+  ⊎_elim,
+  ℕ,
+  ◌+◌,
+  ◌<◌,
+  ◌≤◌,
+  List,
+  [],
+  ◌∷◌,
+  ◌++◌,
+  length,
+  refl,
+  sym,
+  ◌∙◌,
+  ap,
+  subst,
+  arith,
+  Option,
+  Some,
+  None,
+  length-append,
+}
 use Rattle.std.specs.Prelude.{◌/◌, ◌-◌, ◌*◌, ◌↔◌, Bool, true, false, nat_lt, if◌then◌else◌, Contains}
 use Rattle.std.specs.List.Sorted.{IsStrictlyIncreasing}
 use Rattle.std.proofs.lemmas.List.{get_or_append_left}
@@ -21,7 +44,17 @@ use Rattle.dn_model.specs.declared.op.Op.{Op}
 use Rattle.dn_model.specs.declared.op.Op.TheVariants.{Create, Write, Read, Cut, Remove, Rename, Size, List as ListAll}
 use Rattle.dn_model.specs.declared.op.Reply.TheVariants.{Done}
 use Rattle.law_write.specs.Events.{IsUnused}
-use Rattle.law_names.specs.NameChange.{NameChange as DiskChange, Turn as DiskTurn, MayChange, MayGrowRoot, IsSpared, root_after, state_changes, name_changes, names_changed}
+use Rattle.law_names.specs.NameChange.{
+  NameChange as DiskChange,
+  Turn as DiskTurn,
+  MayChange,
+  MayGrowRoot,
+  IsSpared,
+  root_after,
+  state_changes,
+  name_changes,
+  names_changed,
+}
 use Rattle.law_names.specs.Operations.{MayCreate, MayRemove, MayRename, renaming, with_name}
 use Rattle.law_names.proofs.Links.{names_eq, with_name-here, with_name-other}
 use Rattle.law_names.proofs.Operating.{may_create, may_remove, may_rename, named_created, named_removed, named_renamed}
@@ -255,8 +288,10 @@ module _ (d : Disk) (b : Parts) (s : State) (who : ℕ) (f : Flight) (c : NameCh
       (state_changes change.turn change.ino) (state_changes (as_turn c.turn) c.node)
       (ap (λ (x : DiskTurn). state_changes x change.ino) flight.turn_is ∙ ap (state_changes (as_turn c.turn)) flight.node_is)
     where
-      both : (x y : ℕ) → x ≡ y → (xs ys : List Word) → xs ≡ ys → record { at = inode_word 0 2; value = y } ∷ xs ≡ record { at = inode_word 0 2; value = x } ∷ ys
-      both x y one xs ys other = ap (λ (n : ℕ). record { at = inode_word 0 2; value = n } ∷ xs) (sym one) ∙ ap (λ (zs : List Word). record { at = inode_word 0 2; value = x } ∷ zs) other
+      both : (x y : ℕ) → x ≡ y → (xs ys : List Word) → xs ≡ ys → record { at = inode_word 0 2; value = y } ∷ xs ≡ record { at =
+          inode_word 0 2; value = x } ∷ ys
+      both x y one xs ys other = ap (λ (n : ℕ). record { at = inode_word 0 2; value = n } ∷ xs) (sym one)
+          ∙ ap (λ (zs : List Word). record { at = inode_word 0 2; value = x } ∷ zs) other
 
   -- the client's place
   pub who_few : who ≤ 14

@@ -28,7 +28,8 @@ one_changed kept_turn.Stays node value is = cc is
 one_changed kept_turn.Comes node value is = let one : 1 ≡ value = cc is in ap (λ (n : ℕ). record { at = inode_word node 0; value = n } ∷ []) one
 one_changed kept_turn.Goes node value is = let two : 2 ≡ value = cc is in ap (λ (n : ℕ). record { at = inode_word node 0; value = n } ∷ []) two
 
-pub tail_alone : (c : NameChange) (at : ℕ) → at ≡ inode_word 0 2 → state_value c.turn ≡ None → record { at = at; value = c.tail } ∷ [] ≡ flight_changes
+pub tail_alone : (c : NameChange) (at : ℕ) → at ≡ inode_word 0 2 → state_value c.turn ≡ None
+    → record { at = at; value = c.tail } ∷ [] ≡ flight_changes
     c
 tail_alone c at is none = ap (λ (n : ℕ). record { at = n; value = c.tail } ∷ []) is ∙ ap (λ (xs : List Word). record {
   at = inode_word 0 2;

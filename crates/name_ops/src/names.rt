@@ -9,7 +9,7 @@ ghost use Rattle.dn_volume.specs.Flights.{left_of};
 ghost use Rattle.dn_volume.specs.Agrees.{Agrees, IsVolume};
 ghost use Rattle.dn_volume.specs.Begins.{MayBegin, IsNamesOp, Begins, FliesAs};
 ghost use Rattle.dn_volume.specs.Events.{Advances};
-ghost use Rattle.name_ops.specs.Ending.{IsCreate, FliesNames};
+ghost use Rattle.name_ops.specs.Ending.{FliesNames};
 
 use crate::commit::commit_names;
 use crate::create::begin_create;
@@ -61,13 +61,13 @@ fn is_prepared(parts: &Parts, who: u32) -> bool
     change.prepared
 }
 
-/// A client's creation in flight gets on by one event: what has to stand before its commit is stored, and then it is
-/// committed. `Running` tells that one event is left of it, `Done` that it is answered, and `Stopped` that a fence of the
-/// device failed.
-pub fn advance_create<D: Pm, F: Fingerprint>(v: &mut Volume<D, F>, who: u32) -> Outcome
+/// A client's operation on names in flight gets on by one event: what has to stand before its commit is stored, and then
+/// it is committed. `Running` tells that one event is left of it, `Done` that it is answered, and `Stopped` that a fence
+/// of the device failed.
+pub fn advance_name<D: Pm, F: Fingerprint>(v: &mut Volume<D, F>, who: u32) -> Outcome
     requires agrees { Agrees D.state v.old }
     requires running { v.old.parts.stopped ≡ false }
-    requires flies { FliesAs IsCreate v.old.parts who }
+    requires flies { FliesAs IsNamesOp v.old.parts who }
     ensures agrees { Agrees D.state v.new }
     ensures event { (d : Disk) (f : KeptFlight) → IsVolume d v.old.parts (D.state v.old.device)
         → Flies v.old.parts who f → Advances D.state F.print who f.op (left_of f) v.old v.new d

@@ -1,11 +1,12 @@
 -- The rows of a table are settled, one after another.
-use Rattle.std.proofs.Common.{◌≡◌, ◌≢◌, ◌⊎◌, inl, inr, ⊎_elim, ℕ, ◌+◌, ◌*◌, ◌<◌, ◌≤◌, List, length, map, refl, sym, ◌∙◌, ap, subst, arith}
+use Rattle.std.proofs.Common.{◌≡◌, ◌≢◌, ◌⊎◌, inl, inr, ⊎_elim, ℕ, ◌+◌, ◌*◌, ◌≤◌, List, length, sym, ◌∙◌, ap, subst, arith}
 use Rattle.std.specs.Prelude.{Contains, slice_get, slice_index, Some, option_map}
 use Rattle.std.proofs.lemmas.Bool.{cases_eq}
 use Rattle.std.proofs.lemmas.List.{length-map}
+use Rattle.std.proofs.lemmas.List.Elements.{All-contains}
 use Rattle.std.proofs.lemmas.Option.{slice_get_within, slice_get-map}
 use Rattle.pm_device.specs.State.{State, Agree}
-use Rattle.pm_device.specs.Settled.{LeavesOnly, StoresOnly}
+use Rattle.pm_device.specs.Settled.{Still, LeavesOnly, StoresOnly, Nowhere}
 use Rattle.pm_device.proofs.Only.{stores_only-none, stores_only-then}
 use Rattle.pm_layout.specs.declared.Geometry.{Geometry}
 use Rattle.dn_model.specs.Table.{Row}
@@ -18,21 +19,7 @@ use Rattle.fact_scan.specs.Seen.{as_row}
 use Rattle.fact_scan.specs.declared.row.Row.{Row as RowValue}
 use Rattle.fact_table.specs.Table.{Table}
 use Rattle.fact_calls.specs.Made.{IsSameBut}
-use Rattle.table_repair.specs.Settling.{
-  SettlesFrom,
-  HasSettling,
-  StandsWith,
-  IsRowToSettle,
-  HasRowToSettle,
-  RowIsSettled,
-  IsTableToSettle,
-  HasTableToSettle,
-  CountsAreSettled,
-  LeavesRow,
-  SettlesRow,
-  LeavesTable,
-  SettlesCounts,
-}
+use Rattle.table_repair.specs.Settling.{SettlesFrom, HasSettling, StandsWith, IsRowToSettle, HasRowToSettle, RowIsSettled, IsTableToSettle, HasTableToSettle, CountsAreSettled, LeavesRow, SettlesRow, KeepsExact}
 use Rattle.table_repair.proofs.Later.{leaves_none, leaves_then}
 use Rattle.table_repair.proofs.Changes.{settles_same, settles_then, same_mappings}
 
@@ -55,6 +42,8 @@ pub record IsPartSettled (found : List RowValue) (mapped : List ℕ) (i : ℕ) (
   pub spare : s0.spare ≤ s.spare + 9 * i
   pub faults : s0.faults ≤ s.faults
   pub only : StoresOnly (IsTableWord t0.geometry) s0 s
+  pub still : Still s0 → Still s
+  pub quiet : KeepsExact t0 found mapped s0 s
   pub front : (d : Disk) → IsTableToSettle d t0 found mapped s0 → IsFront d i t s0 s
 
 geometry_same : (d e : Disk) → IsSameBut d e → e.geometry ≡ d.geometry
@@ -65,6 +54,8 @@ front_begins found mapped t s agree = record {
   spare = omega arith;
   faults = omega arith;
   only = stores_only-none _ s agree;
+  still = λ still. still;
+  quiet = λ d is exact. stores_only-none _ s agree;
   front = λ d is. record {
     disk = d;
     settles = settles_same d;
@@ -93,6 +84,17 @@ module _ (found : List RowValue) (mapped : List ℕ) (i : ℕ) (t0 t : Table) (s
 
     same : (page : ℕ) → mappings front.disk page ≡ mappings d page
     same = same_mappings d front.disk front.settles.same
+
+    -- the next row is exact, if all are
+    row_exact : Exact d → IsExact d row
+    row_exact exact = All-contains (IsExact d) (rows d) row exact.counts has_row
+
+    pub next_quiet : (u : State) → (here.count.uc ≡ 0 → slice_index mapped here.page ≢ 0 → StoresOnly Nowhere s u) → Exact d
+        → StoresOnly Nowhere s0 u
+    next_quiet u quiet exact =
+        let one = row_exact exact in
+        stores_only-then Nowhere s0 s u (part.quiet d is exact)
+        (quiet one.0 (λ none. one.2 (one.1 ∙ sym (is.counted row has_row) ∙ none)))
 
     -- the next row may be settled
     pub next_row : IsRowToSettle front.disk t row (slice_index mapped here.page) s

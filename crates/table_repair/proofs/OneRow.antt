@@ -1,12 +1,10 @@
 -- A row is counted, and goes where it isn't used: the calls of the table where the device stands for a valid disk.
-use Rattle.std.proofs.Common.{◌≡◌, ◌≢◌, ◌⊎◌, inl, inr, ⊎_elim, ℕ, ◌+◌, ◌*◌, ◌^◌, ◌<◌, ◌≤◌, List, refl, sym, ◌∙◌, ap, subst, arith}
+use Rattle.std.proofs.Common.{◌≡◌, ◌≢◌, ◌⊎◌, ⊎_elim, ℕ, ◌*◌, ◌^◌, ◌<◌, List, refl, sym, ◌∙◌, ap, subst, arith}
 use Rattle.std.specs.Prelude.{Contains}
-use Rattle.std.proofs.lemmas.Bool.{cases_eq}
 use Rattle.std.proofs.lemmas.List.Elements.{All-contains}
 use Rattle.pm_device.specs.State.{State, Agree}
 use Rattle.pm_device.specs.Settled.{LeavesOnly, StoresOnly}
 use Rattle.pm_device.proofs.Moments.{leaves_only-weaken}
-use Rattle.pm_device.proofs.Only.{stores_only-none}
 use Rattle.pm_layout.specs.declared.Geometry.{Geometry}
 use Rattle.dn_model.specs.Table.{Row}
 use Rattle.dn_model.specs.Disk.{Disk, rows}
@@ -16,31 +14,17 @@ use Rattle.law_table.specs.Words.{IsTableWord}
 use Rattle.law_table.specs.Rows.{TakesRow}
 use Rattle.law_table.proofs.Rows.{distinct_same}
 use Rattle.law_table_on_disk.specs.CountLaws.{IsExact}
-use Rattle.fact_table.specs.Table.{Table, IsTable}
+use Rattle.fact_table.specs.Table.{Table}
 use Rattle.fact_counts.specs.Standing.{HasRowWith}
 use Rattle.fact_counts.specs.Counted.{counted, AnyRow, LeavesTables, MakesTable, SettlesTable}
-use Rattle.fact_changes.specs.Removal.{MayRemoveAt, HasZero, MakesRemoved, SettlesRemoved, LeavesRemoved}
+use Rattle.fact_changes.specs.Removal.{HasZero, MakesRemoved, SettlesRemoved, LeavesRemoved}
 use Rattle.fact_calls.specs.declared.call.TableCall.TheVariants.{Recount, RemoveZero}
 use Rattle.fact_calls.specs.Follows.{HasRowAt, CountsRow as CountsOne, RemovesRow, Follows}
 use Rattle.fact_calls.specs.Made.{IsSameBut, MayCall}
 use Rattle.fact_calls.proofs.Called.{zero_may, zero_images, zero_made, counted_leaves, counted_makes}
 use Rattle.law_table_calls.specs.Calls.{HasRows, IsOnDisk, MayMakeOn}
 use Rattle.law_table_calls.proofs.Disks.{call_images, call_made}
-use Rattle.table_repair.specs.Later.{HasLater}
-use Rattle.table_repair.specs.Settling.{
-  SettlesFrom,
-  HasSettling,
-  StandsWith,
-  IsRowToSettle,
-  HasRowToSettle,
-  RowIsCounted,
-  RowIsSettled,
-  with_count,
-  AreSameElsewhere,
-  LeavesRow,
-  CountsRow,
-  SettlesRow,
-}
+use Rattle.table_repair.specs.Settling.{SettlesFrom, HasSettling, IsRowToSettle, RowIsCounted, RowIsSettled, with_count, AreSameElsewhere}
 use Rattle.table_repair.proofs.Later.{leaves_none, leaves_then}
 use Rattle.table_repair.proofs.Changes.{
   settles_same,

@@ -1,8 +1,8 @@
 -- A table is settled: each count becomes the number of mappings, rows without mappings go, and
 -- stale pointers are cleared.
-use Rattle.std.specs.Prelude.{◌≡◌, ◌≢◌, ℕ, ◌+◌, ◌<◌, ◌≤◌, List, length, map, slice_index, Contains}
+use Rattle.std.specs.Prelude.{◌≡◌, ◌≢◌, ℕ, List, map, slice_index, Contains}
 use Rattle.pm_device.specs.State.{State}
-use Rattle.pm_device.specs.Settled.{LeavesOnly}
+use Rattle.pm_device.specs.Settled.{LeavesOnly, StoresOnly, Nowhere}
 use Rattle.pm_device.specs.Reading.{Stands}
 use Rattle.dn_model.specs.Table.{Row}
 use Rattle.dn_model.specs.Disk.{Disk, DiskSays, rows}
@@ -119,3 +119,12 @@ SettlesCounts t t' found mapped s u = (d : Disk) → IsTableToSettle d t found m
 abbrev pub SettlesAll : Table → Table → List RowValue → List ℕ → State → State → Type 0
 SettlesAll t t' found mapped s u = (d : Disk) → IsTableToSettle d t found mapped s
     → TableIsSettled d t' u
+
+-- where all counts are exact nothing is stored; nor afterwards where no pointer is stale
+abbrev pub KeepsExact : Table → List RowValue → List ℕ → State → State → Type 0
+KeepsExact t found mapped s u = (d : Disk) → IsTableToSettle d t found mapped s → Exact d
+    → StoresOnly Nowhere s u
+
+abbrev pub KeepsSettled : Table → List RowValue → List ℕ → State → State → Type 0
+KeepsSettled t found mapped s u = (d : Disk) → IsTableToSettle d t found mapped s → Exact d
+    → ((page : ℕ) → IsStale d page → ⊥) → StoresOnly Nowhere s u

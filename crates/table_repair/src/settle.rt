@@ -1,11 +1,11 @@
 // A table is settled.
-ghost use Rattle.std.specs.Prelude.{◌≡◌, ◌+◌, ◌*◌, ◌<◌, ◌≤◌, length, All, OnOk, IsErr};
+ghost use Rattle.std.specs.Prelude.{◌≡◌, ◌≢◌, ◌+◌, ◌*◌, ◌<◌, ◌≤◌, length, All, OnOk, IsErr};
 ghost use Rattle.pm_device.specs.State.{Rose};
-ghost use Rattle.pm_device.specs.Settled.{StoresOnly};
+ghost use Rattle.pm_device.specs.Settled.{Still, StoresOnly, Nowhere};
 ghost use Rattle.law_table.specs.Words.{IsTableWord};
 ghost use Rattle.fact_scan.specs.Seen.{as_row};
 ghost use Rattle.fact_scan.specs.declared.row.Row.{Row as RowValue};
-ghost use Rattle.table_repair.specs.Settling.{HasRowToSettle, HasTableToSettle, LeavesRow, CountsRow, SettlesRow, LeavesTable, SettlesCounts, SettlesAll, with_count};
+ghost use Rattle.table_repair.specs.Settling.{HasRowToSettle, HasTableToSettle, LeavesRow, CountsRow, SettlesRow, LeavesTable, SettlesCounts, SettlesAll, KeepsExact, KeepsSettled, with_count};
 
 use fact_changes::{clear_stale, remove_zero};
 use fact_counts::recount;
@@ -35,6 +35,9 @@ fn count_row<D: Pm>(
         (D.state device.new)) }
     ensures only { StoresOnly (IsTableWord fact.now.geometry) (D.state device.old)
         (D.state device.new) }
+    ensures still { OnOk result (Still (D.state device.old) → Still (D.state device.new)) }
+    ensures quiet { row.now.count.uc ≡ 0
+        → StoresOnly Nowhere (D.state device.old) (D.state device.new) }
     ensures spare { (D.state device.old).spare ≤ (D.state device.new).spare + 3 }
     ensures faults { (D.state device.old).faults ≤ (D.state device.new).faults }
     ensures failed { IsErr result → Rose (D.state device.old).faults (D.state device.new).faults }
@@ -62,6 +65,8 @@ fn drop_row<D: Pm>(
         mappings (D.state device.old) (D.state device.new)) }
     ensures only { StoresOnly (IsTableWord fact.old.geometry) (D.state device.old)
         (D.state device.new) }
+    ensures still { OnOk result (Still (D.state device.old) → Still (D.state device.new)) }
+    ensures quiet { mappings ≢ 0 → StoresOnly Nowhere (D.state device.old) (D.state device.new) }
     ensures spare { (D.state device.old).spare ≤ (D.state device.new).spare + 6 }
     ensures faults { (D.state device.old).faults ≤ (D.state device.new).faults }
     ensures failed { IsErr result → Rose (D.state device.old).faults (D.state device.new).faults }
@@ -88,6 +93,9 @@ fn settle_row<D: Pm>(
         (D.state device.old) (D.state device.new)) }
     ensures only { StoresOnly (IsTableWord fact.old.geometry) (D.state device.old)
         (D.state device.new) }
+    ensures still { OnOk result (Still (D.state device.old) → Still (D.state device.new)) }
+    ensures quiet { row.now.count.uc ≡ 0 → mappings ≢ 0
+        → StoresOnly Nowhere (D.state device.old) (D.state device.new) }
     ensures spare { (D.state device.old).spare ≤ (D.state device.new).spare + ROW_UNITS }
     ensures faults { (D.state device.old).faults ≤ (D.state device.new).faults }
     ensures failed { IsErr result → Rose (D.state device.old).faults (D.state device.new).faults }
@@ -113,6 +121,9 @@ fn settle_rows<D: Pm>(
         (D.state device.old) (D.state device.new)) }
     ensures only { StoresOnly (IsTableWord fact.old.geometry) (D.state device.old)
         (D.state device.new) }
+    ensures still { OnOk result (Still (D.state device.old) → Still (D.state device.new)) }
+    ensures quiet { KeepsExact fact.old rows.now mapped.now (D.state device.old)
+        (D.state device.new) }
     ensures spare { (D.state device.old).spare ≤ (D.state device.new).spare + ROW_UNITS * length
         rows.now }
     ensures faults { (D.state device.old).faults ≤ (D.state device.new).faults }
@@ -129,7 +140,8 @@ fn settle_rows<D: Pm>(
 /// stale pointers are cleared.
 ///
 /// A stop at any moment leaves a file system without a fault that differs in its table alone. Rows that have references
-/// and no update under way are in each of them as they are.
+/// and no update under way are in each of them as they are. Where all counts are exact and no pointer is stale, nothing
+/// is stored.
 ///
 /// # Errors
 /// `Failed` where a fence failed. Some of it is done; the table that is kept in memory isn't used again.
@@ -149,6 +161,9 @@ pub fn settle_table<D: Pm>(
     ensures done { OnOk result (SettlesAll fact.old fact.new rows.now mapped.now
         (D.state device.old) (D.state device.new)) }
     ensures only { StoresOnly (IsTableWord fact.old.geometry) (D.state device.old)
+        (D.state device.new) }
+    ensures still { OnOk result (Still (D.state device.old) → Still (D.state device.new)) }
+    ensures quiet { KeepsSettled fact.old rows.now mapped.now (D.state device.old)
         (D.state device.new) }
     ensures spare { (D.state device.old).spare ≤ (D.state device.new).spare + ROW_UNITS * length
         rows.now + PAGE_UNITS * fact.old.geometry.pages }

@@ -23,26 +23,31 @@ pub set_mask-requires-clause-slot : goal.set_mask-requires-clause-slot
 set_mask-requires-clause-slot g c = mask_slot g.D.Pm.state c.args.v.now c.args.sharing c.requires.looking c.requires.agrees c.requires.running
 
 pub set_mask-requires-clause-room : goal.set_mask-requires-clause-room
-set_mask-requires-clause-room g c = spare_for_place g.D.Pm.state c.args.v.now c.requires.agrees c.requires.running c.args.sharing c.requires.looking.begun
+set_mask-requires-clause-room g c = spare_for_place g.D.Pm.state c.args.v.now c.requires.agrees c.requires.running c.args.sharing
+    c.requires.looking.begun
     c.requires.looking
 
 pub note_pass-requires-clause-units : goal.note_pass-requires-clause-units
-note_pass-requires-clause-units g c = units_for_place g.D.Pm.state c.args.v.now c.requires.agrees c.requires.running c.args.sharing c.requires.looking.begun
+note_pass-requires-clause-units g c = units_for_place g.D.Pm.state c.args.v.now c.requires.agrees c.requires.running c.args.sharing
+    c.requires.looking.begun
     c.requires.looking
 
 pub note_pass-requires-clause-changes : goal.note_pass-requires-clause-changes
-note_pass-requires-clause-changes g c = changes_for_place g.D.Pm.state c.args.v.now c.requires.agrees c.requires.running c.args.sharing c.requires.looking.begun
+note_pass-requires-clause-changes g c = changes_for_place g.D.Pm.state c.args.v.now c.requires.agrees c.requires.running c.args.sharing
+    c.requires.looking.begun
     c.requires.looking
 
 pub events_left-requires-clause-few : goal.events_left-requires-clause-few
-events_left-requires-clause-few g c = few_places g.D.Pm.state c.args.v.now c.requires.agrees c.requires.running c.args.sharing c.requires.looking.begun
+events_left-requires-clause-few g c = few_places g.D.Pm.state c.args.v.now c.requires.agrees c.requires.running c.args.sharing
+    c.requires.looking.begun
 
 pub returns-in-Ok-clause-agrees : goal.returns-in-Ok-clause-agrees
 returns-in-Ok-clause-agrees g c =
     let found = running_disk g.D.Pm.state c.args.v.now c.requires.running c.requires.agrees in
     let moves = mask_moves g.D.Pm.state c.args.v.now c.args.sharing c.requires.looking found.0 found.1 g.F.Fingerprint.print c.requires.other.0
     (c.requires.other.1 found.0 found.1) (record { device = c.set_mask.new.device; print = c.args.v.now.print; parts = c.note_pass.new.parts })
-    c.with_bit-mask.result (c.with_bit-mask.ensures ∙ mask_is g.D.Pm.state c.args.v.now c.args.sharing c.requires.looking found.0 found.1 g.F.Fingerprint.print c.requires.other.0
+    c.with_bit-mask.result (c.with_bit-mask.ensures ∙ mask_is g.D.Pm.state c.args.v.now c.args.sharing c.requires.looking found.0 found.1
+    g.F.Fingerprint.print c.requires.other.0
     (c.requires.other.1 found.0 found.1) c.mask_of.result c.mask_of.ensures)
     (record {
       any_moment = c.set_mask.ensures.committed;
@@ -57,7 +62,8 @@ pub returns-in-Ok-clause-event : goal.returns-in-Ok-clause-event
 returns-in-Ok-clause-event g c = λ d v. (
   mask_moves g.D.Pm.state c.args.v.now c.args.sharing c.requires.looking d v g.F.Fingerprint.print c.requires.other.0
       (c.requires.other.1 d v) (record { device = c.set_mask.new.device; print = c.args.v.now.print; parts = c.note_pass.new.parts })
-      c.with_bit-mask.result (c.with_bit-mask.ensures ∙ mask_is g.D.Pm.state c.args.v.now c.args.sharing c.requires.looking d v g.F.Fingerprint.print c.requires.other.0
+      c.with_bit-mask.result (c.with_bit-mask.ensures ∙ mask_is g.D.Pm.state c.args.v.now c.args.sharing c.requires.looking d v g.F.Fingerprint.print
+      c.requires.other.0
       (c.requires.other.1 d v) c.mask_of.result c.mask_of.ensures)
       (record {
         any_moment = c.set_mask.ensures.committed;
@@ -77,7 +83,8 @@ returns-in-Err-clause-agrees g c =
     let found = running_disk g.D.Pm.state c.args.v.now c.requires.running c.requires.agrees in
     is_stopped (mask_breaks g.D.Pm.state c.args.v.now c.args.sharing c.requires.looking found.0 found.1 g.F.Fingerprint.print c.requires.other.0
     (c.requires.other.1 found.0 found.1) (record { device = c.set_mask.new.device; print = c.args.v.now.print; parts = c.stop.new.parts })
-    c.with_bit-mask.result (c.with_bit-mask.ensures ∙ mask_is g.D.Pm.state c.args.v.now c.args.sharing c.requires.looking found.0 found.1 g.F.Fingerprint.print c.requires.other.0
+    c.with_bit-mask.result (c.with_bit-mask.ensures ∙ mask_is g.D.Pm.state c.args.v.now c.args.sharing c.requires.looking found.0 found.1
+    g.F.Fingerprint.print c.requires.other.0
     (c.requires.other.1 found.0 found.1) c.mask_of.result c.mask_of.ensures)
     (record {
       any_moment = c.set_mask.ensures.committed;
@@ -91,7 +98,8 @@ pub returns-in-Err-clause-event : goal.returns-in-Err-clause-event
 returns-in-Err-clause-event g c = λ d v. (
   mask_breaks g.D.Pm.state c.args.v.now c.args.sharing c.requires.looking d v g.F.Fingerprint.print c.requires.other.0
       (c.requires.other.1 d v) (record { device = c.set_mask.new.device; print = c.args.v.now.print; parts = c.stop.new.parts })
-      c.with_bit-mask.result (c.with_bit-mask.ensures ∙ mask_is g.D.Pm.state c.args.v.now c.args.sharing c.requires.looking d v g.F.Fingerprint.print c.requires.other.0
+      c.with_bit-mask.result (c.with_bit-mask.ensures ∙ mask_is g.D.Pm.state c.args.v.now c.args.sharing c.requires.looking d v g.F.Fingerprint.print
+      c.requires.other.0
       (c.requires.other.1 d v) c.mask_of.result c.mask_of.ensures)
       (record {
         any_moment = c.set_mask.ensures.committed;

@@ -21,7 +21,8 @@ pub is_masked-requires-clause-small : goal.is_masked-requires-clause-small
 is_masked-requires-clause-small g c = (place_small g.D.Pm.state c.args.v.now c.requires.agrees c.requires.running c.args.sharing c.requires.looking).0
 
 pub is_masked-requires-clause-inside : goal.is_masked-requires-clause-inside
-is_masked-requires-clause-inside g c = (place_small g.D.Pm.state c.args.v.now c.requires.agrees c.requires.running c.args.sharing c.requires.looking).3
+is_masked-requires-clause-inside g c = (place_small g.D.Pm.state c.args.v.now c.requires.agrees c.requires.running c.args.sharing
+    c.requires.looking).3
 
 pub is_masked-requires-clause-few : goal.is_masked-requires-clause-few
 is_masked-requires-clause-few g c = (place_small g.D.Pm.state c.args.v.now c.requires.agrees c.requires.running c.args.sharing c.requires.looking).1
@@ -41,7 +42,8 @@ by_page-requires-clause-page g c = place_page g.D.Pm.state c.args.v.now c.requir
     c.in-Some.ensures.found)
 
 pub returns-in-Some-by_page-clause-passed : goal.returns-in-Some-by_page-clause-passed
-returns-in-Some-by_page-clause-passed g c = λ d v. passed_row d c.args.v.now.parts (g.D.Pm.state c.args.v.now.device) v c.args.sharing c.requires.looking
+returns-in-Some-by_page-clause-passed g c = λ d v. passed_row d c.args.v.now.parts (g.D.Pm.state c.args.v.now.device) v c.args.sharing
+    c.requires.looking
     c.in-Some.mapping (subst (λ (ns : List InodeState). IsNextPlace ns c.args.sharing c.in-Some.mapping) c.deref.ensures.value
     c.in-Some.ensures.found) _ (c.in-Some-by_page.ensures.found d (is_table d c.args.v.now.parts (g.D.Pm.state c.args.v.now.device) v))
 

@@ -28,3 +28,12 @@ pub returns-clause-only : goal.returns-clause-only
 returns-clause-only g c =
     let S = g.D.Pm.state in
     stores_only-then _ (S c.args.device.now) (S c.count_row.new.device) (S c.drop_row.new.device) c.count_row.ensures.only c.drop_row.ensures.only
+
+pub returns-clause-still : goal.returns-clause-still
+returns-clause-still g c = on_ok_map c.drop_row.result _ _ (λ kept still. kept (c.in_ok-count_row.ensures.still still)) c.drop_row.ensures.still
+
+pub returns-clause-quiet : goal.returns-clause-quiet
+returns-clause-quiet g c =
+    let S = g.D.Pm.state in
+    λ still some. stores_only-then _ (S c.args.device.now) (S c.count_row.new.device) (S c.drop_row.new.device) (c.count_row.ensures.quiet still)
+    (c.drop_row.ensures.quiet some)

@@ -1,7 +1,7 @@
-use Rattle.std.proofs.Common.{◌≤◌, [], get_or, arith}
+use Rattle.std.proofs.Common.{[], get_or, arith}
 use Rattle.fact_scan.specs.declared.row.Row.{Row as RowValue}
 use Rattle.fact_scan.proofs.Listed.{get_at}
-use Rattle.table_repair.proofs.AllRows.{front_begins, has_next, next_images, next_only, next_front, front_ends}
+use Rattle.table_repair.proofs.AllRows.{front_begins, has_next, next_images, next_only, next_quiet, next_front, front_ends}
 use Rattle.table_repair.proofs.settle.settle_rows.Goals as goal
 
 abbrev none : RowValue
@@ -50,6 +50,11 @@ loop-row-preserved g c =
           (S c.loop-row.device) c.loop-row.invariant
           (get_or c.args.rows.now c.loop-row.row-index none) (get_at c.args.rows.now c.loop-row.row-index none (omega arith)) c.requires.table
           (S c.settle_row.new.device) c.settle_row.ensures.only;
+      still = λ still. c.in_ok-settle_row.ensures.still (c.loop-row.invariant.still still);
+      quiet = λ d is exact. next_quiet c.args.rows.now c.args.mapped.now c.loop-row.row-index c.args.fact.now c.loop-row.fact (S c.args.device.now)
+          (S c.loop-row.device) c.loop-row.invariant
+          (get_or c.args.rows.now c.loop-row.row-index none) (get_at c.args.rows.now c.loop-row.row-index none (omega arith)) d is
+          (S c.settle_row.new.device) c.settle_row.ensures.quiet exact;
       front = λ d is. next_front c.args.rows.now c.args.mapped.now c.loop-row.row-index c.args.fact.now c.loop-row.fact (S c.args.device.now)
           (S c.loop-row.device) c.loop-row.invariant
           (get_or c.args.rows.now c.loop-row.row-index none) (get_at c.args.rows.now c.loop-row.row-index none (omega arith)) d is
@@ -67,3 +72,14 @@ returns-clause-done g c =
     let S = g.D.Pm.state in
     λ d is. front_ends c.args.rows.now c.args.mapped.now c.loop-row.row-index c.args.fact.now c.loop-row.fact (S c.args.device.now)
     (S c.loop-row.device) c.loop-row.invariant (omega arith) d is
+
+pub returns-in_err-settle_row-clause-quiet : goal.returns-in_err-settle_row-clause-quiet
+returns-in_err-settle_row-clause-quiet g c =
+    let S = g.D.Pm.state in
+    λ d is exact. next_quiet c.args.rows.now c.args.mapped.now c.loop-row.row-index c.args.fact.now c.loop-row.fact (S c.args.device.now)
+    (S c.loop-row.device) c.loop-row.invariant
+    (get_or c.args.rows.now c.loop-row.row-index none) (get_at c.args.rows.now c.loop-row.row-index none (omega arith)) d is
+    (S c.settle_row.new.device) c.settle_row.ensures.quiet exact
+
+pub returns-clause-quiet : goal.returns-clause-quiet
+returns-clause-quiet g c = c.loop-row.invariant.quiet
