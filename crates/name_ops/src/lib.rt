@@ -13,3 +13,5 @@ pub mod plan;
 pub mod prepare;
 pub mod remove;
 pub mod rename;
+
+pub use names::{advance_name, begin_name};

@@ -122,6 +122,7 @@ pub ends_since : {D F : Type 0} (state : D → State) (who : ℕ) (ops first res
     → RunsScript state who ops u w (Err f)
 ends_since state who ops first rest op u v w split all steady fault.NoMemory is =
     (is.0, front_of who ops first rest u.parts.history.items v.parts.history.items w.parts.history.items split all is.1)
-ends_since state who ops first rest op u v w split all steady fault.Stopped is =
-    (stopped_since state u v w steady is.0,
-    front_of who ops first rest u.parts.history.items v.parts.history.items w.parts.history.items split all is.1)
+ends_since state who ops first rest op u v w split all steady fault.Stopped is = (
+  stopped_since state u v w steady is.0,
+  front_of who ops first rest u.parts.history.items v.parts.history.items w.parts.history.items split all is.1,
+)

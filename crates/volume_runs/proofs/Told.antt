@@ -76,23 +76,26 @@ module _ {D F : Type 0} (state : D → State) (print : Print) (who : ℕ) (op : 
   -- a begin
   opens_tell : (d : Disk) → IsVolume d v.parts (state v.device) → IsLoose v.parts → (outcome : Outcome) → Opens state print who op v v' d outcome
       → BeginTells state who op v v' outcome
-  opens_tell d volume loose (told.Running left) is = (record {
-    flight = is.flight;
-    flies = is.opens.flies;
-    op_is = is.opens.op_is;
-    only = λ q f flies. elim (cases_eq q who) [
-      | inl e ↦ e
-      | inr ne ↦ absurd (loose.landed q f (record {
-        client = flies.client;
-        is = sym (is.opens.same.others.flights q flies.client ne) ∙ flies.is;
-      }))
-    ];
-    none_begun = is.opens.same.work.sharing ∙ loose.none_begun;
-  }, record {
-    history = is.history;
-    running = is.volume.running;
-    faults = let same = is.device.faults in omega (arith, same);
-  })
+  opens_tell d volume loose (told.Running left) is = (
+    record {
+      flight = is.flight;
+      flies = is.opens.flies;
+      op_is = is.opens.op_is;
+      only = λ q f flies. elim (cases_eq q who) [
+        | inl e ↦ e
+        | inr ne ↦ absurd (loose.landed q f (record {
+          client = flies.client;
+          is = sym (is.opens.same.others.flights q flies.client ne) ∙ flies.is;
+        }))
+      ];
+      none_begun = is.opens.same.work.sharing ∙ loose.none_begun;
+    },
+    record {
+      history = is.history;
+      running = is.volume.running;
+      faults = let same = is.device.faults in omega (arith, same);
+    },
+  )
   opens_tell d volume loose (told.Done reply) is = (
     same_loose v.parts v'.parts is.same.flights is.same.work.sharing loose,
     adds who op v.parts.history.items v'.parts.history.items is.entry is.history is.who_is is.op_is,
@@ -112,8 +115,12 @@ module _ {D F : Type 0} (state : D → State) (print : Print) (who : ℕ) (op : 
   pub begin_tells : Agrees state v → IsLoose v.parts → 1 ≤ who → (outcome : Outcome) → Steps state print (Begin who op) v v' outcome
       → BeginTells state who op v v' outcome
   begin_tells (agrees_with d volume) loose some outcome steps =
-      opens_tell d volume loose outcome (steps.serves d volume (λ not. not (record { some = some; few = few; idle = no_flight v.parts loose.landed who
-      some }))).1
+      opens_tell d volume loose outcome (steps.serves d volume (λ not. not (record {
+        some = some;
+        few = few;
+        idle = no_flight v.parts loose.landed who
+            some;
+      }))).1
   begin_tells (is_stopped is) loose some outcome steps =
       let said = steps.stopped is.stopped in
       subst (BeginTells state who op v v') (sym said.0) (inl is.stopped, ap (λ (w : Volume D F). w.parts.history.items) said.1)
@@ -128,31 +135,36 @@ module _ {D F : Type 0} (state : D → State) (print : Print) (who : ℕ) (op : 
 
   advances_tell : (d : Disk) → FliesAlone v.parts who op → (outcome : Outcome) → (f : Flight) → Flies v.parts who f → f.op ≡ op
       → Advances state print who f.op (left_of f) v v' d outcome → AdvanceTells state who op v v' outcome
-  advances_tell d alone (told.Running n) f flies op_is is = (record {
-    flight = is.1.flight;
-    flies = is.1.flies;
-    op_is = is.1.op_is ∙ op_is;
-    only = λ q g others. let was = is.0.ops.only q g others in alone.only q was.0 was.1;
-    none_begun = is.0.moves.others.sharing (λ e. omega (arith, e, few)) ∙ alone.none_begun;
-  }, record {
-    history = is.0.history;
-    running = is.0.moves.volume.running;
-    faults = is.0.moves.faults;
-  },
+  advances_tell d alone (told.Running n) f flies op_is is = (
+    record {
+      flight = is.1.flight;
+      flies = is.1.flies;
+      op_is = is.1.op_is ∙ op_is;
+      only = λ q g others. let was = is.0.ops.only q g others in alone.only q was.0 was.1;
+      none_begun = is.0.moves.others.sharing (λ e. omega (arith, e, few)) ∙ alone.none_begun;
+    },
+    record {
+      history = is.0.history;
+      running = is.0.moves.volume.running;
+      faults = is.0.moves.faults;
+    },
     let now = left_is v'.parts is.1.flight is.1.flies in
-    let was = left_is v.parts f flies in
-    let left_now = is.1.left_is in
-    let lower = is.2 in
-    omega (arith, now, was, left_now, lower),
+        let was = left_is v.parts f flies in
+        let left_now = is.1.left_is in
+        let lower = is.2 in
+        omega (arith, now, was, left_now, lower),
   )
-  advances_tell d alone (told.Done reply) f flies op_is is = (record {
-    landed = λ q g others. elim (cases_eq q who) [
-      | inl e ↦ no_flight_there g (sym is.0.landed ∙ subst (λ (n : ℕ). flight_at v'.parts.flights.items (n - 1) ≡ Some g) e others.is)
-      | inr ne ↦ ne (alone.only q g (record { client = others.client; is = sym (is.0.moves.others.flights q others.client ne) ∙ others.is }))
-    ];
-    none_begun = is.0.moves.others.sharing (λ e. omega (arith, e, few)) ∙ alone.none_begun;
-  }, adds who op v.parts.history.items v'.parts.history.items is.0.entry is.0.history is.0.who_is (is.0.op_is ∙ op_is),
-    steady is.0.moves.volume.running is.0.moves.faults)
+  advances_tell d alone (told.Done reply) f flies op_is is = (
+    record {
+      landed = λ q g others. elim (cases_eq q who) [
+        | inl e ↦ no_flight_there g (sym is.0.landed ∙ subst (λ (n : ℕ). flight_at v'.parts.flights.items (n - 1) ≡ Some g) e others.is)
+        | inr ne ↦ ne (alone.only q g (record { client = others.client; is = sym (is.0.moves.others.flights q others.client ne) ∙ others.is }))
+      ];
+      none_begun = is.0.moves.others.sharing (λ e. omega (arith, e, few)) ∙ alone.none_begun;
+    },
+    adds who op v.parts.history.items v'.parts.history.items is.0.entry is.0.history is.0.who_is (is.0.op_is ∙ op_is),
+    steady is.0.moves.volume.running is.0.moves.faults,
+  )
     where
       no_flight_there : (g : Flight) → None ≡ Some g → ⊥
       no_flight_there g e = cc

@@ -3,9 +3,7 @@ ghost use Rattle.std.specs.Prelude.{◌≡◌, ◌≤◌};
 ghost use Rattle.dn_volume.specs.Agrees.{Agrees};
 ghost use Rattle.volume_runs.specs.Reaching.{Reaches, IsLoose, FliesAlone, BeginsOp, RunsOp, RunsScript};
 
-use dn_core::machines::Machines;
-use dn_core::step::step;
-use dn_core::Event;
+use dn_core::{Event, step};
 use dn_model::Op;
 use dn_volume::{Outcome, Volume};
 use fingerprint::Fingerprint;
@@ -36,7 +34,7 @@ impl From<AllocError> for RunFault {
 }
 
 // Begins an operation, again for as long as it waits for releases: whether it is in flight, or else answered.
-fn begin_op<D: Pm, F: Fingerprint, M: Machines<D, F>>(
+fn begin_op<D: Pm, F: Fingerprint>(
     alloc: Global,
     v: &mut Volume<D, F>,
     who: u32,
@@ -51,7 +49,7 @@ fn begin_op<D: Pm, F: Fingerprint, M: Machines<D, F>>(
 {
     loop {
         let again = op.copy(alloc)?;
-        match step::<D, F, M>(alloc, v, Event::Begin { who, op: again }) {
+        match step(alloc, v, Event::Begin { who, op: again }) {
             Outcome::Running { .. } => return Ok(true),
             Outcome::Done(_) => return Ok(false),
             Outcome::NoMemory => return Err(RunFault::NoMemory),
@@ -63,7 +61,7 @@ fn begin_op<D: Pm, F: Fingerprint, M: Machines<D, F>>(
 }
 
 // Goes on with an operation in flight until it is answered.
-fn finish_op<D: Pm, F: Fingerprint, M: Machines<D, F>>(
+fn finish_op<D: Pm, F: Fingerprint>(
     alloc: Global,
     v: &mut Volume<D, F>,
     who: u32,
@@ -77,7 +75,7 @@ fn finish_op<D: Pm, F: Fingerprint, M: Machines<D, F>>(
     ensures runs { RunsOp D.state who op.now v.old v.new result }
 {
     loop {
-        match step::<D, F, M>(alloc, v, Event::Advance { who }) {
+        match step(alloc, v, Event::Advance { who }) {
             Outcome::Running { .. } => {}
             Outcome::Done(_) => return Ok(()),
             Outcome::Stopped => return Err(RunFault::Stopped),
@@ -87,7 +85,7 @@ fn finish_op<D: Pm, F: Fingerprint, M: Machines<D, F>>(
 }
 
 // Runs one operation to its reply.
-fn run_op<D: Pm, F: Fingerprint, M: Machines<D, F>>(
+fn run_op<D: Pm, F: Fingerprint>(
     alloc: Global,
     v: &mut Volume<D, F>,
     who: u32,
@@ -100,8 +98,8 @@ fn run_op<D: Pm, F: Fingerprint, M: Machines<D, F>>(
     ensures reaches { Reaches D.state F.print v.old v.new }
     ensures runs { RunsOp D.state who op.now v.old v.new result }
 {
-    if begin_op::<D, F, M>(alloc, v, who, op)? {
-        return finish_op::<D, F, M>(alloc, v, who, op);
+    if begin_op(alloc, v, who, op)? {
+        return finish_op(alloc, v, who, op);
     }
     Ok(())
 }
@@ -112,7 +110,7 @@ fn run_op<D: Pm, F: Fingerprint, M: Machines<D, F>>(
 /// # Errors
 /// `NoMemory` where an operation found no memory, or its copy none. `Stopped` where the volume was stopped, or a fence of
 /// the device failed. The operations before have their replies in the history then.
-pub fn run_script<D: Pm, F: Fingerprint, M: Machines<D, F>>(
+pub fn run_script<D: Pm, F: Fingerprint>(
     alloc: Global,
     v: &mut Volume<D, F>,
     who: u32,
@@ -126,7 +124,7 @@ pub fn run_script<D: Pm, F: Fingerprint, M: Machines<D, F>>(
     ensures runs { RunsScript D.state who ops.now v.old v.new result }
 {
     for op in ops {
-        run_op::<D, F, M>(alloc, v, who, op)?;
+        run_op(alloc, v, who, op)?;
     }
     Ok(())
 }

@@ -1,6 +1,6 @@
 use Rattle.std.proofs.Common.{◌≡◌}
 use Rattle.dn_core.proofs.Served.{advance_served, advance_refused}
-use Rattle.dn_core.proofs.step.advance.Goals as goal
+use Rattle.dn_core.proofs.stepping.advance.Goals as goal
 
 pub returns-then-in_flight-clause-event : goal.returns-then-in_flight-clause-event
 returns-then-in_flight-clause-event g c =

@@ -9,15 +9,14 @@ ghost use Rattle.dn_core.specs.Rest.{AllRest, IsWork, Drained, DrainFails, Round
 ghost use Rattle.dn_core.specs.Working.{WorksOnce};
 
 use crate::event::{DrainFault, Event};
-use crate::machines::Machines;
-use crate::step::step;
+use crate::stepping::step;
 use dn_volume::{Outcome, Volume};
 use fingerprint::Fingerprint;
 use pm_device::Pm;
 use std::alloc::Global;
 
 // One event of the daemon or of reclaim: whether it had nothing to do.
-fn work_once<D: Pm, F: Fingerprint, M: Machines<D, F>>(
+fn work_once<D: Pm, F: Fingerprint>(
     alloc: Global,
     v: &mut Volume<D, F>,
     event: Event,
@@ -28,7 +27,7 @@ fn work_once<D: Pm, F: Fingerprint, M: Machines<D, F>>(
     ensures agrees { Agrees D.state v.new }
     ensures once { WorksOnce D.state F.print event v.old v.new result }
 {
-    match step::<D, F, M>(alloc, v, event) {
+    match step(alloc, v, event) {
         Outcome::Idle => Ok(true),
         Outcome::Running { .. } => Ok(false),
         Outcome::NoMemory => Err(DrainFault::NoMemory),
@@ -42,10 +41,7 @@ fn work_once<D: Pm, F: Fingerprint, M: Machines<D, F>>(
 ///
 /// # Errors
 /// `NoMemory` where an event found no memory. `Stopped` where the volume was stopped, or a fence of the device failed.
-pub fn drain<D: Pm, F: Fingerprint, M: Machines<D, F>>(
-    alloc: Global,
-    v: &mut Volume<D, F>,
-) -> Result<(), DrainFault>
+pub fn drain<D: Pm, F: Fingerprint>(alloc: Global, v: &mut Volume<D, F>) -> Result<(), DrainFault>
     requires agrees { Agrees D.state v.old }
     requires landed { AllLanded v.old.parts }
     ensures agrees { Agrees D.state v.new }
@@ -58,8 +54,8 @@ pub fn drain<D: Pm, F: Fingerprint, M: Machines<D, F>>(
         → Sound D.state F.print base v.new }
 {
     loop {
-        let reclaim_rests = work_once::<D, F, M>(alloc, v, Event::Reclaim)?;
-        let daemon_rests = work_once::<D, F, M>(alloc, v, Event::Daemon)?;
+        let reclaim_rests = work_once(alloc, v, Event::Reclaim)?;
+        let daemon_rests = work_once(alloc, v, Event::Daemon)?;
         if reclaim_rests & daemon_rests {
             return Ok(());
         }

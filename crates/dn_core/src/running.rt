@@ -6,8 +6,7 @@ ghost use Rattle.dn_volume.specs.Sound.{Sound};
 ghost use Rattle.dn_core.specs.Run.{Run, Records};
 
 use crate::event::Event;
-use crate::machines::Machines;
-use crate::step::step;
+use crate::stepping::step;
 use dn_volume::{Outcome, Volume};
 use fingerprint::Fingerprint;
 use pm_device::Pm;
@@ -15,7 +14,7 @@ use std::alloc::{AllocError, Global};
 
 /// Makes these events one after another, and answers the outcome of each. Where there is no memory for the outcomes,
 /// nothing was done.
-pub fn run_events<D: Pm, F: Fingerprint, M: Machines<D, F>>(
+pub fn run_events<D: Pm, F: Fingerprint>(
     alloc: Global,
     v: &mut Volume<D, F>,
     events: Vec<Event>,
@@ -30,7 +29,7 @@ pub fn run_events<D: Pm, F: Fingerprint, M: Machines<D, F>>(
 {
     let mut outcomes = Vec::with_capacity(alloc, events.len())?;
     for event in events {
-        let outcome = step::<D, F, M>(alloc, v, event);
+        let outcome = step(alloc, v, event);
         outcomes.push_reserved(outcome);
     }
     Ok(outcomes)

@@ -2,7 +2,7 @@ use Rattle.std.proofs.Common.{◌≡◌, ◌≤◌, ◌+◌, length}
 use Rattle.std.specs.Prelude.{vec_len, vec_capacity}
 use Rattle.dn_volume.specs.Agrees.{Agrees}
 use Rattle.dn_core.specs.Run.{Run, Records}
-use Rattle.dn_core.proofs.run.run_events.Given as goal
+use Rattle.dn_core.proofs.running.run_events.Given as goal
 
 abbrev pub invariant-loop-event : goal.invariant-loop-event
 invariant-loop-event g l = record {

@@ -3,7 +3,7 @@ use Rattle.dn_core.proofs.Sounds.{steps_stay_sound}
 use Rattle.dn_core.proofs.Leaves.{steps_leave_images}
 use Rattle.dn_core.proofs.Adding.{steps_add, records_none, records_next}
 use Rattle.dn_core.proofs.Promised.{headline_holds}
-use Rattle.dn_core.proofs.step.step.Goals as goal
+use Rattle.dn_core.proofs.stepping.step.Goals as goal
 
 pub returns-clause-sound : goal.returns-clause-sound
 returns-clause-sound g c base sound =

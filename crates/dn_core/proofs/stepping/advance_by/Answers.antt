@@ -3,7 +3,7 @@ use Rattle.std.specs.Prelude.{Some}
 use Rattle.dn_model.specs.Disk.{Disk}
 use Rattle.dn_volume.specs.declared.kind.FlightKind.TheVariants.{Write, Cut, Names}
 use Rattle.dn_core.proofs.Served.{found, flies_as, goes_on, some_machine}
-use Rattle.dn_core.proofs.step.advance_by.Goals as goal
+use Rattle.dn_core.proofs.stepping.advance_by.Goals as goal
 
 pub advance_write-requires-clause-flies : goal.advance_write-requires-clause-flies
 advance_write-requires-clause-flies g c =

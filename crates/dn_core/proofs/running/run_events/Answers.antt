@@ -2,7 +2,7 @@ use Rattle.std.proofs.Common.{◌≡◌, ◌++◌, ◌∷◌, [], List, sym, ap,
 use Rattle.dn_volume.specs.declared.outcome.Outcome.{Outcome}
 use Rattle.dn_core.specs.Run.{Run, Records, at_first, then_next}
 use Rattle.dn_core.proofs.Adding.{steps_add, records_none, records_next, runs_stay_sound}
-use Rattle.dn_core.proofs.run.run_events.Goals as goal
+use Rattle.dn_core.proofs.running.run_events.Goals as goal
 
 pub loop-event-init : goal.loop-event-init
 loop-event-init g c =

@@ -17,14 +17,13 @@ ghost use Rattle.dn_core.specs.Run.{Run, Records};
 ghost use Rattle.dn_core.specs.Steps.{Steps, Opens, GoesOn, ReleasesInstead};
 
 use crate::event::Event;
-use crate::machines::Machines;
 use dedupe_daemon::daemon;
 use dn_model::{CLIENTS, Op};
 use dn_volume::{FlightKind, Outcome, Volume};
 use file_ops::{advance_write, begin_write, read};
 use fingerprint::Fingerprint;
 use name_ops::list::list;
-use name_ops::names::begin_name;
+use name_ops::{advance_name, begin_name};
 use pm_device::Pm;
 use reclaim::reclaim;
 use size_ops::{advance_cut, begin_cut, size};
@@ -38,7 +37,7 @@ fn may_begin<D: Pm, F: Fingerprint>(v: &Volume<D, F>, who: u32) -> bool
 }
 
 // The begin by the machine that serves this kind of operation.
-fn begin_served<D: Pm, F: Fingerprint, M: Machines<D, F>>(
+fn begin_served<D: Pm, F: Fingerprint>(
     alloc: Global,
     v: &mut Volume<D, F>,
     who: u32,
@@ -79,12 +78,7 @@ fn release_instead<D: Pm, F: Fingerprint>(v: &mut Volume<D, F>) -> Outcome
 }
 
 // A begin by a client that may.
-fn begin_by<D: Pm, F: Fingerprint, M: Machines<D, F>>(
-    alloc: Global,
-    v: &mut Volume<D, F>,
-    who: u32,
-    op: Op,
-) -> Outcome
+fn begin_by<D: Pm, F: Fingerprint>(alloc: Global, v: &mut Volume<D, F>, who: u32, op: Op) -> Outcome
     requires agrees { Agrees D.state v.old }
     requires running { v.old.parts.stopped ≡ false }
     requires begins { MayBegin v.old.parts who }
@@ -92,14 +86,14 @@ fn begin_by<D: Pm, F: Fingerprint, M: Machines<D, F>>(
     ensures event { (d : Disk) → IsVolume d v.old.parts (D.state v.old.device)
         → Opens D.state F.print who op v.old v.new d result }
 {
-    match begin_served::<D, F, M>(alloc, v, who, op) {
+    match begin_served(alloc, v, who, op) {
         Outcome::Released { .. } => release_instead(v),
         outcome => outcome,
     }
 }
 
 // An advance by a client that has an operation in flight.
-fn advance_by<D: Pm, F: Fingerprint, M: Machines<D, F>>(v: &mut Volume<D, F>, who: u32) -> Outcome
+fn advance_by<D: Pm, F: Fingerprint>(v: &mut Volume<D, F>, who: u32) -> Outcome
     requires agrees { Agrees D.state v.old }
     requires running { v.old.parts.stopped ≡ false }
     requires flies { IsSome (flight_of v.old.parts who) }
@@ -110,50 +104,41 @@ fn advance_by<D: Pm, F: Fingerprint, M: Machines<D, F>>(v: &mut Volume<D, F>, wh
     match v.kind_in_flight(who) {
         Some(FlightKind::Write) => advance_write(v, who),
         Some(FlightKind::Cut) => advance_cut(v, who),
-        Some(FlightKind::Names) => M::advance_name(v, who),
+        Some(FlightKind::Names) => advance_name(v, who),
         None => unreachable!(),
     }
 }
 
 // A begin on a volume that isn't stopped.
-fn begin<D: Pm, F: Fingerprint, M: Machines<D, F>>(
-    alloc: Global,
-    v: &mut Volume<D, F>,
-    who: u32,
-    op: Op,
-) -> Outcome
+fn begin<D: Pm, F: Fingerprint>(alloc: Global, v: &mut Volume<D, F>, who: u32, op: Op) -> Outcome
     requires agrees { Agrees D.state v.old }
     requires running { v.old.parts.stopped ≡ false }
     ensures agrees { Agrees D.state v.new }
     ensures event { Steps D.state F.print (Event.Begin who op) v.old v.new result }
 {
     if may_begin(v, who) {
-        begin_by::<D, F, M>(alloc, v, who, op)
+        begin_by(alloc, v, who, op)
     } else {
         Outcome::NotYours
     }
 }
 
 // An advance on a volume that isn't stopped.
-fn advance<D: Pm, F: Fingerprint, M: Machines<D, F>>(v: &mut Volume<D, F>, who: u32) -> Outcome
+fn advance<D: Pm, F: Fingerprint>(v: &mut Volume<D, F>, who: u32) -> Outcome
     requires agrees { Agrees D.state v.old }
     requires running { v.old.parts.stopped ≡ false }
     ensures agrees { Agrees D.state v.new }
     ensures event { Steps D.state F.print (Event.Advance who) v.old v.new result }
 {
     if v.in_flight(who) {
-        advance_by::<D, F, M>(v, who)
+        advance_by(v, who)
     } else {
         Outcome::NotYours
     }
 }
 
 // Makes one event.
-fn step_once<D: Pm, F: Fingerprint, M: Machines<D, F>>(
-    alloc: Global,
-    v: &mut Volume<D, F>,
-    event: Event,
-) -> Outcome
+fn step_once<D: Pm, F: Fingerprint>(alloc: Global, v: &mut Volume<D, F>, event: Event) -> Outcome
     requires agrees { Agrees D.state v.old }
     ensures agrees { Agrees D.state v.new }
     ensures event { Steps D.state F.print event v.old v.new result }
@@ -162,19 +147,15 @@ fn step_once<D: Pm, F: Fingerprint, M: Machines<D, F>>(
         return Outcome::Stopped;
     }
     match event {
-        Event::Begin { who, op } => begin::<D, F, M>(alloc, v, who, op),
-        Event::Advance { who } => advance::<D, F, M>(v, who),
+        Event::Begin { who, op } => begin(alloc, v, who, op),
+        Event::Advance { who } => advance(v, who),
         Event::Daemon => daemon(v),
         Event::Reclaim => reclaim(v),
     }
 }
 
 /// Makes one event of a client, of the daemon or of reclaim, and answers how it went.
-pub fn step<D: Pm, F: Fingerprint, M: Machines<D, F>>(
-    alloc: Global,
-    v: &mut Volume<D, F>,
-    event: Event,
-) -> Outcome
+pub fn step<D: Pm, F: Fingerprint>(alloc: Global, v: &mut Volume<D, F>, event: Event) -> Outcome
     requires agrees { Agrees D.state v.old }
     ensures agrees { Agrees D.state v.new }
     ensures event { Steps D.state F.print event v.old v.new result }
@@ -188,5 +169,5 @@ pub fn step<D: Pm, F: Fingerprint, M: Machines<D, F>>(
         → Run D.state F.print u events outcomes v.old → v.old.parts.stopped ≡ false
         → Headline D.state F.print base events outcomes v.old v.new event result }
 {
-    step_once::<D, F, M>(alloc, v, event)
+    step_once(alloc, v, event)
 }

@@ -8,7 +8,7 @@ use Rattle.dn_core.specs.Rest.{AreFullRounds, AreRounds, no_round, one_more, ful
 use Rattle.dn_core.specs.Working.{WorksOnce, Draining}
 use Rattle.dn_core.proofs.Adding.{runs_stay_sound}
 use Rattle.dn_core.proofs.Drains.{draining_none, draining_on, ended_run, ended_history, ended_quiet, ended_fails, both_rest, round_lowers, first_of, second_of, not_both}
-use Rattle.dn_core.proofs.drain.drain.Goals as goal
+use Rattle.dn_core.proofs.draining.drain.Goals as goal
 
 pub loop-reclaim_rests-init : goal.loop-reclaim_rests-init
 loop-reclaim_rests-init g c = record {

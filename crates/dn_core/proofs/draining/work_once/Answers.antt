@@ -2,7 +2,7 @@ use Rattle.std.proofs.Common.{◌≡◌, subst}
 use Rattle.dn_volume.specs.declared.outcome.Outcome.{Outcome}
 use Rattle.dn_core.specs.Steps.{Steps}
 use Rattle.dn_core.proofs.Worked.{worked_idle, worked_running, worked_memory, worked_stopped, worked_never}
-use Rattle.dn_core.proofs.drain.work_once.Goals as goal
+use Rattle.dn_core.proofs.draining.work_once.Goals as goal
 
 pub returns-in-Idle-clause-once : goal.returns-in-Idle-clause-once
 returns-in-Idle-clause-once g c =

@@ -3,7 +3,7 @@ use Rattle.dn_volume.specs.Agrees.{Agrees}
 use Rattle.dn_core.specs.declared.event.Event.{Event}
 use Rattle.dn_core.specs.Rest.{AreFullRounds}
 use Rattle.dn_core.specs.Working.{Draining, work_left}
-use Rattle.dn_core.proofs.drain.drain.Given as goal
+use Rattle.dn_core.proofs.draining.drain.Given as goal
 
 abbrev pub invariant-loop-reclaim_rests : goal.invariant-loop-reclaim_rests
 invariant-loop-reclaim_rests g l = record {

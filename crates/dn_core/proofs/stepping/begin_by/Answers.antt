@@ -1,7 +1,7 @@
 use Rattle.std.proofs.Common.{◌≡◌}
 use Rattle.dn_model.specs.Disk.{Disk}
 use Rattle.dn_core.proofs.Served.{opens_instead, waits_some, running_still}
-use Rattle.dn_core.proofs.step.begin_by.Goals as goal
+use Rattle.dn_core.proofs.stepping.begin_by.Goals as goal
 
 pub returns-in-Released-clause-event : goal.returns-in-Released-clause-event
 returns-in-Released-clause-event g c d volume =
