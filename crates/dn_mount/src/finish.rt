@@ -1,6 +1,5 @@
 // Dying files are finished.
 ghost use Rattle.std.specs.Prelude.{◌≡◌, ◌≤◌, OnOk, IfErr};
-ghost use Rattle.pm_device.specs.Settled.{StoresOnly, Nowhere};
 ghost use Rattle.dn_model.specs.Disk.{Disk};
 ghost use Rattle.dn_volume.specs.Agrees.{Agrees, IsVolume};
 ghost use Rattle.dn_mount.specs.Mounted.{LeavesMounts};
