@@ -1,12 +1,12 @@
 -- Events that change no file, one after another.
-use Rattle.std.proofs.Common.{◌≡◌, ◌⊎◌, inl, inr, ⊎_elim, ℕ, ◌≤◌, List, refl, sym, ◌∙◌, arith}
+use Rattle.std.proofs.Common.{⊎_elim, ℕ, refl, ◌∙◌, arith}
 use Rattle.std.specs.Prelude.{None}
 use Rattle.pm_device.specs.State.{State, Agree}
 use Rattle.pm_device.specs.Settled.{LeavesOnly}
 use Rattle.pm_device.proofs.Moments.{leaves_only-weaken}
 use Rattle.dn_model.specs.Disk.{Disk}
 use Rattle.dn_model.specs.Files.{files, IsSameFiles}
-use Rattle.dn_model.specs.Own.{Print, IsOwn}
+use Rattle.dn_model.specs.Own.{Print}
 use Rattle.dn_volume.specs.declared.volume.Volume.{Volume}
 use Rattle.dn_volume.specs.Agrees.{IsVolume}
 use Rattle.dn_volume.specs.Events.{IsBetween, MovesOn, Breaks}
@@ -21,7 +21,7 @@ pub keeps_then : (print : Print) (d e f : Disk) → KeepsFiles print d e → Kee
 keeps_then print d e f first next = record { same = λ name. next.same name ∙ first.same name; own = λ own. next.own (first.own own) }
 
 -- images between two disks with the same files
-between_later : (print : Print) (d e : Disk) → IsSameFiles (files e) (files d) → (s u : State) → LeavesOnly s u (IsBetween print d e)
+pub between_later : (print : Print) (d e : Disk) → IsSameFiles (files e) (files d) → (s u : State) → LeavesOnly s u (IsBetween print d e)
     → LeavesOnly s u (HasLater (KeepsFiles print) d)
 between_later print d e quiet s u leaves = leaves_only-weaken s u (IsBetween print d e) (HasLater (KeepsFiles print) d)
     (λ c (is : IsBetween print d e c). record {
@@ -35,7 +35,7 @@ between_later print d e quiet s u leaves = leaves_only-weaken s u (IsBetween pri
     }) leaves
 
 module _ {D F : Type 0} (state : D → State) (print : Print) where
-  pub stays_none : (v : Volume D F) (d : Disk) → IsVolume d v.parts (state v.device) → Agree (state v.device).now (state v.device).past
+  unfoldable pub stays_none : (v : Volume D F) (d : Disk) → IsVolume d v.parts (state v.device) → Agree (state v.device).now (state v.device).past
       → StaysOn state print v v d
   stays_none v d is agree = record {
     after = d;
@@ -47,7 +47,7 @@ module _ {D F : Type 0} (state : D → State) (print : Print) where
   }
 
   module _ (v w : Volume D F) (d : Disk) (is : StaysOn state print v w d) where
-    pub stays_more : (who : ℕ) (x : Volume D F) → MovesOn state print who w x is.after → StaysOn state print v x d
+    unfoldable pub stays_more : (who : ℕ) (x : Volume D F) → MovesOn state print who w x is.after → StaysOn state print v x d
     stays_more who x on = record {
       after = on.after;
       volume = on.moves.volume;

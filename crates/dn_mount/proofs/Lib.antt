@@ -4,3 +4,7 @@ pub mod Events
 pub mod Ready
 pub mod WholeRead
 pub mod Repaired
+pub mod Finished
+pub mod FilePages
+pub mod SoundNow
+pub mod Opened

@@ -1,5 +1,5 @@
 -- A rollback leaves images that stand for what the words stood for.
-use Rattle.std.proofs.Common.{◌≡◌, ◌⊎◌, inl, inr, ⊎_elim, ℕ, ◌+◌, ◌*◌, ◌/◌, ◌%◌, ◌<◌, ◌≤◌, List, length, sym, ◌∙◌, ap, subst, arith}
+use Rattle.std.proofs.Common.{◌≡◌, ◌⊎◌, inl, inr, ⊎_elim, ℕ, ◌+◌, ◌*◌, ◌/◌, ◌%◌, ◌<◌, ◌≤◌, List, length, sym, ◌∙◌, subst, arith}
 use Rattle.std.specs.Prelude.{slice_index, Option}
 use Rattle.pm_device.specs.Past.{Past, Left, moment}
 use Rattle.pm_device.specs.State.{State, Agree, IsSame, Rose}

@@ -3,3 +3,5 @@ pub mod Kept
 pub mod Faults
 pub mod Mounted
 pub mod Reading
+pub mod Finishing
+pub mod Opening

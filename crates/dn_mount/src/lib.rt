@@ -3,6 +3,8 @@
 #![tactic(auto)]
 
 pub mod fault;
+pub mod finish;
+pub mod mount;
 pub mod parts;
 pub mod prepare;
 pub mod read;

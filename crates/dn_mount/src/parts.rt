@@ -3,7 +3,7 @@ ghost use Rattle.std.specs.Prelude.{◌≡◌, ℕ, ◌<◌, None, length, IfOk}
 ghost use Rattle.pm_device.specs.State.{State};
 ghost use Rattle.dn_model.specs.Disk.{Disk};
 ghost use Rattle.dn_volume.specs.Agrees.{IsVolume};
-ghost use Rattle.dn_mount.specs.Scanned.{IsScanOf, AreNoFlights};
+ghost use Rattle.dn_mount.specs.Scanned.{IsScanOf, AreNoFlights, IsFreshOf};
 
 use dedupe_queue::WorkQueue;
 use dn_volume::{Flight, InodeState, Parts, Reclaiming, Room};
@@ -49,7 +49,9 @@ fn no_flights(alloc: Global) -> Result<Vec<Option<Flight>>, AllocError>
 /// # Errors
 /// `AllocError` where memory runs out.
 pub fn volume_of_scan(alloc: Global, scan: Scan) -> Result<Parts, AllocError>
-    ensures { IfOk result (λ b. (d : Disk) (s : State) → IsScanOf d scan s → IsVolume d b s) }
+    ensures volume { IfOk result (λ b. (d : Disk) (s : State) → IsScanOf d scan s
+        → IsVolume d b s) }
+    ensures fresh { IfOk result (IsFreshOf scan) }
 {
     let flights = no_flights(alloc)?;
     Ok(Parts {

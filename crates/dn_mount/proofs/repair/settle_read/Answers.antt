@@ -1,10 +1,9 @@
-use Rattle.std.proofs.Common.{◌≡◌, ◌<◌, ℕ, List, length, map, refl, sym, ap, subst, ◌∙◌, arith}
+use Rattle.std.proofs.Common.{◌<◌, ℕ, List, length, map, sym, ap, subst, arith}
 use Rattle.std.specs.Prelude.{All}
 use Rattle.pm_device.specs.Settled.{Nowhere}
 use Rattle.pm_device.proofs.Only.{stores_only-none}
 use Rattle.pm_layout.specs.Geometry.{slots}
 use Rattle.pm_layout.specs.declared.Geometry.{Geometry}
-use Rattle.dn_model.specs.Disk.{Disk}
 use Rattle.fact_scan.specs.Seen.{as_row}
 use Rattle.fact_scan.specs.declared.row.Row.{Row as RowValue}
 use Rattle.fact_table.specs.Table.{IsTable}
@@ -13,8 +12,6 @@ use Rattle.image_uses.specs.Uses.{IsCounted}
 use Rattle.image_keep.specs.Free.{AreFreePages}
 use Rattle.dn_check.proofs.Judging.{counted_as}
 use Rattle.table_repair.specs.Settling.{IsTableToSettle}
-use Rattle.dn_mount.specs.Reading.{IsReadyOf}
-use Rattle.dn_mount.specs.Mounted.{IsRepaired}
 use Rattle.dn_mount.proofs.Ready.{slots_small, rows_few, rows_of, to_settle, nothing_settled, is_counted, is_scan}
 use Rattle.dn_mount.proofs.repair.settle_read.Goals as goal
 
