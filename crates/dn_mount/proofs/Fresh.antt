@@ -1,44 +1,14 @@
 -- The parts of a volume that was just mounted agree with the device.
-use Rattle.std.proofs.Common.{
-  ◌≡◌,
-  ◌≢◌,
-  ◌⊎◌,
-  inl,
-  inr,
-  ⊎_elim,
-  ℕ,
-  zero,
-  suc,
-  ◌+◌,
-  ◌-◌,
-  ◌*◌,
-  ◌<◌,
-  ◌≤◌,
-  Bool,
-  false,
-  List,
-  [],
-  ◌∷◌,
-  ◌++◌,
-  length,
-  refl,
-  sym,
-  ◌∙◌,
-  ap,
-  subst,
-  arith,
-  get_or,
-}
-use Rattle.std.specs.Prelude.{Option, Some, None, Contains, All, slice_get, vec_len, vec_capacity}
+use Rattle.std.proofs.Common.{◌≡◌, ◌≢◌, inl, ℕ, zero, suc, ◌-◌, ◌<◌, ◌≤◌, false, List, [], ◌∷◌, ◌++◌, length, refl, sym, ◌∙◌, ap, subst, arith, get_or}
+use Rattle.std.specs.Prelude.{Option, Some, None, Contains, slice_get, vec_len, vec_capacity}
 use Rattle.std.specs.VecDeque.{deque_len, deque_capacity}
 use Rattle.std.proofs.lemmas.List.Elements.{All-contains}
 use Rattle.pm_device.specs.State.{State}
 use Rattle.pm_layout.specs.declared.Geometry.{Geometry}
 use Rattle.pm_layout.specs.Geometry.{slots}
-use Rattle.page_alloc.specs.Free.{FreePages}
-use Rattle.dn_model.specs.Table.{Row, row_of}
+use Rattle.dn_model.specs.Table.{Row}
 use Rattle.dn_model.specs.Disk.{Disk, rows}
-use Rattle.dn_model.specs.Counts.{total, mappings, IsFree}
+use Rattle.dn_model.specs.Counts.{mappings, IsFree}
 use Rattle.law_write.specs.Events.{IsUnused}
 use Rattle.law_write.proofs.Counting.{total-zero}
 use Rattle.law_table.proofs.Rows.{all_listed, none_found}
@@ -49,19 +19,17 @@ use Rattle.dn_volume.specs.declared.volume.Parts.{Parts}
 use Rattle.dn_volume.specs.declared.volume.Room.{Room}
 use Rattle.dn_volume.specs.declared.volume.InodeState.{InodeState}
 use Rattle.dn_model.specs.declared.op.CountChange.{CountChange}
-use Rattle.dn_volume.specs.declared.background.Sharing.{Sharing}
 use Rattle.dn_volume.specs.Parties.{Flies, flight_at, Holds, by_client, by_daemon, Takes, for_client}
 use Rattle.dn_volume.specs.Agrees.{IsVolume, NamesSlots, StandsFast}
 use Rattle.dn_volume.specs.Inodes.{AreInodesOf, AreNamesOf, AreHolders}
 use Rattle.dn_volume.specs.Space.{HasSpace, AreSlotsOf}
 use Rattle.dn_volume.specs.Balance.{AreCounted, times, raised_by, raised_to_share, added_to_share, raised_to_die, raised, added, dropped}
-use Rattle.dn_volume.specs.Shares.{IsQueued, Shares, IsWaiting, in_queue}
-use Rattle.dn_volume.specs.Flights.{AreFlights}
-use Rattle.dn_volume.specs.Reclaims.{IsReclaiming, one_if, dying_units}
+use Rattle.dn_volume.specs.Shares.{IsQueued, in_queue}
+use Rattle.dn_volume.specs.Reclaims.{IsReclaiming, one_if}
 use Rattle.dn_volume.specs.Reserve.{Owes, HasRoom, owed_to, owed_sum, units_to_share, changes_to_share}
 use Rattle.dn_mount.specs.declared.parts.Scan.{Scan}
 use Rattle.image_keep.specs.Free.{AreFreePages}
-use Rattle.dn_mount.specs.Scanned.{AreNoFlights, Waits, IsScanOf}
+use Rattle.dn_mount.specs.Scanned.{AreNoFlights, IsScanOf}
 
 -- nothing is under way, and no room is owed
 pub record IsFreshOf (scan : Scan) (b : Parts) : Type 0 where

@@ -1,23 +1,21 @@
 -- What was read of a device becomes the scan of the words that a repair leaves.
-use Rattle.std.proofs.Common.{◌≡◌, ◌≢◌, inl, inr, ℕ, zero, suc, ◌+◌, ◌*◌, ◌<◌, ◌≤◌, List, [], ◌∷◌, length, map, get_or, refl, sym, ◌∙◌, ap, subst, arith}
-use Rattle.std.specs.Prelude.{slice_index, slice_get, Some, None, Contains, All}
+use Rattle.std.proofs.Common.{◌≡◌, inr, ℕ, zero, suc, ◌*◌, ◌<◌, ◌≤◌, List, [], ◌∷◌, length, map, get_or, refl, sym, ◌∙◌, ap, subst, arith}
+use Rattle.std.specs.Prelude.{slice_index, slice_get, Some, Contains, All}
 use Rattle.std.proofs.lemmas.List.{length-map, get_or-map}
 use Rattle.std.proofs.lemmas.List.Elements.{Contains-get_or}
 use Rattle.std.proofs.lemmas.Option.{slice_get-get_or}
 use Rattle.pm_device.specs.State.{State, Agree}
-use Rattle.pm_device.specs.Settled.{Still, LeavesOnly, StoresOnly}
-use Rattle.pm_device.specs.Reading.{Stands}
+use Rattle.pm_device.specs.Settled.{Still, LeavesOnly}
 use Rattle.pm_layout.specs.declared.Geometry.{Geometry}
 use Rattle.pm_layout.specs.Geometry.{directs, slots}
 use Rattle.log_entry.specs.declared.item.Flag.TheVariants.{Complete}
 use Rattle.log_entry.specs.declared.item.LogItem.TheVariants.{Write}
 use Rattle.page_alloc.specs.Free.{FreePages}
-use Rattle.dedupe_queue.specs.declared.Work.{Work}
 use Rattle.dn_model.specs.Maps.{Mapping, mapping}
 use Rattle.dn_model.specs.Log.{Placed}
 use Rattle.dn_model.specs.Table.{Row}
-use Rattle.dn_model.specs.Disk.{Disk, Use, Live, DiskSays, of_inodes, of_logs, of_chains, maps, maps_by_use, rows}
-use Rattle.dn_model.specs.Counts.{mappings, total, IsFree}
+use Rattle.dn_model.specs.Disk.{Disk, Use, of_inodes, of_logs, of_chains, maps, maps_by_use, rows}
+use Rattle.dn_model.specs.Counts.{mappings}
 use Rattle.dn_model.specs.Files.{named}
 use Rattle.dn_model.specs.Own.{LivePlace}
 use Rattle.law_table.specs.Changes.{with_table}
@@ -43,18 +41,13 @@ use Rattle.image_keep.proofs.Items.{mapped_by_item}
 use Rattle.image_keep.proofs.Queued.{waits_below}
 use Rattle.dn_check.specs.Passing.{IsWhole}
 use Rattle.dn_volume.specs.declared.volume.InodeState.{InodeState}
-use Rattle.dn_volume.specs.Inodes.{AreInodesOf, AreNamesOf}
-use Rattle.dn_volume.specs.Space.{AreSlotsOf}
-use Rattle.dn_volume.specs.Reclaims.{dying_units, mapped_places}
-use Rattle.dn_volume.specs.Agrees.{StandsFast, HasNoStale}
+use Rattle.dn_volume.specs.Reclaims.{mapped_places}
 use Rattle.table_repair.specs.Later.{HasLater}
 use Rattle.table_repair.specs.Settling.{SettlesFrom, IsTableToSettle, TableIsSettled}
 use Rattle.table_repair.proofs.Changes.{settles_same}
 use Rattle.table_repair.proofs.Later.{leaves_none}
 use Rattle.dn_mount.specs.declared.read.WholeRead.{WholeRead}
-use Rattle.dn_mount.specs.declared.parts.Scan.{Scan}
 use Rattle.dn_mount.specs.Scanned.{Waits, IsScanOf}
-use Rattle.dn_mount.specs.Mounted.{IsRepaired}
 use Rattle.dn_mount.specs.Reading.{IsReadyOf}
 
 abbrev no_row : Row
@@ -188,8 +181,14 @@ module _ (d : Disk) (g : Geometry) (s : State) (read : WholeRead) (is : IsReadyO
   rows_few =
       let few = pages-few pages pages_apart d.geometry.pages (λ k lt. let at = row_at k lt in
       omega (arith, at.1, page_in (get_or (rows d) k no_row) (Contains-get_or (rows d) k no_row at.0))) in
-      omega (arith, few, length-map (rows d) (λ (row : Row). row.page), length-map found as_row, ap length is.read_of.rows_are,
-      ap (λ (h : Geometry). h.pages) is.fast.geometry)
+      omega (
+        arith,
+        few,
+        length-map (rows d) (λ (row : Row). row.page),
+        length-map found as_row,
+        ap length is.read_of.rows_are,
+        ap (λ (h : Geometry). h.pages) is.fast.geometry,
+      )
 
   pub rows_of : HasRowsOf d g s.now (map as_row found)
   rows_of = record {
@@ -274,7 +273,8 @@ module _ (d : Disk) (g : Geometry) (s : State) (read : WholeRead) (is : IsReadyO
       pointers = record { none = λ page lt some no. settled.none_stale page (record { in_image = lt; some = some; no_row = no }) };
       free = along (λ x. AreFreePages x free) (λ chain pointer. free_with d chain pointer free are_free);
       names = record {
-        leads = λ name. is.read_of.counted.names name ∙ along (λ x. named d name ≡ named x name) (λ chain pointer. sym (names_with d chain pointer name));
+        leads = λ name. is.read_of.counted.names name ∙ along (λ x. named d name ≡ named x name) (λ chain pointer. sym
+            (names_with d chain pointer name));
       };
       inodes = record { all = all_kept; each = are_kept.each };
       unheld = kept.unheld;

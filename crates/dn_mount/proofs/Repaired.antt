@@ -1,5 +1,5 @@
 -- A repair: what is read after the rollback is that of the words of before.
-use Rattle.std.proofs.Common.{◌≡◌, ℕ, ◌*◌, List, length, sym, ◌∙◌, ap, subst, arith}
+use Rattle.std.proofs.Common.{◌≡◌, ◌*◌, length, sym, ◌∙◌, ap, subst}
 use Rattle.std.specs.Prelude.{Result, Ok, Err, IfOk}
 use Rattle.pm_device.specs.State.{State}
 use Rattle.pm_device.specs.Settled.{LeavesOnly}
@@ -9,7 +9,6 @@ use Rattle.pm_device.proofs.Moments.{leaves_only-weaken}
 use Rattle.pm_layout.specs.declared.Geometry.{Geometry}
 use Rattle.dn_model.specs.Disk.{Disk, DiskSays}
 use Rattle.dn_model.specs.Image.{StandsFor}
-use Rattle.dn_model.specs.Faults.{geometry_of}
 use Rattle.law_unique.proofs.RolledSame.{length-rolled}
 use Rattle.law_unique.proofs.Stages.{stands_pointers}
 use Rattle.dn_check.specs.declared.read.Halt.{Halt}
@@ -19,7 +18,6 @@ use Rattle.table_repair.specs.Later.{HasLater}
 use Rattle.table_repair.specs.Settling.{SettlesFrom}
 use Rattle.table_repair.proofs.Changes.{settles_same}
 use Rattle.dn_mount.specs.declared.parts.Scan.{Scan}
-use Rattle.dn_mount.specs.declared.fault.MountFault.{MountFault}
 use Rattle.dn_mount.specs.declared.read.WholeRead.{WholeRead}
 use Rattle.dn_mount.specs.Faults.{fault_of_halt}
 use Rattle.dn_mount.specs.Mounted.{IsMountFault}

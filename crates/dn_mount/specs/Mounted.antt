@@ -17,7 +17,6 @@ use Rattle.pm_device.specs.Settled.{Still, LeavesOnly, StoresOnly, Nowhere}
 use Rattle.pm_layout.specs.Geometry.{gate_word}
 use Rattle.dn_model.specs.Rolled.{rolled, IsJournaled}
 use Rattle.dn_model.specs.Disk.{Disk, Dying}
-use Rattle.dn_model.specs.Image.{StandsFor}
 use Rattle.dn_model.specs.Counts.{Exact}
 use Rattle.dn_model.specs.Faults.{FaultOf}
 use Rattle.dn_model.specs.Own.{Print, IsOwn}

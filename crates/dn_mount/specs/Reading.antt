@@ -1,5 +1,5 @@
 -- What is read of an image whose journal was rolled back.
-use Rattle.std.specs.Prelude.{◌≡◌, ℕ, ◌*◌, ◌≤◌, List, length, map}
+use Rattle.std.specs.Prelude.{◌≡◌, ℕ, ◌*◌, ◌≤◌, List, map}
 use Rattle.pm_device.specs.State.{State, Rose}
 use Rattle.pm_device.specs.Settled.{Still}
 use Rattle.pm_layout.specs.declared.Geometry.{Geometry}

@@ -1,11 +1,11 @@
-use Rattle.std.proofs.Common.{rules, ◌≡◌, ◌<◌, ℕ, List, length, sym, ap, subst, ◌∙◌, arith}
+use Rattle.std.proofs.Common.{rules, ◌≡◌, ◌<◌, ℕ, List, length, sym, subst, arith}
 use Rattle.std.specs.Prelude.{slice_index}
 use Rattle.pm_device.proofs.Flushed.{settled_same}
 use Rattle.pm_layout.specs.Geometry.{gate_word}
 use Rattle.dn_model.specs.Image.{StandsFor}
-use Rattle.dn_model.specs.Faults.{HasGate, geometry_of}
+use Rattle.dn_model.specs.Faults.{HasGate}
 use Rattle.name_journal.proofs.Opened.{still_has}
-use Rattle.dn_mount.proofs.Undone.{leaves_to_same, leaves_from_same, back_from_same, fault_from_same, same_then}
+use Rattle.dn_mount.proofs.Undone.{leaves_to_same, back_from_same, fault_from_same, same_then}
 use Rattle.dn_mount.proofs.prepare.prepare.Goals as goal
 
 pub returns-in-Err-clause-images : goal.returns-in-Err-clause-images

@@ -1,6 +1,5 @@
 use Rattle.std.proofs.Common.{◌≡◌, sym, subst}
 use Rattle.dn_check.proofs.Reading.{inode_halts}
-use Rattle.dn_mount.specs.declared.read.WholeRead.{WholeRead}
 use Rattle.dn_mount.specs.Reading.{IsReadWhole}
 use Rattle.dn_mount.proofs.WholeRead.{whole_read}
 use Rattle.dn_mount.proofs.read.read_rolled.Goals as goal

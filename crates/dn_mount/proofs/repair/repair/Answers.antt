@@ -1,4 +1,3 @@
-use Rattle.std.proofs.Common.{ℕ, List, sym, ap, subst, ◌∙◌}
 use Rattle.std.proofs.lemmas.Result.{err_from_is_err_and}
 use Rattle.pm_device.specs.Settled.{Nowhere}
 use Rattle.pm_device.proofs.Only.{stores_only-same, stores_only-then}
