@@ -150,7 +150,8 @@ kept_none g c none inodes work waiting = record {
         empty : (k : ℕ) → slice_get [] k ≡ Some n → ⊥
         empty k e = cc
 
-module _ (g : Geometry) (c : List ℕ) (k : ℕ) (old new : Kept) (found : Option UsedInode) (so_far : AreKeptTo g c k old) (keeps : KeepsInode k found old new)
+module _ (g : Geometry) (c : List ℕ) (k : ℕ) (old new : Kept) (found : Option UsedInode) (so_far : AreKeptTo g c k old)
+    (keeps : KeepsInode k found old new)
     (lt : k < g.inodes) (is : IsFoundAt g c k found) where
   -- a node of after is one of before, or the new one
   by_node : (P : ℕ → InodeState → Type 0) → ((ino : ℕ) (n : InodeState) → slice_get old.inodes.items ino ≡ Some n → P ino n) → P k keeps.node

@@ -1,5 +1,22 @@
 -- What all logs of an image say of its pages, its inodes and its names.
-use Rattle.std.specs.Prelude.{◌≡◌, ◌≢◌, ℕ, ◌+◌, ◌<◌, ◌≤◌, if◌then◌else◌, ◌==◌, List, length, slice_index, map, All, Option, Some, None}
+use Rattle.std.specs.Prelude.{
+  ◌≡◌,
+  ◌≢◌,
+  ℕ,
+  ◌+◌,
+  ◌<◌,
+  ◌≤◌,
+  if◌then◌else◌,
+  ◌==◌,
+  List,
+  length,
+  slice_index,
+  map,
+  All,
+  Option,
+  Some,
+  None,
+}
 use Rattle.std.specs.List.{list_any}
 use Rattle.std.specs.FinMap.{get}
 use Rattle.pm_device.specs.Reading.{Reads}
