@@ -19,13 +19,30 @@ use Rattle.dn_volume.specs.declared.volume.Volume.{Volume}
 use Rattle.dn_volume.specs.PlannedNames.{inode_list}
 use Rattle.dn_volume.specs.Kept.{OfInodes, IsSameInode}
 use Rattle.dn_volume.specs.Agrees.{IsVolume}
-use Rattle.dn_volume.specs.Begins.{IsAtOnce, wants, IsHeldFirst, AreLoose, IsUnhindered, IsAnswerOf, of_files, no_inode, no_space, WaitsForRelease, IsLast, HasAll, IsUntouched, AnswersAtOnce, MayBegin}
+use Rattle.dn_volume.specs.Begins.{
+  IsAtOnce,
+  wants,
+  IsHeldFirst,
+  AreLoose,
+  IsUnhindered,
+  IsAnswerOf,
+  of_files,
+  no_inode,
+  no_space,
+  WaitsForRelease,
+  IsLast,
+  HasAll,
+  IsUntouched,
+  AnswersAtOnce,
+  MayBegin,
+}
 use Rattle.dn_volume.proofs.SameRoom.{inodes_same, room_joins}
 use Rattle.begin_steps.specs.Answering.{KeepsRoom, HasEntryRoom, MakesEntryRoom, EntersHistory}
 use Rattle.begin_steps.proofs.RoomKept.{room_kept}
 
 -- the same inodes have the same room
-pub same_places : (ns : List InodeState) (ino : ℕ) (n n' : InodeState) → slice_get ns ino ≡ Some n → slice_get ns ino ≡ Some n' → n.map.room ≤ n'.map.room
+pub same_places : (ns : List InodeState) (ino : ℕ) (n n' : InodeState) → slice_get ns ino ≡ Some n → slice_get ns ino ≡ Some n'
+    → n.map.room ≤ n'.map.room
 same_places ns ino n n' at at' = let same = ap (λ (m : InodeState). m.map.room) (one (slice_get ns ino) at at') in omega (arith, same)
   where
     one : (o : Option InodeState) → o ≡ Some n → o ≡ Some n' → n ≡ n'
@@ -55,7 +72,8 @@ keeps_but_history b b' is room = record {
     flights = ap (λ (p : Parts). p.flights.items) is;
   };
   owed = ap (λ (p : Parts). p.owed) is;
-  trace = λ le. let len = ap (λ (p : Parts). vec_len p.trace) is in let room = ap (λ (p : Parts). vec_capacity p.trace) is in omega (arith, le, len, room);
+  trace = λ le. let len = ap (λ (p : Parts). vec_len p.trace) is in let room = ap (λ (p : Parts). vec_capacity p.trace) is in omega
+      (arith, le, len, room);
   history = room;
   queue = let same = ap (λ (p : Parts). p.queue.room) is in omega (arith, same);
   releases = λ le. let len = ap (λ (p : Parts). deque_len p.reclaiming.releases) is in
@@ -66,7 +84,8 @@ keeps_but_history b b' is room = record {
 }
 
 pub keeps_entry_room : (b b' : Parts) → MakesEntryRoom b b' → KeepsRoom b b'
-keeps_entry_room b b' made = keeps_but_history b b' (made.parts ∙ ap (λ (n : ℕ). record b { history = b'.history; made = n }) (sym (ap (λ (p : Parts). p.made) made.parts)))
+keeps_entry_room b b' made = keeps_but_history b b' (made.parts ∙ ap (λ (n : ℕ). record b { history = b'.history; made = n }) (sym (ap (λ
+    (p : Parts). p.made) made.parts)))
     (λ le. let len = made.len in let more = made.capacity in omega (arith, le, len, more))
 
 pub keeps_entered : (who : ℕ) (op : Op) (reply : Reply) (b b' : Parts) → HasEntryRoom b → EntersHistory who op reply b b' → KeepsRoom b b'

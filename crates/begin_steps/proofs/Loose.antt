@@ -18,23 +18,27 @@ loose_none ns wanted ino n has at = absurd (none_listed ino has)
 
 module _ (ns : List InodeState) (wanted : List ℕ) (i : ℕ) (lt : i < length wanted) (inside : All (λ ino. ino < length ns) wanted) where
   -- one more is loose
-  pub loose_next : (w x : ℕ) → w ≡ get_or wanted i x → AreLooseAmong ns (take i wanted) → ((n : InodeState) → slice_get ns w ≡ Some n → None ≡ n.holder)
+  pub loose_next : (w x : ℕ) → w ≡ get_or wanted i x → AreLooseAmong ns (take i wanted) → ((n : InodeState) → slice_get ns w ≡ Some n
+      → None ≡ n.holder)
       → AreLooseAmong ns (take (i + 1) wanted)
   loose_next w x is loose here ino n has at = ⊎_elim (λ before. loose ino n before at)
-      (λ last. ⊎_elim (λ same. sym (here n (subst (λ (j : ℕ). slice_get ns j ≡ Some n) (sym same ∙ sym is) at))) (λ none. absurd (none_listed ino none))
+      (λ last. ⊎_elim (λ same. sym (here n (subst (λ (j : ℕ). slice_get ns j ≡ Some n) (sym same ∙ sym is) at))) (λ none. absurd
+      (none_listed ino none))
       (cons_cases (get_or wanted i x) ino [] last))
       (Contains-append_cases (take i wanted) (get_or wanted i x ∷ []) ino
       (subst (λ (xs : List ℕ). Contains xs ino) (take_more wanted i x lt) has))
 
   -- this one is held
-  pub held_here : (w x who : ℕ) → w ≡ get_or wanted i x → AreLooseAmong ns (take i wanted) → ((n : InodeState) → slice_get ns w ≡ Some n → Some who ≡ n.holder)
+  pub held_here : (w x who : ℕ) → w ≡ get_or wanted i x → AreLooseAmong ns (take i wanted) → ((n : InodeState) → slice_get ns w ≡ Some n
+      → Some who ≡ n.holder)
       → IsHeldAmong ns wanted who
   held_here w x who is loose here = ⊎_elim
       (λ found. record {
         before = take i wanted;
         ino = w;
         after = drop (i + 1) wanted;
-        split = sym (take-append-drop i wanted) ∙ ap (λ (xs : List ℕ). take i wanted ++ xs) (drop_more wanted i x lt ∙ ap (λ (y : ℕ). y ∷ drop (i + 1) wanted) (sym is));
+        split = sym (take-append-drop i wanted) ∙ ap (λ (xs : List ℕ). take i wanted ++ xs) (drop_more wanted i x lt ∙ ap (λ (y : ℕ). y ∷ drop
+            (i + 1) wanted) (sym is));
         held = record { node = found.0; at = found.2; holder = sym (here found.0 found.2) };
         loose = loose;
       })

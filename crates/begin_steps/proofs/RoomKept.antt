@@ -137,7 +137,8 @@ module _ (d : Disk) (b b' : Parts) (s t : State) (v : IsVolume d b s) (agree : A
     pages = ap (λ (x : FreePages). x.pages) keeps.same.free ∙ v.space.pages;
     in_order = subst IsInOrder (sym keeps.same.free) v.space.in_order;
     taker = v.space.taker;
-    free = λ page. subst (λ (x : FreePages). (Contains x.free page → IsUnused d page × (v.space.taker page ≡ 0)) × (IsUnused d page × (v.space.taker page ≡ 0) → Contains x.free page))
+    free = λ page. subst (λ (x : FreePages). (Contains x.free page → IsUnused d page × (v.space.taker page ≡ 0)) × (IsUnused d page ×
+        (v.space.taker page ≡ 0) → Contains x.free page))
         (sym keeps.same.free) (v.space.free page);
     takes = λ who page takes. v.space.takes who page (takes_before who page takes);
     taken = λ page some. takes_still (v.space.taker page) page (v.space.taken page some);

@@ -1,5 +1,30 @@
 -- An operation that has its pages comes in flight: the volume in memory agrees with the same disk.
-use Rattle.std.proofs.Common.{◌≡◌, ◌≢◌, ◌⊎◌, inl, inr, ⊎_elim, ℕ, ◌+◌, ◌-◌, ◌≤◌, List, [], ◌∷◌, length, take, refl, sym, ◌∙◌, ap, subst, arith, Option, Some, None}
+use Rattle.std.proofs.Common.{
+  ◌≡◌,
+  ◌≢◌,
+  ◌⊎◌,
+  inl,
+  inr,
+  ⊎_elim,
+  ℕ,
+  ◌+◌,
+  ◌-◌,
+  ◌≤◌,
+  List,
+  [],
+  ◌∷◌,
+  length,
+  take,
+  refl,
+  sym,
+  ◌∙◌,
+  ap,
+  subst,
+  arith,
+  Option,
+  Some,
+  None,
+}
 use Rattle.std.specs.Prelude.{Contains, slice_get}
 use Rattle.std.specs.FinMap.{get}
 use Rattle.pm_device.specs.State.{State, Agree}
@@ -28,7 +53,21 @@ use Rattle.dn_volume.proofs.Stills.{still_same}
 use Rattle.dn_volume.proofs.OthersStay.{others_stay}
 use Rattle.dn_volume.proofs.MappingsMoved.{mappings_counted}
 use Rattle.dn_volume.proofs.FewReleases.{begin_few}
-use Rattle.dn_volume.proofs.Replaced.{Whose, its_own, another, whose, others_same, held_then, held_before, holds_new, taken_then, taken_before, takes_new, owed_moved, raised_moved}
+use Rattle.dn_volume.proofs.Replaced.{
+  Whose,
+  its_own,
+  another,
+  whose,
+  others_same,
+  held_then,
+  held_before,
+  holds_new,
+  taken_then,
+  taken_before,
+  takes_new,
+  owed_moved,
+  raised_moved,
+}
 use Rattle.begin_steps.specs.Room.{add_room}
 use Rattle.begin_steps.specs.Starting.{TakesHold, Starts}
 use Rattle.begin_steps.specs.Begun.{MayStart, HasPlacesFor}
@@ -97,8 +136,12 @@ module _ (d : Disk) (who : ℕ) (f : Flight) (free' : FreePages) (b b' : Parts) 
     in_order = left_in_order b.free free' (taken_by f) may.takes v.space.in_order;
     taker = taker';
     free = λ page. (
-      (λ has. let was = (v.space.free page).0 (left-free b.free free' f.fresh.items f.spare.items (blocks_of f.change) v.space.in_order may.takes page has) in
-          (was.0, taker_other page (λ took. taken-left b.free free' f.fresh.items f.spare.items (blocks_of f.change) v.space.in_order may.takes page took has) ∙ was.1)),
+      (λ has. let was = (v.space.free page).0 (left-free b.free free' f.fresh.items f.spare.items
+          (blocks_of f.change) v.space.in_order may.takes page has) in (
+            was.0,
+            taker_other page (λ took. taken-left b.free free' f.fresh.items f.spare.items
+                (blocks_of f.change) v.space.in_order may.takes page took has) ∙ was.1,
+          )),
       (λ is. free_now page is.0 is.1 (contains_or_not page (taken_by f))),
     );
     takes = λ q page took. takes' q page took;
@@ -112,7 +155,8 @@ module _ (d : Disk) (who : ℕ) (f : Flight) (free' : FreePages) (b b' : Parts) 
       free_now page unused none (inl has) = let mine = taker_fresh page has in absurd (omega (arith, client, mine, none))
       free_now page unused none (inr out) =
           ⊎_elim (λ took. absurd (out took)) (λ has. has)
-          (taken-or_left b.free free' f.fresh.items f.spare.items (blocks_of f.change) v.space.in_order may.takes page ((v.space.free page).1 (unused, sym (taker_other page out) ∙ none)))
+          (taken-or_left b.free free' f.fresh.items f.spare.items (blocks_of f.change) v.space.in_order may.takes page ((v.space.free page).1
+          (unused, sym (taker_other page out) ∙ none)))
 
       takes' : (q page : ℕ) → Takes n q page → taker' page ≡ q
       takes' q page took = ⊎_elim
@@ -125,7 +169,8 @@ module _ (d : Disk) (who : ℕ) (f : Flight) (free' : FreePages) (b b' : Parts) 
           some_taker q page (for_client g flies has) his none = let some = flies.client in omega (arith, some, his, none)
 
       taken' : (page : ℕ) → taker' page ≢ 0 → Contains (taken_by f) page ⊎ (Contains (taken_by f) page → ⊥) → Takes n (taker' page) page
-      taken' page some (inl has) = subst (λ (q : ℕ). Takes n q page) (sym (taker_fresh page has)) (takes_new who client None (Some f) b n replaces page has)
+      taken' page some (inl has) = subst (λ (q : ℕ). Takes n q page) (sym (taker_fresh page has)) (takes_new who client None
+          (Some f) b n replaces page has)
       taken' page some (inr out) = subst (λ (q : ℕ). Takes n q page) (sym (taker_other page out))
           (⊎_elim (λ none. absurd (no_page page none.1)) (λ other. other.1)
           (taken_before who client None (Some f) b n replaces (v.space.taker page) page

@@ -1,5 +1,17 @@
 -- What stays where only room is made, and an operation that is answered at once.
-use Rattle.std.specs.Prelude.{◌≡◌, ℕ, ◌+◌, ◌≤◌, ◌∷◌, [], ◌++◌, slice_get, Some, vec_len, vec_capacity}
+use Rattle.std.specs.Prelude.{
+  ◌≡◌,
+  ℕ,
+  ◌+◌,
+  ◌≤◌,
+  ◌∷◌,
+  [],
+  ◌++◌,
+  slice_get,
+  Some,
+  vec_len,
+  vec_capacity,
+}
 use Rattle.std.specs.VecDeque.{deque_len, deque_capacity}
 use Rattle.dn_model.specs.declared.op.Op.{Op}
 use Rattle.dn_model.specs.declared.op.Reply.{Reply}
@@ -8,8 +20,8 @@ use Rattle.dn_volume.specs.declared.volume.Parts.{Parts}
 use Rattle.dn_volume.specs.Kept.{SameButRoom}
 use Rattle.dn_volume.specs.Events.{Counts}
 
--- The room that was there for what is owed is there still. The history may have got an entry, and the
--- number of calls isn't told.
+-- The room that was there for what is owed is there still. The history may have got an entry, and
+-- the number of calls isn't told.
 pub record KeepsRoom (b b' : Parts) : Type 0 where
   pub same : SameButRoom b b'
   pub owed : b'.owed ≡ b.owed

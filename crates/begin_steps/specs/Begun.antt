@@ -20,8 +20,8 @@ abbrev pub HasPlacesFor : Flight → Change → Parts → Type 0
 HasPlacesFor f (Data c) b = HasPlaceRoom f.ino (length c.blocks.items) b
 HasPlacesFor f (Names c) b = Unit {0}
 
--- The operation is planned for this disk; its pages are the least free ones; the inodes that it holds
--- are held by nobody; and there is room for all that it is owed.
+-- The operation is planned for this disk; its pages are the least free ones; the inodes that it
+-- holds are held by nobody; and there is room for all that it is owed.
 pub record MayStart (d : Disk) (who : ℕ) (f : Flight) (free : FreePages) (b : Parts) (s : State) :
     Type 0 where
   pub begins : MayBegin b who

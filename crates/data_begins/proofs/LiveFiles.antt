@@ -37,7 +37,8 @@ module _ (d : Disk) (b : Parts) (s : State) (v : IsVolume d b s) where
   none_waits none = by b.reclaiming.releases.items (few b.reclaiming.raised v.reclaiming.waiting)
     where
       few : {X : Type 0} (o : Option X)
-          → b.reclaiming.waiting + one_if o ≡ one_if b.reclaiming.zero_check + 2 * length b.reclaiming.releases.items + total d.geometry.inodes (dying_units d)
+          → b.reclaiming.waiting + one_if o ≡ one_if b.reclaiming.zero_check + 2 * length b.reclaiming.releases.items + total d.geometry.inodes
+          (dying_units d)
           → length b.reclaiming.releases.items ≡ 0
       few None is = omega (arith, is, none)
       few (Some x) is = omega (arith, is, none)

@@ -29,8 +29,8 @@ pub record IsLiveFile (d : Disk) (ino : ℕ) : Type 0 where
   pub in_table : ino < d.geometry.inodes
   pub live : (d.inode ino).use_of ≡ Live
 
--- The files grant it, and it lasts; it holds this inode, needs so many pages, and takes these places
--- away from their pages.
+-- The files grant it, and it lasts; it holds this inode, needs so many pages, and takes these
+-- places away from their pages.
 pub record IsAsk (d : Disk) (op : Op) (ask : DataAsk) : Type 0 where
   pub granted : IsGranted (files d) op
   pub lasts : IsAtOnce op → ⊥
@@ -48,8 +48,8 @@ pub record IsAsked (d : Disk) (ask : DataAsk) : Type 0 where
   pub op : Op
   pub is : IsAsk d op ask
 
--- what is in the way of the operation: nothing, that its file is held, that it waits for releases, or
--- that it has too few pages while nothing waits
+-- what is in the way of the operation: nothing, that its file is held, that it waits for releases,
+-- or that it has too few pages while nothing waits
 abbrev pub IsInTheWay : Disk → Parts → Op → DataAsk → Option Hindrance → Type 0
 IsInTheWay d b op ask None = HasAll d b op
 IsInTheWay d b op ask (Some (Held holder)) = IsBusy d b op holder

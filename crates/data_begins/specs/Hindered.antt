@@ -31,8 +31,8 @@ pub record IsFreeToBegin (b : Parts) (ino needed lost : ℕ) : Type 0 where
   pub pages : LacksPages b needed → ⊥
   pub releases : IsCrowded b lost → ⊥
 
--- that is it: the inode is held; or pages or room for releases are wanting, while something waits to
--- be released; or pages are wanting, while nothing does; or nothing is in the way
+-- that is it: the inode is held; or pages or room for releases are wanting, while something waits
+-- to be released; or pages are wanting, while nothing does; or nothing is in the way
 abbrev pub IsHindrance : Parts → (ino needed lost : ℕ) → Option Hindrance → Type 0
 IsHindrance b ino needed lost None = IsFreeToBegin b ino needed lost
 IsHindrance b ino needed lost (Some (Held holder)) = IsHeldAmong b.inodes.items (ino ∷ []) holder

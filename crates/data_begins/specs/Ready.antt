@@ -16,10 +16,12 @@ use Rattle.begin_steps.specs.Room.{HasRoomFor, HasPlaceRoom}
 use Rattle.data_begins.specs.declared.asks.DataAsk.{DataAsk}
 use Rattle.data_begins.specs.declared.ready.Ready.{Ready}
 
--- the most that is owed to a write or a cut of so many pages, rows and slots, with one page for its log
+-- the most that is owed to a write or a cut of so many pages, rows and slots, with one page for
+-- its log
 abbrev pub data_room : (places rows slots : ℕ) → Room
 data_room places rows slots = record {
-  units = cost.FILL_UNITS * places + cost.RAISE_UNITS * rows + cost.SLOT_UNITS * (slots + 1) + cost.TAIL_UNITS;
+  units = cost.FILL_UNITS * places + cost.RAISE_UNITS * rows +
+      cost.SLOT_UNITS * (slots + 1) + cost.TAIL_UNITS;
   trace = rows;
   history = 1;
   queue = places;

@@ -1,5 +1,5 @@
 -- The event of an item's begin, from what its calls give.
-use Rattle.std.proofs.Common.{◌≡◌, ℕ, zero, suc, ◌+◌, ◌*◌, ◌/◌, ◌<◌, ◌≤◌, false, List, [], ◌∷◌, length, refl, sym, ap, subst, arith}
+use Rattle.std.proofs.Common.{◌≡◌, ◌+◌, ◌*◌, ◌/◌, ◌<◌, false, List, [], ◌∷◌, length, ap, subst, arith}
 use Rattle.std.specs.Prelude.{None, Some, slice_get}
 use Rattle.pm_device.specs.State.{State, Agree, Rose}
 use Rattle.pm_device.specs.Settled.{SettlesAll}
@@ -83,7 +83,8 @@ module _ {D F : Type 0} (state : D → State) (w : Volume D F) (sharing : Sharin
           → IsDone 15 (flag_word sharing.work.slot) 2 (state w.device) (state w'.device)
           → SettlesAll 15 (state w.device) (state w'.device) → MovesOn state print 15 w w' d
       begin_moves change room done settles = daemon_moves state print w w' d after v shown (sharing.work.ino ∷ [])
-          (begin_event d w.parts (state w.device) v sharing none_begun of item loose w'.parts change (state w'.device) sets.only sets.others done settles
+          (begin_event d w.parts (state w.device) v sharing none_begun of item loose w'.parts change (state w'.device) sets.only sets.others done
+          settles
           (omega (arith, room.units, change.units, sets.spare)) (omega (arith, room.trace, change.trace)))
 
       pub begin_breaks : Stops w.parts w'.parts → Rose (state w.device).faults (state w'.device).faults → Breaks state print 15 None w w' d

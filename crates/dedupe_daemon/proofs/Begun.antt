@@ -1,20 +1,19 @@
 -- The daemon's item is begun: the volume of after.
-use Rattle.std.proofs.Common.{◌≡◌, ◌≢◌, ◌⊎◌, inl, inr, ⊎_elim, ℕ, ◌+◌, ◌-◌, ◌*◌, ◌<◌, ◌≤◌, List, [], ◌∷◌, ◌++◌, length, refl, sym, ◌∙◌, ap, subst, arith}
+use Rattle.std.proofs.Common.{◌≡◌, ◌≢◌, inl, inr, ⊎_elim, ℕ, ◌+◌, ◌*◌, ◌<◌, ◌≤◌, List, [], ◌∷◌, length, refl, sym, ◌∙◌, ap, subst, arith}
 use Rattle.std.specs.Prelude.{vec_len, vec_capacity, slice_get, Option, Some, None, Contains, ◌↔◌}
 use Rattle.std.proofs.lemmas.Bool.{cases_eq}
 use Rattle.std.proofs.lemmas.Bool.Decides.{nat_tests}
 use Rattle.pm_device.specs.State.{State}
 use Rattle.pm_device.specs.Settled.{StoresOnly, KeepsFlushed, Others, SettlesAll}
 use Rattle.pm_device.specs.Commit.{IsDone}
-use Rattle.log_entry.specs.declared.item.Flag.{Flag}
-use Rattle.log_entry.specs.declared.item.Flag.TheVariants.{InProcess, Complete}
+use Rattle.log_entry.specs.declared.item.Flag.TheVariants.{InProcess}
 use Rattle.log_entry.specs.declared.item.LogItem.TheVariants.{Write}
 use Rattle.inode_log.specs.Reflags.{with_flag, flag_word}
 use Rattle.dedupe_queue.specs.declared.Work.{Work}
 use Rattle.dn_model.specs.Log.{Log, placed}
 use Rattle.dn_model.specs.Maps.{Mapping}
-use Rattle.dn_model.specs.Disk.{Disk, maps}
-use Rattle.dn_model.specs.Own.{Print, IsOwn, LivePlace}
+use Rattle.dn_model.specs.Disk.{Disk}
+use Rattle.dn_model.specs.Own.{Print, IsOwn}
 use Rattle.law_log_swap.specs.Relogged.{relogged}
 use Rattle.law_log_swap.proofs.Relogged.{log_here, use_same}
 use Rattle.law_flags.specs.FlagLaws.{flagged}
@@ -22,10 +21,9 @@ use Rattle.law_flags.proofs.Tags.{flag_own}
 use Rattle.law_table.proofs.Rows.{listed_cases}
 use Rattle.dn_volume.specs.declared.background.Sharing.{Sharing}
 use Rattle.dn_volume.specs.declared.background.SharingStep.TheVariants.{Look}
-use Rattle.dn_volume.specs.declared.flight.Flight.{Flight}
 use Rattle.dn_volume.specs.declared.volume.InodeState.{InodeState}
 use Rattle.dn_volume.specs.declared.volume.Parts.{Parts}
-use Rattle.dn_volume.specs.Parties.{Flies, Holds, by_client, by_daemon}
+use Rattle.dn_volume.specs.Parties.{Holds, by_client, by_daemon}
 use Rattle.dn_volume.specs.Inodes.{AreHolders}
 use Rattle.dn_volume.specs.Balance.{times, raised_at, added_at, raised_to_share, added_to_share}
 use Rattle.dn_volume.specs.Shares.{IsAtStep, IsWaiting, in_queue, is_begun, IsQueued, IsBegun, IsSharing, Shares}
@@ -35,11 +33,11 @@ use Rattle.dn_volume.specs.Works.{DaemonLowers, step_events, sharing_events, dae
 use Rattle.dn_volume.proofs.HandsKept.{flies_before, flies_still}
 use Rattle.dn_volume.proofs.Stills.{still_settles}
 use Rattle.dedupe_daemon.specs.Daemon.{BeginsItem}
-use Rattle.dedupe_daemon.specs.Fronts.{item_at, HasRoomToShare}
+use Rattle.dedupe_daemon.specs.Fronts.{item_at}
 use Rattle.dedupe_daemon.proofs.DaemonEvent.{DaemonEvent, flights_same, others_kept}
 use Rattle.dedupe_daemon.proofs.DaemonRoom.{room_kept}
 use Rattle.dedupe_daemon.proofs.Holding.{was_held, round_on, room_on, inodes_on}
-use Rattle.dedupe_daemon.proofs.ItemAt.{HasWrite, item_spelled, placed_change}
+use Rattle.dedupe_daemon.proofs.ItemAt.{item_spelled, placed_change}
 use Rattle.dedupe_daemon.proofs.RelogDisk.{IsRetagged, disk_kept, it_lives, only_it, place_was, inodes_kept, tag_leaves, tag_fast}
 use Rattle.dedupe_daemon.proofs.FlagDisk.{flag_log, may_flag, flag_retags, flag_bits, flag_there}
 use Rattle.dedupe_daemon.proofs.Passed.{one_item, none_some}
@@ -122,14 +120,15 @@ module _ (d : Disk) (b : Parts) (s : State) (v : IsVolume d b s) (sharing : Shar
         absurd (ne (sym same ∙ ap (λ (y : Sharing). y.work.ino) (one_item b'.sharing x sharing is change.begun)))
 
     holds_it : (who : ℕ) → Holds b' who ino → who ≡ 15
-    holds_it who (by_client f flies held) = absurd (nobody_holds who (by_client f (flies_before b b' (flights_same b b' change.kept) who f flies) held))
+    holds_it who (by_client f flies held) = absurd (nobody_holds who (by_client f (flies_before b b' (flights_same b b' change.kept) who f flies)
+        held))
     holds_it who (by_daemon x him is same) = him
 
     told_after : (i who : ℕ) (n : InodeState) → slice_get b'.inodes.items i ≡ Some n → (n.holder ≡ Some who) ↔ Holds b' who i
     told_after i who n at = elim (cases_eq i ino) [
       | inl same ↦
-          let was = was_held (Some 15) ino b.inodes.items b'.inodes.items change.inodes ino_inside n (ap (slice_get b'.inodes.items) (sym same) ∙ at) in
-          (
+          let was = was_held (Some 15) ino b.inodes.items b'.inodes.items change.inodes ino_inside n (ap (slice_get b'.inodes.items) (sym same) ∙ at)
+          in (
             (λ holder. by_daemon sharing (one_who n.holder who 15 holder was.2.holder_is) change.begun (sym same)),
             (λ holds. was.2.holder_is ∙ ap Some (sym (holds_it who (subst (Holds b' who) same holds)))),
           )
@@ -185,8 +184,11 @@ module _ (d : Disk) (b : Parts) (s : State) (v : IsVolume d b s) (sharing : Shar
       block = of.block;
       size = of.size;
       mask = of.m.mask;
-      item = subst (λ (l : Log). Contains (placed l) (record { slot = slot; item = Write sharing.first sharing.count of.block of.size InProcess
-          of.m.mask })) (sym (log_here d ino log))
+      item = subst (λ (l : Log). Contains (placed l) (record {
+        slot = slot;
+        item = Write sharing.first sharing.count of.block of.size InProcess
+            of.m.mask;
+      })) (sym (log_here d ino log))
           (subst (λ (f : ℕ). Contains (placed log) (record { slot = slot; item = Write f sharing.count of.block of.size InProcess of.m.mask }))
           (sym first_same) (subst (λ (n : ℕ). Contains (placed log)
           (record { slot = slot; item = Write of.first n of.block of.size InProcess of.m.mask })) (sym count_same)

@@ -1,7 +1,7 @@
 -- An event of the daemon that leaves rows, mappings and free pages: the volume of after, from what the event has to
 -- show of the disk and of what is kept in memory.
-use Rattle.std.proofs.Common.{◌≡◌, ◌≢◌, ◌⊎◌, inl, inr, ⊎_elim, ℕ, ◌+◌, ◌-◌, ◌*◌, ◌<◌, ◌≤◌, List, [], length, refl, sym, ◌∙◌, ap, subst, arith}
-use Rattle.std.specs.Prelude.{slice_get, Option, Some, None, All, Contains, IsNone}
+use Rattle.std.proofs.Common.{◌≡◌, ◌≢◌, ℕ, ◌+◌, ◌-◌, ◌*◌, ◌<◌, ◌≤◌, List, [], length, refl, sym, ◌∙◌, ap, subst, arith}
+use Rattle.std.specs.Prelude.{Option, None, All, Contains, IsNone}
 use Rattle.std.specs.FinMap.{get}
 use Rattle.std.proofs.lemmas.List.{append-nil}
 use Rattle.pm_device.specs.State.{State, Rose}
@@ -18,21 +18,19 @@ use Rattle.dn_model.specs.declared.op.CountChange.{CountChange}
 use Rattle.law_write.specs.Events.{IsUnused}
 use Rattle.fact_table.specs.Table.{HasRow}
 use Rattle.dn_volume.specs.declared.flight.Flight.{Flight}
-use Rattle.dn_volume.specs.declared.background.Sharing.{Sharing}
-use Rattle.dn_volume.specs.declared.background.DyingPlace.{DyingPlace}
 use Rattle.dn_volume.specs.declared.volume.Parts.{Parts}
 use Rattle.dn_volume.specs.declared.volume.Volume.{Volume}
-use Rattle.dn_volume.specs.Parties.{Flies, Takes, for_client, SameOthers, KeepsOps, flight_at, taken_by}
+use Rattle.dn_volume.specs.Parties.{Flies, Takes, for_client, SameOthers, flight_at}
 use Rattle.dn_volume.specs.Inodes.{AreInodesOf, AreHolders}
 use Rattle.dn_volume.specs.Space.{HasSpace}
-use Rattle.dn_volume.specs.Balance.{times, raised_by, raised_to_die, raised_to_share, added_to_share, raised, added, AreCounted}
+use Rattle.dn_volume.specs.Balance.{times, raised_by, raised_to_die, raised_to_share, added_to_share, raised, AreCounted}
 use Rattle.dn_volume.specs.Flights.{IsFlight}
 use Rattle.dn_volume.specs.Shares.{IsQueued, Shares}
-use Rattle.dn_volume.specs.Reclaims.{one_if, dying_units, IsReclaiming, IsRaised}
-use Rattle.dn_volume.specs.Reserve.{owed_sum, HasRoom}
+use Rattle.dn_volume.specs.Reclaims.{one_if, dying_units, IsReclaiming}
+use Rattle.dn_volume.specs.Reserve.{HasRoom}
 use Rattle.dn_volume.specs.Accounts.{AccountsFor}
-use Rattle.dn_volume.specs.Agrees.{StandsFast, IsVolume, IsStopped, NamesSlots, HasHead, HasNoStale}
-use Rattle.dn_volume.specs.Events.{IsBetween, MovesOn, Breaks, word_at, word_in}
+use Rattle.dn_volume.specs.Agrees.{StandsFast, IsVolume, IsStopped, NamesSlots, HasHead}
+use Rattle.dn_volume.specs.Events.{IsBetween, MovesOn, Breaks, word_in}
 use Rattle.dn_volume.specs.Rely.{LeavesRest}
 use Rattle.dn_volume.specs.Stills.{IsStillBut}
 use Rattle.dn_volume.proofs.Heads.{head_of, head_kept, none_stale_kept}

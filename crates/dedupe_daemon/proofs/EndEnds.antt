@@ -1,5 +1,5 @@
 -- The event of an item's end, from what its calls give.
-use Rattle.std.proofs.Common.{◌≡◌, ℕ, ◌+◌, ◌/◌, ◌<◌, ◌≤◌, false, List, [], ◌∷◌, length, sym, subst, arith}
+use Rattle.std.proofs.Common.{◌≡◌, ℕ, ◌+◌, ◌/◌, ◌<◌, ◌≤◌, false, [], ◌∷◌, length, subst, arith}
 use Rattle.std.specs.Prelude.{None, Some}
 use Rattle.pm_device.specs.State.{State, Agree, Rose}
 use Rattle.pm_device.specs.Settled.{IsSettled, LeavesOnly, StoresOnly, KeepsFlushed, Others, SettlesAll}
@@ -68,7 +68,8 @@ module _ {D F : Type 0} (state : D → State) (w : Volume D F) (sharing : Sharin
         let is = (v.sharing sharing begun).begun in
         tag_shown d sharing.work.ino (log d w.parts (state w.device) v sharing begun look all_done) (flag_word sharing.work.slot) 3
         (flagged sharing.work.slot Complete)
-        (end_retags d w.parts (state w.device) v sharing begun look all_done) (state w.device) (state w'.device) w.parts.geometry v.fast sets.only print
+        (end_retags d w.parts (state w.device) v sharing begun look all_done) (state w.device) (state w'.device) w.parts.geometry v.fast sets.only
+        print
         (end_own d w.parts (state w.device) v sharing begun look all_done print)
         (λ own. alone_kept d sharing.work.ino (log d w.parts (state w.device) v sharing begun look all_done) (flag_word sharing.work.slot) 3
         (flagged sharing.work.slot Complete) (end_retags d w.parts (state w.device) v sharing begun look all_done)

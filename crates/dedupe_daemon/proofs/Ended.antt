@@ -1,5 +1,5 @@
 -- The daemon's item is ended: the volume of after.
-use Rattle.std.proofs.Common.{◌≡◌, ◌≢◌, ◌⊎◌, inl, inr, ⊎_elim, ℕ, ◌+◌, ◌-◌, ◌*◌, ◌<◌, ◌≤◌, List, [], ◌∷◌, length, refl, sym, ◌∙◌, ap, subst, arith}
+use Rattle.std.proofs.Common.{◌≡◌, ◌≢◌, inl, inr, ⊎_elim, ℕ, ◌+◌, ◌-◌, ◌<◌, ◌≤◌, [], ◌∷◌, length, refl, sym, ◌∙◌, ap, subst, arith}
 use Rattle.std.specs.Prelude.{slice_get, Option, Some, None, Contains, ◌↔◌}
 use Rattle.std.proofs.lemmas.Bool.{cases_eq}
 use Rattle.pm_device.specs.State.{State}
@@ -7,11 +7,10 @@ use Rattle.pm_device.specs.Settled.{StoresOnly, KeepsFlushed, Others, SettlesAll
 use Rattle.pm_device.specs.Commit.{IsDone}
 use Rattle.log_entry.specs.declared.item.Flag.TheVariants.{InProcess, Complete}
 use Rattle.inode_log.specs.Reflags.{flag_word}
-use Rattle.dedupe_queue.specs.declared.Work.{Work}
 use Rattle.dn_model.specs.Log.{Log}
 use Rattle.dn_model.specs.Maps.{Mapping}
 use Rattle.dn_model.specs.Disk.{Disk, maps}
-use Rattle.dn_model.specs.Own.{Print, IsOwn, LivePlace, IsAlone, HasRow}
+use Rattle.dn_model.specs.Own.{Print, IsOwn}
 use Rattle.law_log_swap.specs.Relogged.{relogged}
 use Rattle.law_flags.specs.FlagLaws.{IsDoneAt, flagged}
 use Rattle.law_flags.proofs.Tags.{flag_own}
@@ -25,7 +24,7 @@ use Rattle.dn_volume.specs.declared.volume.Parts.{Parts}
 use Rattle.dn_volume.specs.Parties.{Flies, Holds, by_client, by_daemon}
 use Rattle.dn_volume.specs.Inodes.{AreHolders}
 use Rattle.dn_volume.specs.Balance.{times, raised_at, added_at, raised_to_share, added_to_share}
-use Rattle.dn_volume.specs.Shares.{IsWaiting, in_queue, is_begun, IsQueued, IsBegun, Shares}
+use Rattle.dn_volume.specs.Shares.{IsWaiting, in_queue, is_begun, IsQueued, IsBegun}
 use Rattle.dn_volume.specs.Reserve.{units_spent, changes_spent, units_to_share, changes_to_share, HasRoom}
 use Rattle.dn_volume.specs.Agrees.{IsVolume}
 use Rattle.dn_volume.specs.Works.{DaemonLowers, sharing_events}
@@ -45,7 +44,8 @@ use Rattle.dedupe_daemon.proofs.PassEnds.{begun_write}
 no_holder : (h : Option ℕ) (who : ℕ) → h ≡ None → h ≡ Some who → ⊥
 no_holder h who none some = cc
 
-module _ (d : Disk) (b : Parts) (s : State) (v : IsVolume d b s) (sharing : Sharing) (begun_is : b.sharing ≡ Some sharing) (look : sharing.step ≡ Look)
+module _ (d : Disk) (b : Parts) (s : State) (v : IsVolume d b s) (sharing : Sharing) (begun_is : b.sharing ≡ Some sharing) (look : sharing.step ≡
+    Look)
     (all_done : sharing.count ≤ sharing.done) where
   abbrev pub begun : IsBegun d sharing
   begun = (v.sharing sharing begun_is).begun
@@ -57,7 +57,8 @@ module _ (d : Disk) (b : Parts) (s : State) (v : IsVolume d b s) (sharing : Shar
   slot = sharing.work.slot
 
   abbrev pub log : Log
-  log = flag_log d v.fast.valid ino slot sharing.first sharing.count begun.block begun.size InProcess begun.mask (begun_write d sharing begun) Complete
+  log = flag_log d v.fast.valid ino slot sharing.first sharing.count begun.block begun.size InProcess begun.mask (begun_write d sharing begun)
+      Complete
 
   abbrev e : Disk
   e = relogged d ino log
@@ -112,8 +113,7 @@ module _ (d : Disk) (b : Parts) (s : State) (v : IsVolume d b s) (sharing : Shar
     told_after : (i who : ℕ) (n : InodeState) → slice_get b'.inodes.items i ≡ Some n → (n.holder ≡ Some who) ↔ Holds b' who i
     told_after i who n at = elim (cases_eq i ino) [
       | inl same ↦
-          let was = was_held None ino b.inodes.items b'.inodes.items change.inodes ino_inside n (ap (slice_get b'.inodes.items) (sym same) ∙ at) in
-          (
+          let was = was_held None ino b.inodes.items b'.inodes.items change.inodes ino_inside n (ap (slice_get b'.inodes.items) (sym same) ∙ at) in (
             (λ holder. absurd (no_holder n.holder who was.2.holder_is holder)),
             (λ holds. absurd (none_holds who (subst (Holds b' who) same holds))),
           )

@@ -1,52 +1,20 @@
 -- A Write of a live file's log is flagged anew: what is so of the disk afterwards, and of what is kept in memory.
-use Rattle.std.proofs.Common.{
-  ◌≡◌,
-  ◌≢◌,
-  ◌⊎◌,
-  inl,
-  inr,
-  ⊎_elim,
-  ℕ,
-  ◌+◌,
-  ◌*◌,
-  ◌/◌,
-  ◌%◌,
-  ◌<◌,
-  ◌≤◌,
-  Bool,
-  true,
-  false,
-  List,
-  [],
-  ◌∷◌,
-  ◌++◌,
-  length,
-  refl,
-  sym,
-  ◌∙◌,
-  ap,
-  subst,
-  arith,
-}
-use Rattle.std.specs.Prelude.{Option, None, Some, Contains, IsBitSet, slice_index, ◌==◌, if◌then◌else◌}
-use Rattle.std.proofs.lemmas.Bool.{cases_eq}
+use Rattle.std.proofs.Common.{◌≡◌, ◌≢◌, ⊎_elim, ℕ, ◌+◌, ◌*◌, ◌/◌, ◌^◌, ◌<◌, ◌≤◌, Bool, true, false, refl, sym, ◌∙◌, ap, subst, arith}
+use Rattle.std.specs.Prelude.{Contains, IsBitSet, slice_index, ◌==◌, if◌then◌else◌}
 use Rattle.std.proofs.lemmas.Bool.Decides.{nat_tests}
 use Rattle.std.proofs.lemmas.List.Elements.{Contains-get_or}
 use Rattle.pm_device.specs.Pages.{IsInPage}
-use Rattle.pm_layout.specs.Geometry.{InData}
 use Rattle.file_content.specs.Content.{kept}
-use Rattle.log_entry.specs.Spelling.{flag_number, spelled}
+use Rattle.log_entry.specs.Spelling.{flag_number}
 use Rattle.log_entry.specs.declared.item.Flag.{Flag}
-use Rattle.log_entry.specs.declared.item.LogItem.{LogItem}
-use Rattle.log_entry.specs.declared.item.LogItem.TheVariants.{Write}
 use Rattle.inode_log.specs.Reflags.{with_flag, with_mask, flag_word, mask_word}
 use Rattle.dn_model.specs.Log.{Log}
 use Rattle.dn_model.specs.Maps.{Mapping}
 use Rattle.dn_model.specs.Disk.{Disk}
-use Rattle.dn_model.specs.Own.{Print, IsAlone, LivePlace}
+use Rattle.dn_model.specs.Own.{IsAlone, LivePlace}
 use Rattle.dn_model.specs.Valid.{IsValid}
 use Rattle.law_log_swap.specs.Relogged.{relogged}
-use Rattle.law_flags.specs.FlagLaws.{MayFlag, MayMask, MayReflag, flagged, masked}
+use Rattle.law_flags.specs.FlagLaws.{MayFlag, MayMask, flagged, masked}
 use Rattle.law_flags.proofs.Tags.{flag_one_word, flag_maps, flag_pages, mask_one_word, mask_maps, mask_pages}
 use Rattle.dn_volume.specs.Accounts.{WasAloneOn}
 use Rattle.dn_volume.proofs.Owned.{regions}
@@ -138,6 +106,34 @@ module _ (d : Disk) (valid : IsValid d) (ino slot first n block size : ℕ) (fla
     log_page = log_page;
     in_page = word_in_page 5 (omega arith);
     high = word_high 5;
+  }
+
+  abbrev pub mask_log : ℕ → Log
+  mask_log new = changed d valid ino slot first n block size flag mask has (with_mask new)
+
+  pub may_mask : (new : ℕ) → new < 2 ^ n → MayMask d ino new slot (mask_log new)
+  may_mask new small = record {
+    may = record {
+      valid = valid;
+      in_table = has.in_table;
+      live = has.live;
+      reflags = reflags d valid ino slot first n block size flag mask has (with_mask new);
+    };
+    small = small;
+  }
+
+  pub mask_retags : (new : ℕ) → new < 2 ^ n → IsRetagged d ino (mask_log new) (mask_word slot) new (masked slot new)
+  mask_retags new small = record {
+    in_table = has.in_table;
+    live = has.live;
+    one = mask_one_word d ino new slot (mask_log new) (may_mask new small);
+    pages = mask_pages d ino new slot (mask_log new) (may_mask new small);
+    now_maps = mask_maps d ino new slot (mask_log new) (may_mask new small);
+    same_kept = λ m. (mask_bits slot new m).0;
+    page = page;
+    log_page = log_page;
+    in_page = word_in_page 6 (omega arith);
+    high = word_high 6;
   }
 
   -- no place is left alone that wasn't

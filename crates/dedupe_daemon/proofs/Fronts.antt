@@ -1,24 +1,19 @@
 -- The front item of the queue, as the disk has it.
-use Rattle.std.proofs.Common.{◌≡◌, ◌≢◌, ◌⊎◌, inl, inr, ⊎_elim, ℕ, zero, suc, ◌+◌, ◌*◌, ◌/◌, ◌^◌, ◌<◌, ◌≤◌, List, [], ◌∷◌, length, refl, sym, ◌∙◌, ap, subst, arith}
-use Rattle.std.specs.Prelude.{slice_get, slice_index, nat_lt, Option, Some, None, IsTrue, Contains, ◌↔◌, All}
+use Rattle.std.proofs.Common.{◌≡◌, ℕ, zero, suc, ◌+◌, ◌*◌, ◌^◌, ◌<◌, ◌≤◌, List, length, refl, sym, ◌∙◌, ap, subst, arith}
+use Rattle.std.specs.Prelude.{slice_get, nat_lt, Some, IsTrue, Contains, ◌↔◌}
 use Rattle.std.specs.Option.{option_map}
-use Rattle.std.specs.FinMap.{get}
 use Rattle.std.proofs.lemmas.Bool.Decides.{nat_tests}
 use Rattle.std.proofs.lemmas.List.Elements.{All-contains}
 use Rattle.pm_device.specs.State.{State}
-use Rattle.pm_layout.specs.declared.Geometry.{Geometry}
-use Rattle.log_entry.specs.declared.item.Flag.{Flag}
 use Rattle.log_entry.specs.declared.item.LogItem.{LogItem}
 use Rattle.log_entry.specs.declared.item.LogItem.TheVariants.{Write}
 use Rattle.file_index.specs.declared.page_map.Mapping.{Mapping as KeptMapping}
 use Rattle.file_content.specs.Content.{kept}
 use Rattle.dedupe_queue.specs.declared.Work.{Work}
-use Rattle.dn_model.specs.Log.{placed}
 use Rattle.dn_model.specs.Maps.{Mapping}
 use Rattle.dn_model.specs.Disk.{Disk, Live, maps}
 use Rattle.dn_model.specs.Valid.{MayStand}
 use Rattle.law_write.proofs.MappedPlaces.{maps-in_file}
-use Rattle.dn_volume.specs.declared.background.Sharing.{Sharing}
 use Rattle.dn_volume.specs.declared.volume.InodeState.{InodeState}
 use Rattle.dn_volume.specs.declared.volume.InodeUse.{InodeUse}
 use Rattle.dn_volume.specs.declared.volume.InodeUse.TheVariants as used
@@ -26,10 +21,8 @@ use Rattle.dn_volume.specs.declared.volume.Parts.{Parts}
 use Rattle.dn_volume.specs.Inodes.{as_use}
 use Rattle.dn_volume.specs.Agrees.{IsVolume}
 use Rattle.dn_volume.specs.Works.{IsFresh}
-use Rattle.reclaim.specs.Dying.{IsAt}
 use Rattle.reclaim.proofs.NextPlace.{inside_list}
-use Rattle.reclaim.proofs.NodesChanged.{same_some}
-use Rattle.dedupe_daemon.specs.Fronts.{IsPlaceBy, HasPlaceBy, IsFreshIn, IsFreshWork, item_at}
+use Rattle.dedupe_daemon.specs.Fronts.{IsFreshWork, item_at}
 use Rattle.dedupe_daemon.proofs.Items.{in_middle}
 use Rattle.dedupe_daemon.proofs.ItemAt.{HasWrite, at, good, slot_inside, slot_in_data, word_is, write_of}
 use Rattle.dedupe_daemon.proofs.RelogDisk.{some_of}

@@ -1,6 +1,6 @@
 -- Who holds inodes, where the daemon takes one and where it lets one go.
-use Rattle.std.proofs.Common.{◌≡◌, ◌≢◌, inl, inr, ℕ, ◌<◌, ◌≤◌, List, length, refl, sym, ◌∙◌, ap, subst, arith}
-use Rattle.std.specs.Prelude.{slice_get, Option, Some, None, Contains}
+use Rattle.std.proofs.Common.{◌≡◌, inl, inr, ℕ, ◌<◌, ◌≤◌, List, length, refl, sym, ◌∙◌, ap, subst, arith}
+use Rattle.std.specs.Prelude.{slice_get, Option, Some}
 use Rattle.std.specs.FinMap.{get}
 use Rattle.std.proofs.lemmas.Bool.{cases_eq}
 use Rattle.dn_model.specs.Disk.{Disk}
@@ -9,12 +9,12 @@ use Rattle.dn_volume.specs.declared.flight.Change.TheVariants.{Data}
 use Rattle.dn_volume.specs.declared.flight.DataChange.{DataChange}
 use Rattle.dn_volume.specs.declared.volume.InodeState.{InodeState}
 use Rattle.dn_volume.specs.declared.volume.Parts.{Parts}
-use Rattle.dn_volume.specs.Parties.{Flies, Holds, by_client}
+use Rattle.dn_volume.specs.Parties.{Flies, Holds}
 use Rattle.dn_volume.specs.Inodes.{AreHolders, IsInodeOf, AreInodesOf, as_use}
 use Rattle.dn_volume.specs.Reserve.{HasRoom}
 use Rattle.pm_device.specs.State.{State}
 use Rattle.reclaim.specs.Worked.{ChangesOne}
-use Rattle.reclaim.proofs.NodesChanged.{there_at, same_some}
+use Rattle.reclaim.proofs.NodesChanged.{there_at}
 use Rattle.dedupe_daemon.specs.Daemon.{IsHeldBy}
 
 one_holder : (h : Option ℕ) (p q : ℕ) → h ≡ Some p → h ≡ Some q → p ≡ q
@@ -44,7 +44,8 @@ module _ (holder : Option ℕ) (ino : ℕ) (old new : List InodeState) (change :
   ]
 
   -- and so does the room of each index
-  pub room_on : (b : Parts) (s : State) → HasRoom b s → b.inodes.items ≡ old → (who : ℕ) (f : Flight) (c : DataChange) (y : InodeState) → Flies b who f
+  pub room_on : (b : Parts) (s : State) → HasRoom b s → b.inodes.items ≡ old → (who : ℕ) (f : Flight) (c : DataChange) (y : InodeState) → Flies b who
+      f
       → f.change ≡ Data c → slice_get new f.ino ≡ Some y → length c.blocks.items ≤ y.map.room
   room_on b s room same who f c y flies is at = elim (cases_eq f.ino ino) [
     | inl here ↦

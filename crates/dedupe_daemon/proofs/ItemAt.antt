@@ -1,28 +1,6 @@
 -- An item of a live file's log, as the device has it, and the places that it maps.
-use Rattle.std.proofs.Common.{
-  ◌≡◌,
-  ℕ,
-  ◌+◌,
-  ◌-◌,
-  ◌*◌,
-  ◌/◌,
-  ◌%◌,
-  ◌^◌,
-  ◌<◌,
-  ◌≤◌,
-  List,
-  [],
-  ◌∷◌,
-  ◌++◌,
-  length,
-  refl,
-  sym,
-  ◌∙◌,
-  ap,
-  subst,
-  arith,
-}
-use Rattle.std.specs.Prelude.{slice_index, Contains, Some, All}
+use Rattle.std.proofs.Common.{◌≡◌, ℕ, ◌+◌, ◌-◌, ◌*◌, ◌/◌, ◌<◌, ◌≤◌, List, [], ◌∷◌, ◌++◌, length, refl, sym, ◌∙◌, ap, subst, arith}
+use Rattle.std.specs.Prelude.{slice_index, Contains, Some}
 use Rattle.std.proofs.lemmas.List.Elements.{All-contains}
 use Rattle.pm_device.specs.State.{State}
 use Rattle.pm_layout.specs.declared.Geometry.{Geometry}
@@ -31,7 +9,7 @@ use Rattle.log_entry.specs.Spelling.{spelled, IsSpelled, flag_number}
 use Rattle.log_entry.specs.declared.item.Flag.{Flag}
 use Rattle.log_entry.specs.declared.item.LogItem.{LogItem}
 use Rattle.log_entry.specs.declared.item.LogItem.TheVariants.{Write}
-use Rattle.dn_model.specs.Log.{Log, Placed, placed, at_slot, log_word, slot_name, count, spelled_word}
+use Rattle.dn_model.specs.Log.{Log, Placed, placed, at_slot, slot_name, count, spelled_word}
 use Rattle.dn_model.specs.Maps.{Mapping}
 use Rattle.dn_model.specs.Disk.{Disk, Live, IsUsed, maps, DiskSays, of_logs}
 use Rattle.dn_model.specs.Valid.{IsLog, IsValid}
@@ -39,7 +17,18 @@ use Rattle.dn_model.proofs.Append.{log_word_in_data}
 use Rattle.inode_log.specs.Reflags.{Reflags}
 use Rattle.law_log_swap.proofs.Relogged.{maps_before}
 use Rattle.dn_volume.specs.Agrees.{StandsFast}
-use Rattle.dedupe_daemon.proofs.Items.{StandsAt, stands_at, front_within, item_slot, same_item, item_word, write_words, mapped_by_item, in_middle, placed_middle}
+use Rattle.dedupe_daemon.proofs.Items.{
+  StandsAt,
+  stands_at,
+  front_within,
+  item_slot,
+  same_item,
+  item_word,
+  write_words,
+  mapped_by_item,
+  in_middle,
+  placed_middle,
+}
 
 -- a Write stands at a slot of a live inode's log
 pub record HasWrite (d : Disk) (ino slot first n block size : ℕ) (flag : Flag) (mask : ℕ) : Type 0 where
@@ -102,7 +91,7 @@ module _ (d : Disk) (valid : IsValid d) (ino slot first n block size : ℕ) (fla
   abbrev pub changed : (LogItem → LogItem) → Log
   changed change = record { pages = log.pages; items = at.front ++ change (Write first n block size flag mask) ∷ at.rest }
 
-  pub reflags : (change : LogItem → LogItem) → Reflags change slot log (changed change)
+  abbrev pub reflags : (change : LogItem → LogItem) → Reflags change slot log (changed change)
   reflags change = record {
     front = at.front;
     item = Write first n block size flag mask;

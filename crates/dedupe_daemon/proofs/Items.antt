@@ -1,7 +1,6 @@
 -- The items of a log, by their slots and by the places that they map.
 use Rattle.std.proofs.Common.{
   ◌≡◌,
-  ◌≢◌,
   ◌⊎◌,
   inl,
   inr,
@@ -10,9 +9,6 @@ use Rattle.std.proofs.Common.{
   suc,
   ◌+◌,
   ◌-◌,
-  ◌*◌,
-  ◌/◌,
-  ◌%◌,
   ◌<◌,
   ◌≤◌,
   Bool,

@@ -15,6 +15,8 @@ pub mod Begun
 pub mod BeginEnds
 pub mod RoomSince
 pub mod Stale
+pub mod PagesRead
+pub mod PlaceNext
 pub mod AtPlace
 pub mod FilePages
 pub mod InsertDisk
@@ -30,3 +32,7 @@ pub mod PlaceFound
 pub mod ShareDisk
 pub mod ShareEvent
 pub mod ShareEnds
+pub mod Bits
+pub mod Masked
+pub mod MaskEnds
+pub mod LookedUp

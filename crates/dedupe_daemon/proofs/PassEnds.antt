@@ -1,5 +1,5 @@
 -- The event of a place that is passed over, from what its calls give.
-use Rattle.std.proofs.Common.{◌≡◌, ℕ, ◌^◌, ◌<◌, ◌≤◌, false, [], arith}
+use Rattle.std.proofs.Common.{◌≡◌, ◌^◌, ◌<◌, ◌≤◌, false, [], arith}
 use Rattle.std.specs.Prelude.{Some}
 use Rattle.pm_device.specs.State.{State, Agree}
 use Rattle.dn_model.specs.Disk.{Disk}
@@ -8,7 +8,7 @@ use Rattle.dn_volume.specs.declared.units.TheConstants.{PLACE_UNITS}
 use Rattle.dn_volume.specs.declared.background.Sharing.{Sharing}
 use Rattle.dn_volume.specs.declared.volume.Parts.{Parts}
 use Rattle.dn_volume.specs.declared.volume.Volume.{Volume}
-use Rattle.dn_volume.specs.Agrees.{IsVolume, Agrees, agrees_with}
+use Rattle.dn_volume.specs.Agrees.{IsVolume, Agrees}
 use Rattle.dn_volume.specs.Shares.{IsBegun}
 use Rattle.dn_volume.specs.Events.{MovesOn}
 use Rattle.dn_volume.proofs.Tables.{running_disk}
@@ -21,7 +21,8 @@ use Rattle.dedupe_daemon.proofs.QuietEvent.{shown_same}
 use Rattle.dedupe_daemon.proofs.Passed.{pass_event, place_owed, changes_owed}
 
 -- the begun item stands in its log
-pub begun_write : (d : Disk) (sharing : Sharing) (begun : IsBegun d sharing) → HasWrite d sharing.work.ino sharing.work.slot sharing.first sharing.count
+pub begun_write : (d : Disk) (sharing : Sharing) (begun : IsBegun d sharing) → HasWrite d sharing.work.ino sharing.work.slot sharing.first
+    sharing.count
     begun.block begun.size InProcess begun.mask
 begun_write d sharing begun = record { in_table = begun.in_table; live = begun.live; item = begun.item }
 
@@ -40,6 +41,9 @@ module _ {D F : Type 0} (state : D → State) (w : Volume D F) (agrees : Agrees 
 
   pub units_for_place : IsLooking w.parts sharing → PLACE_UNITS ≤ w.parts.owed.units
   units_for_place looking = let found = running_disk state w running agrees in place_owed w.parts sharing looking (state w.device) found.1.room
+
+  pub spare_for_place : IsLooking w.parts sharing → 3 ≤ (state w.device).spare
+  spare_for_place looking = let found = running_disk state w running agrees in omega (arith, units_for_place looking, found.1.room.units)
 
   pub changes_for_place : IsLooking w.parts sharing → 2 ≤ w.parts.owed.trace
   changes_for_place looking = let found = running_disk state w running agrees in changes_owed w.parts sharing looking (state w.device) found.1.room

@@ -1,13 +1,10 @@
 -- A place of the daemon's item is done: what is kept in memory then.
-use Rattle.std.proofs.Common.{◌≡◌, ◌⊎◌, inl, inr, ⊎_elim, ℕ, ◌+◌, ◌-◌, ◌*◌, ◌^◌, ◌<◌, ◌≤◌, Bool, true, false, List, [], length, refl, sym, ◌∙◌, ap, subst, arith}
-use Rattle.std.specs.Prelude.{slice_get, Option, Some, None, Contains, if◌then◌else◌, nat_lt}
-use Rattle.std.proofs.lemmas.Bool.{cases_eq, cases_lt}
+use Rattle.std.proofs.Common.{◌≡◌, inl, inr, ℕ, ◌+◌, ◌<◌, ◌≤◌, List, [], length, refl, sym, ◌∙◌, ap, subst, arith}
+use Rattle.std.specs.Prelude.{slice_get, Option, Some, None, Contains}
+use Rattle.std.proofs.lemmas.Bool.{cases_lt}
 use Rattle.std.proofs.lemmas.Bool.Decides.{nat_tests}
 use Rattle.pm_device.specs.State.{State, Agree}
-use Rattle.dedupe_queue.specs.declared.Work.{Work}
-use Rattle.dn_model.specs.Maps.{Mapping}
 use Rattle.dn_model.specs.Disk.{Disk, maps}
-use Rattle.dn_model.specs.Own.{IsAlone, HasRow}
 use Rattle.dn_volume.specs.declared.units.TheConstants.{PLACE_UNITS}
 use Rattle.dn_volume.specs.declared.background.Sharing.{Sharing}
 use Rattle.dn_volume.specs.declared.background.SharingStep.{SharingStep}
@@ -15,18 +12,18 @@ use Rattle.dn_volume.specs.declared.background.SharingStep.TheVariants.{Look}
 use Rattle.dn_volume.specs.declared.volume.InodeState.{InodeState}
 use Rattle.dn_volume.specs.declared.volume.Parts.{Parts}
 use Rattle.dn_volume.specs.Parties.{Holds, by_client, by_daemon}
-use Rattle.dn_volume.specs.Inodes.{AreInodesOf, AreHolders}
+use Rattle.dn_volume.specs.Inodes.{AreInodesOf}
 use Rattle.dn_volume.specs.Balance.{times, raised_at, added_at, raised_to_share, added_to_share}
-use Rattle.dn_volume.specs.Shares.{IsWaiting, in_queue, is_begun, IsQueued, IsBegun, IsSharing, Shares}
+use Rattle.dn_volume.specs.Shares.{IsWaiting, in_queue, is_begun, IsBegun, IsSharing, Shares}
 use Rattle.dn_volume.specs.Reserve.{units_spent, changes_spent, units_to_share, changes_to_share, HasRoom}
 use Rattle.dn_volume.specs.Agrees.{IsVolume}
 use Rattle.dn_volume.specs.Works.{DaemonLowers, sharing_events, step_events, MayWork, daemon_stand}
 use Rattle.dn_volume.proofs.HandsKept.{flies_before, flies_still}
 use Rattle.dn_volume.proofs.Stills.{still_same}
-use Rattle.dedupe_daemon.specs.Daemon.{KeepsAll, PassesPlace, after_place}
+use Rattle.dedupe_daemon.specs.Daemon.{PassesPlace, after_place}
 use Rattle.dedupe_daemon.specs.Looked.{IsLooking, IsPassed}
 use Rattle.dedupe_daemon.proofs.DaemonEvent.{DaemonEvent, flights_same}
-use Rattle.dedupe_daemon.proofs.DaemonRoom.{MovesRoom, room_kept}
+use Rattle.dedupe_daemon.proofs.DaemonRoom.{room_kept}
 use Rattle.dedupe_daemon.proofs.QuietEvent.{disk_same, leaves_same}
 
 pub one_item : (o : Option Sharing) (x y : Sharing) → o ≡ Some x → o ≡ Some y → x ≡ y
@@ -66,7 +63,7 @@ module _ (b : Parts) (sharing : Sharing) (looking : IsLooking b sharing) where
       omega (arith, room.owes.trace, here, look_changes sharing looking.step, looking.some)
 
   module _ (b' : Parts) (change : PassesPlace sharing b b') where
-    nodes_same : b'.inodes.items ≡ b.inodes.items
+    pub nodes_same : b'.inodes.items ≡ b.inodes.items
     nodes_same = ap (λ (ns : _). ns.items) change.inodes
 
     pub holds_on : (who ino : ℕ) → Holds b who ino → Holds b' who ino
@@ -77,7 +74,8 @@ module _ (b : Parts) (sharing : Sharing) (looking : IsLooking b sharing) where
     pub holds_back : (who ino : ℕ) → Holds b' who ino → Holds b who ino
     holds_back who ino (by_client f flies has) = by_client f (flies_before b b' (flights_same b b' change.kept) who f flies) has
     holds_back who ino (by_daemon item him is same) =
-        by_daemon sharing him looking.begun (ap (λ (x : Sharing). x.work.ino) (one_item b'.sharing (after_place sharing) item change.passed is) ∙ same)
+        by_daemon sharing him looking.begun (ap (λ (x : Sharing). x.work.ino) (one_item b'.sharing (after_place sharing) item change.passed is) ∙
+        same)
 
     pub waits_on : (ino slot : ℕ) → IsWaiting b ino slot → IsWaiting b' ino slot
     waits_on ino slot (in_queue work n has of_ino of_slot at round) =
@@ -85,7 +83,8 @@ module _ (b : Parts) (sharing : Sharing) (looking : IsLooking b sharing) where
         (ap (λ (ns : List InodeState). slice_get ns ino) nodes_same ∙ at) round
     waits_on ino slot (is_begun item is of_ino of_slot) =
         let same = one_item b.sharing sharing item looking.begun is in
-        is_begun (after_place sharing) change.passed (ap (λ (x : Sharing). x.work.ino) same ∙ of_ino) (ap (λ (x : Sharing). x.work.slot) same ∙ of_slot)
+        is_begun (after_place sharing) change.passed (ap (λ (x : Sharing). x.work.ino) same ∙ of_ino) (ap (λ (x : Sharing). x.work.slot) same ∙
+        of_slot)
 
     pub pass_room : (s u : State) → HasRoom b s → b'.owed.units ≤ u.spare → HasRoom b' u
     pass_room s u room spare = room_kept b b' s u change.kept (record {
@@ -166,9 +165,12 @@ module _ (d : Disk) (b b' : Parts) (s : State) (v : IsVolume d b s) (sharing : S
     inodes_are = subst (λ (ns : List InodeState). AreInodesOf d ns) (sym (nodes_same b sharing looking b' change)) v.inodes;
     holders = record {
       told = λ ino who n at.
-          let was = v.holders.told ino who n (ap (λ (ns : List InodeState). slice_get ns ino) (sym (nodes_same b sharing looking b' change)) ∙ at) in
-          ((λ holder. holds_on b sharing looking b' change who ino (was.0 holder)), (λ holds. was.1 (holds_back b sharing looking b' change who ino
-          holds)));
+          let was = v.holders.told ino who n (ap (λ (ns : List InodeState). slice_get ns ino) (sym (nodes_same b sharing looking b'
+          change)) ∙ at) in (
+            (λ holder. holds_on b sharing looking b' change who ino (was.0 holder)),
+            (λ holds. was.1 (holds_back b sharing looking b' change who ino
+                holds)),
+          );
       in_table = λ ino who holds. v.holders.in_table ino who (holds_back b sharing looking b' change who ino holds);
     };
     queue = record { waits = λ ino idx m place undone. waits_on b sharing looking b' change ino m.slot (v.queue.waits ino idx m place undone) };

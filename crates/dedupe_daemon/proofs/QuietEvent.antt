@@ -1,12 +1,11 @@
 -- An event of the daemon that stores nothing.
-use Rattle.std.proofs.Common.{◌≡◌, ℕ, List, [], refl, arith}
-use Rattle.std.specs.Prelude.{Contains}
+use Rattle.std.proofs.Common.{[], refl, arith}
 use Rattle.pm_device.specs.State.{State, Agree}
 use Rattle.pm_device.proofs.Only.{stores_only-none}
 use Rattle.dn_model.specs.Disk.{Disk}
 use Rattle.dn_model.specs.Own.{Print}
 use Rattle.dn_volume.specs.declared.volume.Parts.{Parts}
-use Rattle.dn_volume.specs.Agrees.{StandsFast, IsVolume}
+use Rattle.dn_volume.specs.Agrees.{IsVolume}
 use Rattle.dn_volume.specs.Rely.{IsWordOf, LeavesRest}
 use Rattle.dn_volume.proofs.Kept.{quiet_accounts}
 use Rattle.reclaim.proofs.Zeroed.{images_now}

@@ -1,50 +1,22 @@
 -- One word of an item of a live file's log changes its flag or its mask: what is so of the disk afterwards.
-use Rattle.std.proofs.Common.{
-  ◌≡◌,
-  ◌≢◌,
-  ◌⊎◌,
-  inl,
-  inr,
-  ⊎_elim,
-  ℕ,
-  ◌+◌,
-  ◌*◌,
-  ◌/◌,
-  ◌%◌,
-  ◌<◌,
-  ◌≤◌,
-  List,
-  [],
-  ◌∷◌,
-  length,
-  refl,
-  sym,
-  ◌∙◌,
-  ap,
-  subst,
-  arith,
-}
-use Rattle.std.specs.Prelude.{Option, None, Some, Contains, IsNone, slice_index}
+use Rattle.std.proofs.Common.{◌≡◌, ◌≢◌, ◌⊎◌, inl, inr, ⊎_elim, ℕ, ◌*◌, ◌<◌, ◌≤◌, List, [], ◌∷◌, length, refl, sym, ◌∙◌, ap, subst, arith}
+use Rattle.std.specs.Prelude.{Option, None, Some, Contains, IsNone}
 use Rattle.std.specs.Option.{option_map}
-use Rattle.std.specs.FinMap.{get}
 use Rattle.std.proofs.lemmas.Bool.{cases_eq}
-use Rattle.std.proofs.lemmas.List.Elements.{Contains-get_or}
 use Rattle.pm_device.specs.State.{State, Agree}
 use Rattle.pm_device.specs.Settled.{IsSettled, LeavesOnly, StoresOnly, KeepsFlushed, Others}
 use Rattle.pm_device.specs.Commit.{IsDone, LeavesOneWord}
 use Rattle.pm_device.specs.Pages.{IsInPage}
 use Rattle.pm_device.proofs.Only.{stores_only-weaken}
 use Rattle.pm_layout.specs.declared.Geometry.{Geometry}
-use Rattle.file_index.specs.declared.page_map.Mapping.{Mapping as KeptMapping}
 use Rattle.file_content.specs.Content.{kept}
 use Rattle.dn_model.specs.Log.{Log}
-use Rattle.dn_model.specs.Maps.{Mapping, size_of}
+use Rattle.dn_model.specs.Maps.{Mapping}
 use Rattle.dn_model.specs.Table.{Row, row_of}
-use Rattle.dn_model.specs.Disk.{Disk, Inode, Use, Live, IsUsed, maps, rows}
+use Rattle.dn_model.specs.Disk.{Disk, Use, Live, IsUsed, maps, rows}
 use Rattle.dn_model.specs.Counts.{total}
 use Rattle.dn_model.specs.Files.{files}
 use Rattle.dn_model.specs.Own.{Print, IsOwn, IsAlone, LivePlace, page_bytes}
-use Rattle.law_write.specs.Events.{IsUnused}
 use Rattle.law_write.specs.WithLog.{with_log}
 use Rattle.law_write.proofs.Counting.{total-same}
 use Rattle.law_table.proofs.Rows.{listed_here, listed_cases}
@@ -52,7 +24,7 @@ use Rattle.law_table.proofs.Words.{nothing_ready}
 use Rattle.law_table_on_disk.specs.OneWord.{IsOneWord}
 use Rattle.law_table_on_disk.proofs.OneWord.{one_word_stands, one_word_any_order, one_word_may_commit}
 use Rattle.law_log_swap.specs.Relogged.{relogged}
-use Rattle.law_log_swap.proofs.Relogged.{at_other, use_same, same_geometry, same_word, maps_others}
+use Rattle.law_log_swap.proofs.Relogged.{at_other, use_same, same_word, maps_others}
 use Rattle.law_flags.specs.FlagLaws.{KeepsPages}
 use Rattle.dn_volume.specs.declared.volume.InodeState.{InodeState}
 use Rattle.dn_volume.specs.Inodes.{IsInodeOf, AreInodesOf}

@@ -1,22 +1,21 @@
 -- An event of the daemon after room was made for it.
-use Rattle.std.proofs.Common.{◌≡◌, ℕ, ◌-◌, ◌<◌, List, refl, sym, ◌∙◌, ap, subst}
-use Rattle.std.specs.Prelude.{Option, None, Some, IsSome, slice_get, length, Vec}
+use Rattle.std.proofs.Common.{◌≡◌, ℕ, ◌-◌, ◌<◌, List, sym, ◌∙◌, ap, subst}
+use Rattle.std.specs.Prelude.{None, IsSome, slice_get}
 use Rattle.pm_device.specs.State.{State, Agree}
 use Rattle.dn_model.specs.Disk.{Disk}
 use Rattle.dn_model.specs.Own.{Print}
-use Rattle.dn_volume.specs.declared.background.Reclaiming.{Reclaiming}
 use Rattle.dn_volume.specs.declared.outcome.Outcome.{Outcome}
 use Rattle.dn_volume.specs.declared.outcome.Outcome.TheVariants.{Running, Done, Busy, Released, Idle, NotYours, NoMemory, Stopped}
 use Rattle.dn_volume.specs.declared.volume.InodeState.{InodeState}
 use Rattle.dn_volume.specs.declared.volume.Parts.{Parts}
 use Rattle.dn_volume.specs.declared.volume.Volume.{Volume}
-use Rattle.dn_volume.specs.Parties.{Flies, Holds, by_client, by_daemon, flight_at}
-use Rattle.dn_volume.specs.Agrees.{IsVolume, Agrees}
+use Rattle.dn_volume.specs.Parties.{Holds, by_client, by_daemon, flight_at}
+use Rattle.dn_volume.specs.Agrees.{IsVolume}
 use Rattle.dn_volume.specs.Begins.{IsUntouched}
-use Rattle.dn_volume.specs.Works.{IsFresh, IsHeldUp, DaemonRests, MayWork, DaemonLowers, DaemonWorks, daemon_stand, daemon_work}
+use Rattle.dn_volume.specs.Works.{IsHeldUp, DaemonRests, MayWork, DaemonLowers, DaemonWorks, daemon_stand, daemon_work}
 use Rattle.dn_volume.proofs.SameRoom.{room_joins}
 use Rattle.reclaim.specs.RoomMade.{MakesRoom}
-use Rattle.reclaim.proofs.RoomThen.{room_is, room_untouched, moves_on_since, breaks_since}
+use Rattle.reclaim.proofs.RoomThen.{room_untouched, moves_on_since, breaks_since}
 
 -- what the stand of the daemon reads
 pub record SameStand (b c : Parts) : Type 0 where

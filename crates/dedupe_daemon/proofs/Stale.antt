@@ -1,5 +1,5 @@
 -- A stale item is taken out of the queue; or the front item, which isn't stale, is held up.
-use Rattle.std.proofs.Common.{◌≡◌, ◌⊎◌, inl, inr, ⊎_elim, ℕ, ◌+◌, ◌*◌, ◌^◌, ◌<◌, ◌≤◌, false, List, [], ◌∷◌, length, refl, sym, ◌∙◌, ap, subst, arith}
+use Rattle.std.proofs.Common.{◌≡◌, ⊎_elim, ℕ, ◌+◌, ◌*◌, ◌^◌, ◌<◌, ◌≤◌, false, List, [], ◌∷◌, length, refl, sym, ◌∙◌, ap, subst, arith}
 use Rattle.std.specs.Prelude.{slice_get, Option, Some, None, Contains, IsSome, slice_index_or}
 use Rattle.pm_device.specs.State.{State, Agree}
 use Rattle.dedupe_queue.specs.declared.Work.{Work}
@@ -14,7 +14,7 @@ use Rattle.dn_volume.specs.declared.volume.Volume.{Volume}
 use Rattle.dn_volume.specs.Parties.{Holds, by_client, by_daemon}
 use Rattle.dn_volume.specs.Inodes.{AreInodesOf}
 use Rattle.dn_volume.specs.Balance.{times, raised_to_share, added_to_share}
-use Rattle.dn_volume.specs.Shares.{IsWaiting, in_queue, is_begun, Shares}
+use Rattle.dn_volume.specs.Shares.{IsWaiting, in_queue, is_begun}
 use Rattle.dn_volume.specs.Reserve.{units_to_share, changes_to_share}
 use Rattle.dn_volume.specs.Agrees.{IsVolume, Agrees}
 use Rattle.dn_volume.specs.Events.{MovesOn}
@@ -22,7 +22,6 @@ use Rattle.dn_volume.specs.Works.{IsFresh, IsHeldUp, MayWork, DaemonLowers, shar
 use Rattle.dn_volume.proofs.HandsKept.{flies_before, flies_still}
 use Rattle.dn_volume.proofs.Stills.{still_same}
 use Rattle.dn_volume.proofs.Tables.{running_disk}
-use Rattle.reclaim.specs.Dying.{IsAt}
 use Rattle.reclaim.proofs.DyingFound.{read_at}
 use Rattle.reclaim.proofs.NextPlace.{inside_list}
 use Rattle.reclaim.proofs.NodesChanged.{same_some}

@@ -1,5 +1,5 @@
 -- What events of the daemon that store no row make of what is kept in memory.
-use Rattle.std.specs.Prelude.{◌≡◌, ℕ, ◌+◌, ◌-◌, ◌*◌, Option, Some, None}
+use Rattle.std.specs.Prelude.{◌≡◌, ℕ, ◌+◌, ◌*◌, Option, Some, None}
 use Rattle.dedupe_queue.specs.declared.Work.{Work}
 use Rattle.dedupe_queue.specs.Queue.{Pops}
 use Rattle.dn_volume.specs.declared.units.TheConstants.{END_UNITS, PLACE_UNITS}
@@ -66,6 +66,7 @@ pub record EndsItem (ino : ℕ) (b b' : Parts) : Type 0 where
 abbrev pub after_place : Sharing → Sharing
 after_place sharing = record sharing { done = sharing.done + 1; step = Look }
 
+-- the place that was looked at is done
 pub record PassesPlace (sharing : Sharing) (b b' : Parts) : Type 0 where
   pub kept : KeepsAll b b'
   pub inodes : b'.inodes ≡ b.inodes

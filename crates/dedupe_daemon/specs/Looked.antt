@@ -1,5 +1,7 @@
 -- What the daemon finds at a place.
-use Rattle.std.specs.Prelude.{◌≡◌, ◌≢◌, ◌⊎◌, ℕ, ◌+◌, ◌<◌, List, Some, IsNone, Contains}
+use Rattle.std.specs.Prelude.{◌≡◌, ◌≢◌, ◌⊎◌, ℕ, ◌+◌, ◌<◌, List, Some, IsNone, Contains, slice_get}
+use Rattle.std.specs.FinMap.{get}
+use Rattle.file_index.specs.declared.page_map.Mapping.{Mapping as KeptMapping}
 use Rattle.fact_table.specs.Table.{IsAtSlot}
 use Rattle.fact_table.specs.Chained.{HasNoRow}
 use Rattle.dn_model.specs.Maps.{Mapping}
@@ -8,6 +10,7 @@ use Rattle.dn_model.specs.Disk.{Disk, maps, rows}
 use Rattle.dn_model.specs.Own.{Print, IsAlone, HasRow, page_bytes}
 use Rattle.dn_volume.specs.declared.background.Sharing.{Sharing}
 use Rattle.dn_volume.specs.declared.background.SharingStep.TheVariants.{Look}
+use Rattle.dn_volume.specs.declared.volume.InodeState.{InodeState}
 use Rattle.dn_volume.specs.declared.volume.Parts.{Parts}
 
 -- the daemon has begun this item, and is to look at its next place
@@ -15,6 +18,14 @@ pub record IsLooking (b : Parts) (sharing : Sharing) : Type 0 where
   pub begun : b.sharing ≡ Some sharing
   pub step : sharing.step ≡ Look
   pub some : sharing.done < sharing.count
+
+-- the index of the item's inode has the next place, mapped by the item
+pub record IsNextPlace (inodes : List InodeState) (sharing : Sharing) (m : KeptMapping) : Type 0
+  where
+    pub node : InodeState
+    pub there : slice_get inodes sharing.work.ino ≡ Some node
+    pub mapped : get node.map.map (sharing.first + sharing.done) ≡ Some m
+    pub by_item : m.slot ≡ sharing.work.slot
 
 -- the item maps the next place to this page, which has no row, and the place isn't left alone
 pub record IsAtPlace (d : Disk) (sharing : Sharing) (page : ℕ) : Type 0 where

@@ -1,8 +1,7 @@
 -- Pages are fingerprinted and compared.
-use Rattle.std.specs.Prelude.{◌≡◌, ℕ, ◌<◌, ◌↔◌, List, Bool, IsTrue}
+use Rattle.std.specs.Prelude.{ℕ}
 use Rattle.pm_device.specs.State.{State}
 use Rattle.dn_model.specs.Disk.{Disk}
-use Rattle.dn_model.specs.Own.{Print, page_bytes}
 use Rattle.law_write.specs.Events.{IsReadPage}
 use Rattle.dn_volume.specs.declared.volume.Parts.{Parts}
 use Rattle.dn_volume.specs.Agrees.{IsVolume}

@@ -11,16 +11,14 @@ ghost use Rattle.dedupe_daemon.specs.Fronts.{IsFreshWork, item_at as kept_item, 
 
 use crate::end::hold_inode;
 use crate::front::{is_fresh, item_at};
-
-use dedupe_queue::Work;
 use count_events::release::stop;
+use dedupe_queue::Work;
 use dn_volume::units::{END_UNITS, PLACE_UNITS};
 use dn_volume::{DAEMON, Outcome, Parts, Sharing, Volume};
 use fingerprint::Fingerprint;
 use inode_log::flag::{FLAG_UNITS, set_flag};
 use log_entry::Flag;
 use pm_device::Pm;
-
 
 // The front item is gone from the queue.
 fn note_stale(parts: &mut Parts, work: Work)
@@ -82,7 +80,13 @@ fn take_item<D: Pm, F: Fingerprint>(v: &mut Volume<D, F>, sharing: Sharing) -> O
         → DaemonWorks D.state F.print v.old v.new d result }
 {
     let g = v.parts.geometry;
-    match set_flag(&mut v.device, &g, DAEMON, sharing.work.slot, Flag::InProcess) {
+    match set_flag(
+        &mut v.device,
+        &g,
+        DAEMON,
+        sharing.work.slot,
+        Flag::InProcess,
+    ) {
         Ok(()) => {
             note_begin(&mut v.parts, sharing);
             Outcome::Running {

@@ -7,7 +7,6 @@ ghost use Rattle.dn_volume.specs.Works.{DaemonWorks};
 ghost use Rattle.reclaim.specs.Worked.{ChangesOne};
 ghost use Rattle.dedupe_daemon.specs.Daemon.{IsHeldBy, EndsItem};
 
-
 use count_events::release::stop;
 use dn_volume::units::END_UNITS;
 use dn_volume::{DAEMON, InodeState, Outcome, Parts, Sharing, Volume};
@@ -15,7 +14,6 @@ use fingerprint::Fingerprint;
 use inode_log::flag::set_flag;
 use log_entry::Flag;
 use pm_device::Pm;
-
 
 // Another holds an inode, or nobody does.
 fn hold_state(node: &mut InodeState, holder: Option<u32>)

@@ -6,10 +6,16 @@
 
 pub mod begin;
 pub mod end;
+pub mod find;
 pub mod front;
 pub mod insert;
+pub mod mask;
+pub mod order;
 pub mod page;
 pub mod pass;
+pub mod place;
 pub mod raise;
 pub mod remap;
 pub mod step;
+
+pub use order::daemon;

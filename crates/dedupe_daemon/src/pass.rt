@@ -38,7 +38,7 @@ fn next_place(sharing: Sharing) -> Sharing
 }
 
 // The place that is looked at is done.
-fn note_pass(parts: &mut Parts, sharing: Sharing)
+pub(crate) fn note_pass(parts: &mut Parts, sharing: Sharing)
     requires some { sharing.done < sharing.count }
     requires units { PLACE_UNITS ≤ parts.old.owed.units }
     requires changes { 2 ≤ parts.old.owed.trace }

@@ -41,14 +41,22 @@ impl Model for NameMap {
     ghost invariant = { λ m. IsRising (slice_cmp nat_cmp) m.entries.items };
 }
 
+// Where the entry of these bytes as a name is, or where it would go.
+fn search_bytes(entries: &[(Name, u64)], name: &[u8]) -> Result<usize, usize>
+    requires { IsRising (slice_cmp nat_cmp) entries.now }
+    ensures found { IfOk result (HasKey entries.now name.now) }
+    ensures absent { IfErr result (IsGap (slice_cmp nat_cmp) entries.now name.now) }
+{
+    entries.binary_search_by(|entry| entry.0.bytes().cmp(name))
+}
+
 // Where the entry of the name is, or where it would go.
 fn search(entries: &[(Name, u64)], name: &Name) -> Result<usize, usize>
     requires { IsRising (slice_cmp nat_cmp) entries.now }
     ensures found { IfOk result (HasKey entries.now name.now) }
     ensures absent { IfErr result (IsGap (slice_cmp nat_cmp) entries.now name.now) }
 {
-    let bytes = name.bytes();
-    entries.binary_search_by(|entry| entry.0.bytes().cmp(bytes))
+    search_bytes(entries, name.bytes())
 }
 
 impl NameMap {
@@ -103,6 +111,16 @@ impl NameMap {
     {
         if let Ok(at) = search(&self.entries, name) {
             let _ = self.entries.remove(at);
+        }
+    }
+
+    /// Lets these bytes lead to nothing, as a name. Bytes that are no name that is there change nothing.
+    /// It takes no memory.
+    pub fn drop_bytes(&mut self, name: &[u8])
+        ensures { Drops name.now self.old self.new }
+    {
+        if let Ok(place) = search_bytes(&self.entries, name) {
+            let _ = self.entries.remove(place);
         }
     }
 

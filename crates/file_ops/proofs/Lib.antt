@@ -18,13 +18,13 @@ pub mod Accounted
 pub mod Committed
 pub mod Known
 pub mod CutAfter
+pub mod Replied
+pub mod WriteAsks
+pub mod WritePlanned
+pub mod WriteOpened
 pub mod Filled
 pub mod FillBytes
 pub mod Nexts
 pub mod Flying
 pub mod FillEnds
 pub mod NextStep
-pub mod Replied
-pub mod WriteAsks
-pub mod WritePlanned
-pub mod WriteOpened

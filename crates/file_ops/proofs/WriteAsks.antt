@@ -1,5 +1,28 @@
 -- What a Write asks, and what it is answered where it isn't begun.
-use Rattle.std.proofs.Common.{◌≡◌, ◌⊎◌, inl, inr, ⊎_elim, ℕ, ◌+◌, ◌-◌, ◌<◌, ◌≤◌, List, [], ◌∷◌, length, refl, sym, ◌∙◌, ap, subst, arith, Option, Some}
+use Rattle.std.proofs.Common.{
+  ◌≡◌,
+  ◌⊎◌,
+  inl,
+  inr,
+  ⊎_elim,
+  ℕ,
+  ◌+◌,
+  ◌-◌,
+  ◌<◌,
+  ◌≤◌,
+  List,
+  [],
+  ◌∷◌,
+  length,
+  refl,
+  sym,
+  ◌∙◌,
+  ap,
+  subst,
+  arith,
+  Option,
+  Some,
+}
 use Rattle.std.specs.Prelude.{◌/◌, if◌then◌else◌, IsSome, nat_lt, Bool, true, false}
 use Rattle.pm_device.specs.State.{State}
 use Rattle.law_table.proofs.Rows.{other_test}

@@ -87,7 +87,8 @@ module _ {D F : Type 0} (state : D → State) (v v1 : Volume D F) (d : Disk) (vo
   -- it is over the volume again for which room was made, if the pages are free again
   pub untouched2 : (v2 : Volume D F) → v2.device ≡ v1.device → v2.parts ≡ v1.parts → IsUntouched state v v2 d
   untouched2 v2 device parts = record {
-    volume = subst (λ (x : D). IsVolume d v2.parts (state x)) (sym device) (subst (λ (p : Parts). IsVolume d p (state v1.device)) (sym parts) volume1);
+    volume = subst (λ (x : D). IsVolume d v2.parts (state x)) (sym device) (subst (λ (p : Parts). IsVolume d p (state v1.device))
+        (sym parts) volume1);
     device = subst (λ (x : D). IsSame (state v.device) (state x)) (sym device) only.device;
     same = subst (λ (p : Parts). SameButRoom v.parts p) (sym parts) only.keeps.same;
     history = ap (λ (p : Parts). p.history.items) parts ∙ only.history;
@@ -130,7 +131,8 @@ module _ {D F : Type 0} (state : D → State) (v v1 : Volume D F) (d : Disk) (vo
 
     pub room_at : (tail left at_word : ℕ) → at_word ≡ inode_word ask.ino 2 → tail ≡ slice_index (state v1.device).now at_word
         → ((g : Geometry) (log : Log) → IsPaged g log → tail ≡ tail_at log.pages (count log) → left ≡ room log) → left ≡ room (d.inode ask.ino).log
-    room_at tail left at_word word read clause = clause d.geometry (d.inode ask.ino).log (log_paged d v1.parts (state v1.device) volume1 ask.ino is.file)
+    room_at tail left at_word word read clause = clause d.geometry (d.inode ask.ino).log (log_paged d v1.parts
+        (state v1.device) volume1 ask.ino is.file)
         (read ∙ ap (slice_index (state v1.device).now) word ∙ tail_read d v1.parts (state v1.device) volume1 ask.ino is.file)
 
     module _ (size left : ℕ) (size_is : size_of (d.inode ask.ino).log ≡ size) (room_is : left ≡ room (d.inode ask.ino).log)

@@ -83,7 +83,8 @@ fn open_write<D: Pm, F: Fingerprint>(
     requires running { v.old.parts.stopped ≡ false }
     requires begins { MayBegin v.old.parts who }
     requires kind { IsWriteOp op }
-    requires asks { (d : Disk) → IsVolume d v.old.parts (D.state v.old.device) → IsAsk d op ask.now }
+    requires asks { (d : Disk) → IsVolume d v.old.parts (D.state v.old.device)
+        → IsAsk d op ask.now }
     requires has { (d : Disk) → IsVolume d v.old.parts (D.state v.old.device)
         → HasAll d v.old.parts op }
     ensures agrees { Agrees D.state v.new }

@@ -10,7 +10,7 @@ pub mod giving;
 pub mod reading;
 
 pub use advance::{DataStep, advance_write, next_step};
+pub use begin::begin_write;
 pub use commit::commit_write;
 pub use fill::fill_page;
-pub use begin::begin_write;
 pub use reading::read;

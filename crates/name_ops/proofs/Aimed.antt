@@ -1,7 +1,7 @@
 -- What an operation on names speaks of, as the disk has it.
-use Rattle.std.proofs.Common.{◌≡◌, ◌≢◌, ◌⊎◌, inl, inr, ⊎_elim, ℕ, ◌+◌, ◌*◌, ◌<◌, ◌≤◌, Bool, true, false, List, [], ◌∷◌, ◌++◌, length, refl, sym, ◌∙◌, ap, subst, arith, Option, Some, None}
+use Rattle.std.proofs.Common.{◌≡◌, ◌≢◌, inl, inr, ⊎_elim, ℕ, ◌+◌, ◌*◌, ◌<◌, ◌≤◌, Bool, true, false}
+use Rattle.std.proofs.Common.{List, [], ◌∷◌, ◌++◌, length, refl, sym, ◌∙◌, ap, subst, arith, Option, Some, None}
 use Rattle.std.specs.Prelude.{Contains, slice_get, if◌then◌else◌, nat_lt}
-use Rattle.std.proofs.lemmas.Bool.{cases_lt}
 use Rattle.pm_device.specs.State.{State}
 use Rattle.law_unique.proofs.Listings.{none_listed, cons_cases}
 use Rattle.law_names.proofs.Links.{names_eq}
@@ -12,19 +12,17 @@ use Rattle.dn_model.specs.Log.{Log}
 use Rattle.dn_model.specs.History.{needed, reserve, extra, room}
 use Rattle.dn_model.specs.declared.op.Op.{Op}
 use Rattle.dn_model.specs.declared.op.Op.TheVariants.{Create, Write, Read, Cut, Remove, Rename, Size, List as ListAll}
-use Rattle.dn_model.specs.declared.op.Reply.{Reply}
 use Rattle.dn_model.specs.declared.op.Reply.TheVariants.{Refused}
 use Rattle.dn_model.specs.declared.op.Refusal.TheVariants.{NoSpace}
 use Rattle.dn_volume.specs.declared.volume.InodeState.{InodeState}
 use Rattle.dn_volume.specs.declared.volume.Parts.{Parts}
-use Rattle.dn_volume.specs.Parties.{Holds}
 use Rattle.dn_volume.specs.PlannedNames.{inode_list}
 use Rattle.dn_volume.specs.Reclaims.{one_if}
 use Rattle.dn_volume.specs.Agrees.{IsVolume}
-use Rattle.dn_volume.specs.Begins.{wants, AreLoose, LacksSpace, LacksReleases, lost_rows, IsUnhindered, IsAnswerOf, no_space, WaitsForRelease, HasAll}
+use Rattle.dn_volume.specs.Begins.{wants, AreLoose, LacksSpace, LacksReleases, lost_rows, IsUnhindered, IsAnswerOf, no_space}
 use Rattle.name_ops.specs.declared.found.Found.{Found}
 use Rattle.name_ops.specs.declared.found.Found.TheVariants.{Answer, Held, Waits, Files}
-use Rattle.name_ops.specs.Finding.{Aims, AimsAtNew, AimsAtFile, AimsAtBoth, IsAimed, IsFoundRoom, IsRoomy, AreTooFew, MayWait, HasPages, LooksAtRoom, op_slots}
+use Rattle.name_ops.specs.Finding.{Aims, IsAimed, IsFoundRoom, IsRoomy, AreTooFew, LooksAtRoom, op_slots}
 
 pub extra_few : (k : ℕ) (log : Log) → extra k log ≤ 1
 extra_few k log = by (nat_lt (room log) k)
@@ -34,7 +32,8 @@ extra_few k log = by (nat_lt (room log) k)
     by false = omega arith
 
 -- the pages that it needs, and its rows and reserve
-pub needs_extra : (d : Disk) (b : Parts) (op : Op) (ino : ℕ) (other : Option ℕ) → Aims d b op ino other → needed d op ≡ extra (op_slots op) (d.inode 0).log
+pub needs_extra : (d : Disk) (b : Parts) (op : Op) (ino : ℕ) (other : Option ℕ) → Aims d b op ino other
+    → needed d op ≡ extra (op_slots op) (d.inode 0).log
 needs_extra d b (Create name) ino other aims = refl
 needs_extra d b (Write name at text) ino other aims = absurd aims
 needs_extra d b (Read name at count) ino other aims = absurd aims
@@ -176,7 +175,8 @@ module _ (d : Disk) (b : Parts) (s : State) (v : IsVolume d b s) where
   root_holdable xs loose has = live_holdable xs 0 loose has root_small v.fast.valid.root
 
   named_holdable : (xs : List ℕ) (name : List ℕ) (i : ℕ) → AreLoose b xs → Contains xs i → named d name ≡ Some i → IsHoldable d b i
-  named_holdable xs name i loose has leads = live_holdable xs i loose has (named_file d v.fast.valid name i leads).1 (named_live d v.fast.valid name i leads)
+  named_holdable xs name i loose has leads =
+      live_holdable xs i loose has (named_file d v.fast.valid name i leads).1 (named_live d v.fast.valid name i leads)
 
   -- the inodes that a removal or a renaming wants
   pub wants_removed : (name : List ℕ) (ino : ℕ) → named d name ≡ Some ino → wants d (Remove name) ≡ 0 ∷ ino ∷ []
@@ -192,12 +192,13 @@ module _ (d : Disk) (b : Parts) (s : State) (v : IsVolume d b s) where
   -- all that it will hold may be held
   pub holdable : (op : Op) (ino : ℕ) (other : Option ℕ) → IsUnhindered d b op → Aims d b op ino other → (i : ℕ)
       → Contains (0 ∷ ino ∷ inode_list other) i → IsHoldable d b i
-  holdable (Create name) ino other free aims = each_held (IsHoldable d b) ino other (root_holdable (0 ∷ []) free.loose (0, omega arith, refl)) (record {
-    small = aims.in_table;
-    undying = λ cut is. free_dying (d.inode ino).use_of cut aims.free is;
-    loose = λ n at. aims.loose ino n (0, omega arith, refl) at;
-    least = λ j is some less free'. aims.least j some less free';
-  }) (λ k is. absurd (clash other k aims.alone is))
+  holdable (Create name) ino other free aims =
+      each_held (IsHoldable d b) ino other (root_holdable (0 ∷ []) free.loose (0, omega arith, refl)) (record {
+        small = aims.in_table;
+        undying = λ cut is. free_dying (d.inode ino).use_of cut aims.free is;
+        loose = λ n at. aims.loose ino n (0, omega arith, refl) at;
+        least = λ j is some less free'. aims.least j some less free';
+      }) (λ k is. absurd (clash other k aims.alone is))
     where
       clash : (o : Option ℕ) (k : ℕ) → o ≡ None → o ≡ Some k → ⊥
       clash o k none some = cc

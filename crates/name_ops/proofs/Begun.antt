@@ -52,7 +52,7 @@ use Rattle.dn_model.specs.declared.op.Op.{Op}
 use Rattle.dn_model.specs.declared.op.Op.TheVariants.{Create, Write, Read, Cut, Remove, Rename, Size, List as ListAll}
 use Rattle.file_content.specs.Pages.{AreApart}
 use Rattle.dn_model.specs.Log.{count}
-use Rattle.dn_model.specs.Disk.{Disk, Use, IsUsed, Free, Live, Dying, rows}
+use Rattle.dn_model.specs.Disk.{Disk, IsUsed, rows}
 use Rattle.dn_model.specs.Counts.{total}
 use Rattle.dn_model.specs.History.{needed, name_slots}
 use Rattle.law_write.specs.Events.{IsUnused}
@@ -61,7 +61,7 @@ use Rattle.law_unique.proofs.Listings.{none_listed}
 use Rattle.law_names.specs.NameChange.{NameChange as DiskChange}
 use Rattle.law_names.specs.Operations.{renaming}
 use Rattle.law_names.proofs.Links.{names_eq}
-use Rattle.dn_volume.specs.declared.units.TheConstants.{SLOT_UNITS, TURN_UNITS, NAMES_UNITS, FALL_UNITS, ZERO_CHECK_UNITS}
+use Rattle.dn_volume.specs.declared.units.TheConstants.{FALL_UNITS, ZERO_CHECK_UNITS}
 use Rattle.dn_volume.specs.declared.flight.Flight.{Flight}
 use Rattle.dn_volume.specs.declared.flight.Change.{Change}
 use Rattle.dn_volume.specs.declared.flight.Change.TheVariants.{Data, Names}

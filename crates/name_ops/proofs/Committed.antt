@@ -32,17 +32,15 @@ use Rattle.std.proofs.Common.{
   Some,
   None,
   get_or,
-  length-append,
 }
 use Rattle.std.specs.FinMap.{get}
 use Rattle.page_alloc.specs.Free.{IsInOrder}
-use Rattle.std.specs.Prelude.{◌↔◌, IsSome, Contains, All, slice_get, slice_index, is_some, if◌then◌else◌, vec_len, vec_capacity}
-use Rattle.std.proofs.lemmas.List.{get_or_append_left, append-nil}
+use Rattle.std.specs.Prelude.{◌↔◌, IsSome, Contains, slice_get, slice_index, is_some, if◌then◌else◌, vec_len, vec_capacity}
+use Rattle.std.proofs.lemmas.List.{append-nil}
 use Rattle.std.proofs.lemmas.List.Elements.{Contains-get_or, Contains-append_left, Contains-append_right}
 use Rattle.std.proofs.lemmas.Bool.{cases_eq}
 use Rattle.pm_device.specs.State.{State, Agree}
 use Rattle.pm_layout.specs.declared.Geometry.{Geometry}
-use Rattle.pm_layout.specs.Geometry.{IsAccepted}
 use Rattle.file_content.specs.Pages.{AreApart}
 use Rattle.dn_model.specs.Counts.{total}
 use Rattle.dn_model.specs.Disk.{Disk, Use, Free, Live, Dying, maps}
@@ -56,11 +54,12 @@ use Rattle.dn_volume.specs.declared.flight.Turn.{Turn}
 use Rattle.dn_volume.specs.declared.flight.Turn.TheVariants as kept_turn
 use Rattle.dn_volume.specs.declared.volume.InodeState.{InodeState}
 use Rattle.dn_volume.specs.declared.volume.Parts.{Parts}
-use Rattle.dn_volume.specs.Parties.{Flies, by_client, for_client, Takes, flight_at, blocks_of, taken_by}
+use Rattle.dn_volume.specs.Parties.{Flies, by_client, for_client, Takes, flight_at, blocks_of}
 use Rattle.dn_volume.specs.Flights.{IsNameFlight, left_by, left_of}
 use Rattle.dn_volume.specs.Reclaims.{mapped_places, units_by_use, dying_units, one_if}
-use Rattle.dn_volume.specs.Reserve.{owed_to, owed_sum, prepared_units, slots_of, units_by, runs_by}
+use Rattle.dn_volume.specs.Reserve.{owed_to, prepared_units, slots_of, units_by, runs_by}
 use Rattle.dn_volume.specs.Agrees.{IsVolume}
+use Rattle.dn_volume.specs.Begins.{IsNamesOp}
 use Rattle.pm_device.specs.State.{Rose}
 use Rattle.pm_device.specs.Settled.{LeavesOnly, StoresOnly, IsSettled}
 use Rattle.pm_layout.specs.Geometry.{gate_word}
@@ -72,12 +71,12 @@ use Rattle.dn_model.specs.declared.op.Reply.TheVariants.{Done}
 use Rattle.dn_volume.specs.declared.volume.Volume.{Volume}
 use Rattle.dn_volume.specs.Events.{Counts, Answers, Breaks, answered_by}
 use Rattle.count_events.proofs.Flown.{same_flight}
-use Rattle.name_ops.specs.Landing.{names_after, flight_changes, CommitsAll, Stops, Lands, LandsNames, LandsChange, IsToCommit, turn_units, places_kept}
-use Rattle.name_ops.specs.Ending.{IsCreate, CanLand, FinishesNames, Gives, IsNextToCommit}
+use Rattle.name_ops.specs.Landing.{names_after, flight_changes, CommitsAll, Stops, LandsChange, IsToCommit, turn_units, places_kept}
+use Rattle.name_ops.specs.Ending.{MovesSome, CanLand, FinishesNames, IsNextToCommit}
 use Rattle.name_ops.proofs.Answering.{names_answer, names_break}
 use Rattle.name_ops.proofs.Put.{same_names}
 use Rattle.name_ops.proofs.Counted.{few_places}
-use Rattle.name_ops.proofs.NameFlight.{flight_of, units_owed, owed_part}
+use Rattle.name_ops.proofs.NameFlight.{flight_of, of_kind, units_owed, owed_part}
 
 right_apart : (xs ys : List ℕ) → AreApart (xs ++ ys) → AreApart ys
 right_apart [] ys apart = apart
@@ -143,7 +142,8 @@ module _ (d : Disk) (b : Parts) (s : State) (who : ℕ) (f : Flight) (c : NameCh
       (Contains-append_right f.fresh.items f.spare.items page has))
 
   spare_unused : (page : ℕ) → Contains f.spare.items page → IsUnused d page
-  spare_unused page has = volume.space.unused page (λ none. let his = volume.space.takes who page (takes_spare page has) in let some = to.flies.client in
+  spare_unused page has = volume.space.unused page (λ none. let his = volume.space.takes who page (takes_spare page has) in
+      let some = to.flies.client in
       omega (arith, none, his, some))
 
   abbrev to_flies : Flies b who f
@@ -178,9 +178,14 @@ module _ (d : Disk) (b : Parts) (s : State) (who : ℕ) (f : Flight) (c : NameCh
       one_at_most None = omega arith
       one_at_most (Some y) = omega arith
 
-  pub can_land : IsCreate f.op → (mid : Parts) → IsOut b mid → CanLand f c mid
+  moves : MovesSome f.op (get b.names.map)
+  moves = of_kind d b s who f c volume to.flies to.change_is flight (λ op x. MovesSome op (get b.names.map)) (λ name plan. tt) (λ name plan. tt)
+      (λ from to' plan. subst IsSome (sym (volume.names.leads from ∙ plan.leads)) refl)
+
+  pub can_land : IsNamesOp f.op → (mid : Parts) → IsOut b mid → CanLand f c mid
   can_land kind mid out = record {
     kind = kind;
+    moves = subst (λ (x : _). MovesSome f.op (get x.map)) (sym out.names) moves;
     change_is = to.change_is;
     put_is = flight.put_is;
     node = subst (λ (xs : _). c.node < length xs.items) (sym out.inodes) (let few = flight.node_in_table in let all = volume.inodes.all in
@@ -226,7 +231,8 @@ module _ (d : Disk) (b : Parts) (s : State) (who : ℕ) (f : Flight) (c : NameCh
           owed_trace = let rows = no_rows_owed in let told = finish.owed_trace in let same = ap (λ o. o.trace) out.owed in
               omega (arith, rows, told, same);
           owed_history = let told = finish.owed_history in let same = ap (λ o. o.history) out.owed in omega (arith, told, same);
-          owed_queue = let none : (owed_to (Some f)).queue ≡ 0 = ap runs_by to.change_is in let told = finish.owed_queue in let same = ap (λ o. o.queue)
+          owed_queue = let none : (owed_to (Some f)).queue ≡ 0 = ap runs_by to.change_is in let told = finish.owed_queue in
+              let same = ap (λ o. o.queue)
               out.owed in omega (arith, none, told, same);
           owed_releases = let rows = no_rows_owed in let told = finish.owed_releases in let same = ap (λ o. o.releases) out.owed in
               omega (arith, rows, told, same);
@@ -250,18 +256,19 @@ module _ (d : Disk) (b : Parts) (s : State) (who : ℕ) (f : Flight) (c : NameCh
       raised = finish.raised ∙ ap (λ r. r.raised) out.reclaiming;
       zero_check = finish.zero_check ∙ ap (λ r. r.zero_check) out.reclaiming;
       releases = finish.releases ∙ ap (λ r. r.releases) out.reclaiming;
-      waiting = λ n at. finish.waiting n (ap (λ xs. slice_get xs.items c.node) out.inodes ∙ at) ∙ ap (λ r. r.waiting + turn_units c.turn (places_kept n))
+      waiting = λ n at. finish.waiting n (ap (λ xs. slice_get xs.items c.node) out.inodes ∙ at)
+          ∙ ap (λ r. r.waiting + turn_units c.turn (places_kept n))
           out.reclaiming;
     }
 
 -- the operation that is taken out is the one that is to be committed
 pub to_commit : (b : Parts) (who : ℕ) → IsNextToCommit b who → (f : Flight) → flight_at b.flights.items (who - 1) ≡ Some f → (c : NameChange)
-    → f.change ≡ Names c → IsToCommit b who f c × IsCreate f.op
+    → f.change ≡ Names c → IsToCommit b who f c × IsNamesOp f.op
 to_commit b who next f was c names =
     let same : next.flight ≡ f = same_flight b who next.flight f next.is.flies (record { client = next.is.flies.client; is = was }) in
     let change : next.change ≡ c = same_names f.change next.change c (ap (λ (g : Flight). g.change) (sym same) ∙ next.is.change_is) names in (
       subst (λ (g : Flight). IsToCommit b who g c) same (subst (λ (y : NameChange). IsToCommit b who next.flight y) change next.is),
-      subst (λ (g : Flight). IsCreate g.op) same next.kind,
+      subst (λ (g : Flight). IsNamesOp g.op) same next.kind,
     )
 
 pub is_next : (b : Parts) (who : ℕ) → IsNextToCommit b who → IsSome (flight_at b.flights.items (who - 1))
@@ -288,7 +295,7 @@ module _ (d : Disk) (b : Parts) (s : State) (who : ℕ) (f : Flight) (c : NameCh
 
 module _ {D F : Type 0} (state : D → State) (print : Print) (v v' : Volume D F) (who : ℕ) (f : Flight) (c : NameChange)
     (to : IsToCommit v.parts who f c) (agree : Agree (state v.device).now (state v.device).past) where
-  pub commit_answers : CommitsAll v.parts.geometry.inodes who (flight_changes c) (state v.device) (state v'.device) → IsCreate f.op → (mid : Parts)
+  pub commit_answers : CommitsAll v.parts.geometry.inodes who (flight_changes c) (state v.device) (state v'.device) → IsNamesOp f.op → (mid : Parts)
       → IsOut v.parts mid
       → length mid.flights.items ≡ length v.parts.flights.items → flight_at mid.flights.items (who - 1) ≡ None
       → ((k : ℕ) → k ≢ who - 1 → flight_at mid.flights.items k ≡ flight_at v.parts.flights.items k)

@@ -1,26 +1,24 @@
 -- What the begin of a removal or a renaming finds.
-use Rattle.std.proofs.Common.{◌≡◌, ◌≢◌, ⊎_elim, ℕ, zero, suc, ◌<◌, ◌≤◌, true, false, List, [], ◌∷◌, ◌++◌, length, refl, sym, ◌∙◌, ap, subst, arith, Option, Some, None}
-use Rattle.std.specs.Prelude.{Contains, All, IsSome, get_or, slice_get}
+use Rattle.std.proofs.Common.{◌≡◌, ◌≢◌, ℕ, zero, suc, ◌<◌, true, false, List, [], ◌∷◌, length, refl, sym, ◌∙◌, subst, arith, Option, Some, None}
+use Rattle.std.specs.Prelude.{Contains, All, IsSome, get_or}
 use Rattle.std.specs.Option.{option_map}
 use Rattle.std.specs.FinMap.{get}
 use Rattle.pm_device.specs.State.{State}
 use Rattle.log_entry.specs.Name.{IsLegal}
-use Rattle.law_unique.proofs.Listings.{none_listed}
 use Rattle.law_names.proofs.Operating.{named_file}
 use Rattle.dn_model.specs.Disk.{Disk}
 use Rattle.dn_model.specs.Files.{named, files, bytes}
-use Rattle.dn_model.specs.Apply.{IsGranted, Replies, grants, bad_name, missed, names_of, Finds}
-use Rattle.dn_model.specs.declared.op.Op.{Op}
+use Rattle.dn_model.specs.Apply.{IsGranted, grants, bad_name, missed}
 use Rattle.dn_model.specs.declared.op.Op.TheVariants.{Remove, Rename}
 use Rattle.dn_model.specs.declared.op.Reply.TheVariants.{Refused, Done}
 use Rattle.dn_model.specs.declared.op.Refusal.TheVariants.{BadName, NotFound}
 use Rattle.dn_volume.specs.declared.volume.Parts.{Parts}
 use Rattle.dn_volume.specs.PlannedNames.{inode_list}
 use Rattle.dn_volume.specs.Agrees.{IsVolume}
-use Rattle.dn_volume.specs.Begins.{wants, AreLoose, IsHeldFirst, IsUnhindered, IsAnswerOf, of_files, IsBusy}
+use Rattle.dn_volume.specs.Begins.{AreLoose, IsHeldFirst, IsAnswerOf, of_files, IsBusy}
 use Rattle.begin_steps.specs.Held.{IsHeldAmong, AreLooseAmong}
 use Rattle.begin_steps.proofs.Loose.{loose_all, held_first}
-use Rattle.name_ops.specs.Finding.{AimsAtFile, AimsAtBoth, IsAimed}
+use Rattle.name_ops.specs.Finding.{IsAimed}
 use Rattle.name_ops.proofs.Aimed.{each_held, wants_removed, wants_renamed}
 
 -- one legal name, and two

@@ -10,7 +10,7 @@ use Rattle.dn_volume.specs.declared.flight.Change.TheVariants.{Names}
 use Rattle.dn_volume.specs.declared.flight.NameChange.{NameChange}
 use Rattle.dn_volume.specs.declared.volume.InodeState.{InodeState}
 use Rattle.dn_volume.specs.declared.volume.Parts.{Parts}
-use Rattle.dn_volume.specs.declared.units.TheConstants.{SLOT_UNITS, TURN_UNITS, NAMES_UNITS}
+use Rattle.dn_volume.specs.declared.units.TheConstants.{SLOT_UNITS, TURN_UNITS}
 use Rattle.dn_volume.specs.Parties.{Flies}
 use Rattle.dn_volume.specs.Reserve.{slots_of, prepared_units}
 use Rattle.dn_volume.specs.Agrees.{IsVolume}
@@ -36,7 +36,8 @@ pub two_lists : {A B : Type 0} (P : List A → List B → Type 0) (xs xs' : List
 two_lists P xs xs' ys ys' one other has = subst (λ zs. P zs ys') one (subst (λ zs. P xs zs) other has)
 
 -- what a list holds at a place
-pub node_at : (nodes : List InodeState) (ino : ℕ) (x : InodeState) → ino < length nodes → x ≡ slice_index_or nodes ino x → slice_get nodes ino ≡ Some x
+pub node_at : (nodes : List InodeState) (ino : ℕ) (x : InodeState) → ino < length nodes → x ≡ slice_index_or nodes ino x
+    → slice_get nodes ino ≡ Some x
 node_at nodes ino x lt is = slice_get_read nodes (length nodes) ino x refl lt is
 
 -- the room for its first advance

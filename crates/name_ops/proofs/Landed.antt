@@ -50,7 +50,7 @@ use Rattle.law_names.proofs.Kept.{mappings_same, free_kept, free_only, fresh_tak
 use Rattle.law_names.proofs.ChangedOwn.{live_was}
 use Rattle.file_content.specs.Pages.{AreApart}
 use Rattle.fact_table.specs.Table.{HasRow}
-use Rattle.dn_volume.specs.declared.units.TheConstants.{SLOT_UNITS, TURN_UNITS, NAMES_UNITS, FALL_UNITS, ZERO_CHECK_UNITS}
+use Rattle.dn_volume.specs.declared.units.TheConstants.{FALL_UNITS, ZERO_CHECK_UNITS}
 use Rattle.dn_volume.specs.declared.background.Sharing.{Sharing}
 use Rattle.dn_volume.specs.declared.flight.Flight.{Flight}
 use Rattle.dn_volume.specs.declared.flight.Change.{Change}
@@ -347,7 +347,8 @@ module _ (d : Disk) (b b' : Parts) (s t : State) (who : ℕ) (f : Flight) (c : N
   enough_units = let is : units_by f f.change ≡ units_by f (Names c) = ap (units_by f) is_names in omega (arith, is)
 
   module _ (units : s.spare ≤ t.spare + 25) (dying_same : b'.reclaiming.raised ≡ b.reclaiming.raised)
-      (zero_same : b'.reclaiming.zero_check ≡ b.reclaiming.zero_check) (releases_same : b'.reclaiming.releases ≡ b.reclaiming.releases) (inodes : (ino : ℕ) (n' : InodeState)
+      (zero_same : b'.reclaiming.zero_check ≡ b.reclaiming.zero_check) (releases_same : b'.reclaiming.releases ≡ b.reclaiming.releases) (inodes :
+          (ino : ℕ) (n' : InodeState)
       → slice_get b'.inodes.items ino ≡ Some n' → (n : InodeState) × (slice_get b.inodes.items ino ≡ Some n) × (n'.map ≡ n.map)) where
     pub room : HasRoom b' t
     room =

@@ -28,30 +28,23 @@ use Rattle.std.proofs.Common.{
   Option,
   Some,
   None,
-  length-append,
 }
-use Rattle.std.specs.Prelude.{◌/◌, ◌↔◌, Contains, All, is_some, slice_get, if◌then◌else◌}
+use Rattle.std.specs.Prelude.{Contains, All, is_some, slice_get, if◌then◌else◌}
 use Rattle.std.specs.FinMap.{get}
 use Rattle.std.specs.Option.{option_map}
-use Rattle.std.specs.List.Sorted.{IsStrictlyIncreasing}
 use Rattle.std.proofs.lemmas.Bool.{cases_eq}
 use Rattle.std.proofs.lemmas.Option.{slice_get_cases}
-use Rattle.std.proofs.lemmas.List.{get_or_append_left}
-use Rattle.std.proofs.lemmas.List.Elements.{Contains-append_left}
 use Rattle.pm_device.specs.State.{State, Agree}
 use Rattle.pm_device.specs.Reading.{IsReady}
 use Rattle.pm_device.proofs.Only.{stores_only-weaken}
 use Rattle.pm_layout.specs.declared.Geometry.{Geometry}
 use Rattle.pm_layout.specs.Geometry.{slots, inode_word}
 use Rattle.pm_device.specs.Words.{IsIn}
-use Rattle.page_alloc.proofs.FreeLaws.{below_rest}
 use Rattle.log_entry.specs.Name.{same_name}
 use Rattle.log_entry.specs.Spelling.{pages_of}
 use Rattle.log_entry.specs.declared.item.LogItem.{LogItem}
 use Rattle.log_entry.specs.declared.item.LogItem.TheVariants.{Write as WriteItem, Size as SizeItem, Add, Forget}
 use Rattle.file_content.specs.Content.{kept}
-use Rattle.file_content.specs.Pages.{AreApart}
-use Rattle.dn_model.specs.Log.{count}
 use Rattle.dn_model.specs.Maps.{size_of, size_after, Mapping}
 use Rattle.dn_model.specs.Valid.{MayStand}
 use Rattle.dn_model.specs.declared.op.Op.{Op}
@@ -60,7 +53,6 @@ use Rattle.dn_model.specs.Table.{Row}
 use Rattle.dn_model.specs.Disk.{Disk, Inode, Use, Dying, IsUsed, rows, maps}
 use Rattle.dn_model.specs.Counts.{total}
 use Rattle.dn_model.specs.Files.{named}
-use Rattle.law_write.specs.Events.{IsUnused}
 use Rattle.law_write.proofs.Counting.{total-same, total-change}
 use Rattle.law_names.specs.NameChange.{
   NameChange as DiskChange,
@@ -90,7 +82,7 @@ use Rattle.dn_volume.specs.declared.flight.Turn.TheVariants as kept_turn
 use Rattle.dn_model.specs.declared.op.CountChange.{CountChange}
 use Rattle.dn_volume.specs.declared.volume.InodeState.{InodeState}
 use Rattle.dn_volume.specs.declared.volume.Parts.{Parts}
-use Rattle.dn_volume.specs.Parties.{Flies, SameOthers, by_client, Takes, for_client, blocks_of}
+use Rattle.dn_volume.specs.Parties.{Flies, SameOthers, by_client}
 use Rattle.dn_volume.specs.Inodes.{IsInodeOf, AreNamesOf, as_use}
 use Rattle.dn_volume.specs.Flights.{IsFlight, IsNameFlight, as_turn}
 use Rattle.dn_volume.specs.Reclaims.{mapped_places, dying_units, units_by_use, one_if, IsReclaiming}
@@ -235,8 +227,10 @@ module _ (d : Disk) (b b' : Parts) (s t : State) (who : ℕ) (f : Flight) (c : N
   touched_words a (inl named') = by_place named'.i named'.lt named'.is
     where
       by_place : (i : ℕ) → i < length (name_changes d change) → a ≡ address (name_changes d change) i → IsWordOf f.held.items f.fresh.items d a
-      by_place zero lt is = of_inode 0 (holds_root d b s who f c volume to.flies to.change_is flight) (let few = can.in_table in omega (arith, few)) (omega (arith, is), omega (arith, is))
-      by_place (suc i) lt is = of_inode change.ino (holds_ino d b s who f c volume to.flies to.change_is flight) can.in_table (state_word change.turn change.ino i a (omega (arith, lt)) is)
+      by_place zero lt is = of_inode 0 (holds_root d b s who f c volume to.flies to.change_is flight) (let few = can.in_table in
+          omega (arith, few)) (omega (arith, is), omega (arith, is))
+      by_place (suc i) lt is = of_inode change.ino (holds_ino d b s who f c volume to.flies to.change_is flight) can.in_table (state_word change.turn
+          change.ino i a (omega (arith, lt)) is)
 
   module _ (commit : CommitsAll d.geometry.inodes who (name_changes d change) s t) (lands : LandsChange who f c b b') where
     abbrev e : Disk
@@ -306,7 +300,8 @@ module _ (d : Disk) (b b' : Parts) (s t : State) (who : ℕ) (f : Flight) (c : N
         by_size (is_here here') used =
             let as_turned : e.inode ino ≡ turned change.turn (d.inode ino) =
             ap (λ (i : ℕ). e.inode i) here' ∙ at_ino d change node_file ∙ ap (λ (i : ℕ). turned change.turn (d.inode i)) (sym here') in
-            ap (λ (x : Inode). size_of x.log) as_turned ∙ (turned_so (same_node here')).size_is (subst (λ (x : Inode). IsUsed x.use_of) as_turned used)
+            ap (λ (x : Inode). size_of x.log) as_turned ∙ (turned_so (same_node here')).size_is (subst (λ (x : Inode). IsUsed x.use_of) as_turned
+                used)
         by_size (elsewhere some other) used =
             ap (λ (x : Inode). size_of x.log) (at_other d change ino some other) ∙ was.size_is
             (subst (λ (x : Inode). IsUsed x.use_of) (at_other d change ino some other) used) ∙ sym (turns.elsewhere (apart_node other)).1
@@ -365,7 +360,8 @@ module _ (d : Disk) (b b' : Parts) (s t : State) (who : ℕ) (f : Flight) (c : N
     same = same_others d b b' s t who f c change volume can to.flies to.change_is fresh_same lands.lands
 
     stay : ((q : ℕ) (g : Flight) → q ≢ who → Flies b' q g → IsFlight e q g t) × StayInHand who e b'
-    stay = others_stay who inodes f.fresh.items d e b b' s t volume (subst (λ (g : Geometry). StandsFast e g t) lands.lands.lands.geometry fast) for_it
+    stay = others_stay who inodes f.fresh.items d e b b' s t volume (subst (λ (g : Geometry). StandsFast e g t) lands.lands.lands.geometry fast)
+        for_it
         leaves same
         (λ other. lands.raised)
 
@@ -442,7 +438,8 @@ module _ (d : Disk) (b b' : Parts) (s t : State) (who : ℕ) (f : Flight) (c : N
         all = lands.lands.inodes ∙ volume.inodes.all ∙ ap (λ (g : Geometry). g.inodes) (sym (same_geometry d change));
         each = inode_is;
       };
-      holders = holders d b b' s t who f c change volume can to.flies to.change_is fresh_same lands.lands (λ ino n' at. let was = lands.each ino n' at in
+      holders = holders d b b' s t who f c change volume can to.flies to.change_is fresh_same lands.lands (λ ino n' at. let was =
+          lands.each ino n' at in
           (was.0, was.1, was.3));
       space = space d b b' s t who f c change volume can to.flies to.change_is fresh_same lands.lands;
       table = table d b b' s t who f c change volume can to.flies to.change_is fresh_same lands.lands;
@@ -460,7 +457,8 @@ module _ (d : Disk) (b b' : Parts) (s t : State) (who : ℕ) (f : Flight) (c : N
       pointers = none_stale_kept d e (same_geometry d change) pointers_same
           (λ row has. record { row = row; there = subst (λ (rs : List Row). Contains rs row) (sym (same_rows d change)) has; page_is = refl })
           volume.pointers;
-      room = room d b b' s t who f c change volume can to.flies to.change_is fresh_same lands.lands commit.spare lands.raised lands.zero_check lands.releases
+      room = room d b b' s t who f c change volume can to.flies to.change_is fresh_same lands.lands commit.spare lands.raised lands.zero_check
+          lands.releases
           (λ ino n' at. let was = lands.each ino n' at in (was.0, was.1, was.2.map));
       trace = subst (λ (g : Geometry). All (λ (x : CountChange). x.slot < slots g) b'.trace.items) (sym lands.lands.lands.geometry)
           (subst (λ xs. All (λ (x : CountChange). x.slot < slots b.geometry) xs.items) (sym lands.lands.trace) volume.trace);

@@ -15,3 +15,5 @@ pub mod GivenPages
 pub mod Counted
 pub mod Put
 pub mod Committed
+pub mod FoundNew
+pub mod Listed

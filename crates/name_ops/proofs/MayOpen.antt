@@ -1,6 +1,7 @@
 -- An operation on names that nothing stands in the way of may start.
-use Rattle.std.proofs.Common.{◌≡◌, ◌≢◌, ◌⊎◌, inl, inr, ⊎_elim, ℕ, zero, suc, ◌+◌, ◌-◌, ◌*◌, ◌/◌, ◌<◌, ◌≤◌, Bool, true, false, List, [], ◌∷◌, ◌++◌, length, refl, sym, ◌∙◌, ap, subst, arith, Option, Some, None, length-append}
-use Rattle.std.specs.Prelude.{Contains, All, get_or, slice_get}
+use Rattle.std.proofs.Common.{◌≡◌, ◌⊎◌, inl, inr, ⊎_elim, ℕ, zero, suc, ◌+◌, ◌-◌, ◌/◌, ◌<◌, ◌≤◌, Bool, true}
+use Rattle.std.proofs.Common.{false, List, [], ◌∷◌, ◌++◌, length, refl, sym, ◌∙◌, ap, subst, arith, Option, Some, None, length-append}
+use Rattle.std.specs.Prelude.{Contains, All, get_or}
 use Rattle.std.specs.Option.{option_map}
 use Rattle.std.proofs.lemmas.Bool.{cases_eq, cases_lt}
 use Rattle.std.proofs.lemmas.List.{append-nil}
@@ -13,29 +14,26 @@ use Rattle.file_content.specs.Pages.{AreApart}
 use Rattle.log_entry.specs.Spelling.{spelled}
 use Rattle.log_entry.specs.declared.item.LogItem.{LogItem}
 use Rattle.dn_model.specs.Log.{count}
-use Rattle.dn_model.specs.Disk.{Disk, Use, IsUsed, Free, Live, Dying}
+use Rattle.dn_model.specs.Disk.{Disk, IsUsed}
 use Rattle.dn_model.specs.Files.{named, bytes}
-use Rattle.dn_model.specs.History.{needed, reserve, extra}
+use Rattle.dn_model.specs.History.{needed, reserve}
 use Rattle.dn_model.specs.declared.op.Op.{Op}
 use Rattle.dn_model.specs.declared.op.Op.TheVariants.{Create, Write, Read, Cut, Remove, Rename, Size, List as ListAll}
-use Rattle.law_names.specs.NameChange.{NameChange as DiskChange, Turn as DiskTurn}
+use Rattle.law_names.specs.NameChange.{NameChange as DiskChange}
 use Rattle.law_names.proofs.Operating.{named_file}
 use Rattle.dn_volume.specs.declared.flight.Flight.{Flight}
 use Rattle.dn_volume.specs.declared.flight.Change.{Change}
 use Rattle.dn_volume.specs.declared.flight.Change.TheVariants.{Names}
-use Rattle.dn_volume.specs.declared.flight.NameChange.{NameChange}
-use Rattle.dn_volume.specs.declared.volume.InodeState.{InodeState}
 use Rattle.dn_volume.specs.declared.volume.Parts.{Parts}
 use Rattle.dn_volume.specs.declared.volume.Room.{Room}
 use Rattle.dn_volume.specs.declared.volume.Volume.{Volume}
 use Rattle.dn_volume.specs.Kept.{IsSameInode}
 use Rattle.dn_volume.specs.Parties.{flight_at, taken_by, blocks_of}
 use Rattle.dn_volume.specs.PlannedNames.{PlansNames, inode_list, name_put}
-use Rattle.dn_volume.specs.Flights.{IsFlight, IsFlightOf, as_turn, left_by, left_of}
+use Rattle.dn_volume.specs.Flights.{IsFlight, IsFlightOf, left_by, left_of}
 use Rattle.dn_volume.specs.Reserve.{owed_to, units_by, runs_by}
 use Rattle.dn_volume.specs.Agrees.{IsVolume}
-use Rattle.dn_volume.specs.Begins.{MayBegin, HasAll, IsUnhindered, IsFreshChange, lost_rows, IsUntouched, IsLast, HasBegun}
-use Rattle.begin_steps.specs.Held.{AreLooseAmong}
+use Rattle.dn_volume.specs.Begins.{MayBegin, IsUnhindered, IsFreshChange, lost_rows, IsUntouched, IsLast, HasBegun}
 use Rattle.begin_steps.specs.Answering.{KeepsRoom}
 use Rattle.begin_steps.specs.Room.{HasRoomFor, MakesRoom}
 use Rattle.begin_steps.specs.Starting.{IsFew, IsFewChange, Starts}
@@ -44,7 +42,7 @@ use Rattle.begin_steps.proofs.RoomKept.{inode_was}
 use Rattle.begin_steps.proofs.Answered.{untouched_room, has_all_last}
 use Rattle.begin_steps.proofs.Opened.{keeps_made_room, units_kept, begun}
 use Rattle.name_ops.specs.declared.plan.NamesPlan.{NamesPlan}
-use Rattle.name_ops.specs.Finding.{Aims, IsRoomy, IsPlanOf, IsNewFlight, CanOpen, change_of, op_slots, owed_names}
+use Rattle.name_ops.specs.Finding.{Aims, IsNewFlight, CanOpen, change_of, op_slots, owed_names}
 use Rattle.name_ops.proofs.Aimed.{IsHoldable, holdable, needs_extra, extra_few, loses_none, reserve_two}
 use Rattle.name_ops.proofs.Begun.{grown_fits, has_slots}
 
@@ -349,7 +347,8 @@ module _ {D F : Type 0} (state : D → State) (who : ℕ) (op : Op) (plan : Name
       (more_is : more ≡ owed_names (length plan.slots.items) pages)
       (room : HasRoomFor more v1.parts) (enough : v1.parts.owed.units + more.units ≤ (state v1.device).spare) where
     pub held_inside : All (λ i. i < length v1.parts.inodes.items) f.held.items
-    held_inside = λ k x lt. (may_start d v.parts (state v.device) volume op plan pages can fresh f new who v1.parts (state v1.device) free' begins keeps
+    held_inside = λ k x lt.
+        (may_start d v.parts (state v.device) volume op plan pages can fresh f new who v1.parts (state v1.device) free' begins keeps
         takes count_is more more_is room enough).inside (get_or f.held.items k x) (listed f.held.items k x lt)
       where
         listed : (ys : List ℕ) (k x : ℕ) → k < length ys → Contains ys (get_or ys k x)

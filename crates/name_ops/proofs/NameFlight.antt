@@ -3,9 +3,6 @@
 use Rattle.std.proofs.Common.{
   ◌≡◌,
   ◌≢◌,
-  ◌⊎◌,
-  inl,
-  inr,
   ⊎_elim,
   ℕ,
   ◌+◌,
@@ -32,7 +29,6 @@ use Rattle.std.specs.List.Sorted.{IsStrictlyIncreasing}
 use Rattle.std.proofs.lemmas.List.{get_or_append_left}
 use Rattle.std.proofs.lemmas.List.Elements.{Contains-append_left}
 use Rattle.pm_device.specs.State.{State}
-use Rattle.pm_device.specs.Reading.{IsReady}
 use Rattle.page_alloc.proofs.FreeLaws.{below_rest}
 use Rattle.log_entry.specs.Spelling.{spelled}
 use Rattle.log_entry.specs.declared.item.LogItem.{LogItem}
@@ -41,7 +37,7 @@ use Rattle.file_content.specs.Pages.{AreApart}
 use Rattle.name_journal.specs.declared.change.Change.{Change as Word}
 use Rattle.pm_layout.specs.Geometry.{inode_word}
 use Rattle.dn_model.specs.Log.{count, tail_at}
-use Rattle.dn_model.specs.Disk.{Disk, Free}
+use Rattle.dn_model.specs.Disk.{Disk}
 use Rattle.dn_model.specs.Files.{named, files, IsSameFiles}
 use Rattle.dn_model.specs.Apply.{IsGranted, Grants, after_op}
 use Rattle.dn_model.specs.declared.op.Op.{Op}
@@ -54,13 +50,12 @@ use Rattle.law_names.specs.NameChange.{
   MayChange,
   MayGrowRoot,
   IsSpared,
-  FreshNames,
   root_after,
   state_changes,
   name_changes,
   names_changed,
 }
-use Rattle.law_names.specs.Operations.{MayCreate, MayRemove, MayRename, creation, removal, renaming, with_name}
+use Rattle.law_names.specs.Operations.{MayCreate, MayRemove, MayRename, renaming, with_name}
 use Rattle.law_names.proofs.Links.{names_eq, with_name-here, with_name-other}
 use Rattle.law_names.proofs.Operating.{may_create, may_remove, may_rename, named_created, named_removed, named_renamed}
 use Rattle.law_names.proofs.OperatedFiles.{files_created, files_removed, files_renamed}
@@ -293,8 +288,10 @@ module _ (d : Disk) (b : Parts) (s : State) (who : ℕ) (f : Flight) (c : NameCh
       (state_changes change.turn change.ino) (state_changes (as_turn c.turn) c.node)
       (ap (λ (x : DiskTurn). state_changes x change.ino) flight.turn_is ∙ ap (state_changes (as_turn c.turn)) flight.node_is)
     where
-      both : (x y : ℕ) → x ≡ y → (xs ys : List Word) → xs ≡ ys → record { at = inode_word 0 2; value = y } ∷ xs ≡ record { at = inode_word 0 2; value = x } ∷ ys
-      both x y one xs ys other = ap (λ (n : ℕ). record { at = inode_word 0 2; value = n } ∷ xs) (sym one) ∙ ap (λ (zs : List Word). record { at = inode_word 0 2; value = x } ∷ zs) other
+      both : (x y : ℕ) → x ≡ y → (xs ys : List Word) → xs ≡ ys → record { at = inode_word 0 2; value = y } ∷ xs ≡ record { at =
+          inode_word 0 2; value = x } ∷ ys
+      both x y one xs ys other = ap (λ (n : ℕ). record { at = inode_word 0 2; value = n } ∷ xs) (sym one)
+          ∙ ap (λ (zs : List Word). record { at = inode_word 0 2; value = x } ∷ zs) other
 
   -- the client's place
   pub who_few : who ≤ 14

@@ -15,7 +15,6 @@ use Rattle.std.proofs.Common.{
   Bool,
   List,
   [],
-  ◌∷◌,
   ◌++◌,
   length,
   refl,
@@ -64,7 +63,7 @@ use Rattle.dn_model.specs.declared.op.CountChange.{CountChange}
 use Rattle.dn_volume.specs.declared.volume.InodeState.{InodeState}
 use Rattle.dn_volume.specs.declared.volume.Parts.{Parts}
 use Rattle.dn_volume.specs.declared.volume.Room.{Room}
-use Rattle.dn_volume.specs.Parties.{Flies, by_client, SameOthers, KeepsOps, flight_at, blocks_of}
+use Rattle.dn_volume.specs.Parties.{Flies, by_client, SameOthers, KeepsOps, blocks_of}
 use Rattle.dn_volume.specs.Inodes.{AreNamesOf, AreInodesOf}
 use Rattle.dn_volume.specs.Space.{AreSlotsOf}
 use Rattle.dn_model.specs.Counts.{total}
@@ -78,7 +77,6 @@ use Rattle.dn_volume.specs.Agrees.{StandsFast, IsVolume}
 use Rattle.dn_volume.specs.Rely.{IsWordOf, of_inode, of_log, of_page, LeavesRest, KeepsRest, StayInHand}
 use Rattle.dn_volume.specs.Events.{IsBetween}
 use Rattle.dn_volume.specs.Steps.{StepsOn}
-use Rattle.law_write.proofs.Counting.{total-change}
 use Rattle.dn_volume.proofs.Kept.{quiet_accounts, quiet_alone}
 use Rattle.dn_volume.proofs.OthersStay.{others_stay}
 use Rattle.dn_volume.proofs.Stills.{still_flushes}

@@ -1,6 +1,6 @@
 -- What the first advance of an operation on names stores is what has to stand.
-use Rattle.std.proofs.Common.{◌≡◌, ℕ, ◌+◌, ◌-◌, ◌*◌, ◌<◌, ◌≤◌, List, [], ◌∷◌, length, refl, sym, ◌∙◌, ap, subst, arith, Some}
-use Rattle.std.specs.Prelude.{slice_get, slice_index}
+use Rattle.std.proofs.Common.{◌≡◌, ℕ, ◌+◌, ◌*◌, ◌<◌, ◌≤◌, List, [], ◌∷◌, length, refl, sym, ◌∙◌, ap, subst, arith, Some}
+use Rattle.std.specs.Prelude.{slice_get}
 use Rattle.pm_device.specs.State.{State, Agree}
 use Rattle.pm_device.specs.Settled.{FlushesAll}
 use Rattle.pm_device.specs.Lines.{StoresRun}
@@ -12,7 +12,7 @@ use Rattle.inode_log.specs.Prepare.{IsToPrepare as IsToPrepareLog, CanPrepare, I
 use Rattle.dn_model.specs.Log.{Log, count, tail_at, at_tail}
 use Rattle.dn_model.specs.Maps.{size_of}
 use Rattle.dn_model.specs.Disk.{Disk, IsUsed, Live, of_logs}
-use Rattle.law_names.specs.NameChange.{NameChange as DiskChange, Turn as DiskTurn, MayTurn, MayChange, root_after, turn_field, turn_words}
+use Rattle.law_names.specs.NameChange.{Turn as DiskTurn, MayTurn, MayChange, root_after, turn_field, turn_words}
 use Rattle.law_names.proofs.ChangedValid.{root_paged}
 use Rattle.dn_volume.specs.declared.units.TheConstants.{SLOT_UNITS, TURN_UNITS}
 use Rattle.dn_volume.specs.declared.flight.Flight.{Flight}
@@ -23,7 +23,7 @@ use Rattle.dn_volume.specs.declared.volume.InodeState.{InodeState}
 use Rattle.dn_volume.specs.declared.volume.Parts.{Parts}
 use Rattle.dn_volume.specs.Flights.{IsNameFlight, as_turn}
 use Rattle.dn_volume.specs.Agrees.{IsVolume}
-use Rattle.name_ops.specs.Preparing.{prepare_units, IsToPrepare, kept_words, StoresFlight}
+use Rattle.name_ops.specs.Preparing.{IsToPrepare, kept_words, StoresFlight}
 use Rattle.name_ops.proofs.NameFlight.{may, fresh_is}
 
 -- the words of an inode that turns, from its size

@@ -1,11 +1,9 @@
 -- The words that a commit of names changes.
-use Rattle.std.proofs.Common.{◌≡◌, ℕ, List, [], ◌∷◌, refl, sym, ◌∙◌, ap, subst, Option, Some, None}
+use Rattle.std.proofs.Common.{◌≡◌, ℕ, List, [], ◌∷◌, refl, sym, ◌∙◌, ap, subst, Some, None}
 use Rattle.std.specs.Prelude.{◌+◌, ◌≤◌, Result, Ok, Err, OnOk}
 use Rattle.pm_device.specs.State.{State}
-use Rattle.pm_device.specs.declared.Failed.{Failed}
 use Rattle.pm_device.specs.Settled.{LeavesOnly, StoresOnly, KeepsFlushed, Others, SettlesAll}
 use Rattle.pm_layout.specs.Geometry.{inode_word}
-use Rattle.inode_log.proofs.Committed.{on_ok_map}
 use Rattle.name_journal.specs.Changes.{IsTouched}
 use Rattle.name_journal.specs.AllOrNone.{AllOrNone, IsAllDone}
 use Rattle.name_journal.specs.declared.change.Change.{Change as Word}
@@ -30,7 +28,8 @@ one_changed kept_turn.Stays node value is = cc is
 one_changed kept_turn.Comes node value is = let one : 1 ≡ value = cc is in ap (λ (n : ℕ). record { at = inode_word node 0; value = n } ∷ []) one
 one_changed kept_turn.Goes node value is = let two : 2 ≡ value = cc is in ap (λ (n : ℕ). record { at = inode_word node 0; value = n } ∷ []) two
 
-pub tail_alone : (c : NameChange) (at : ℕ) → at ≡ inode_word 0 2 → state_value c.turn ≡ None → record { at = at; value = c.tail } ∷ [] ≡ flight_changes
+pub tail_alone : (c : NameChange) (at : ℕ) → at ≡ inode_word 0 2 → state_value c.turn ≡ None
+    → record { at = at; value = c.tail } ∷ [] ≡ flight_changes
     c
 tail_alone c at is none = ap (λ (n : ℕ). record { at = n; value = c.tail } ∷ []) is ∙ ap (λ (xs : List Word). record {
   at = inode_word 0 2;

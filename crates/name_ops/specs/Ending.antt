@@ -1,12 +1,16 @@
 -- What the end of an operation on names does to the parts, after its flight was taken out.
-use Rattle.std.specs.Prelude.{◌≡◌, ◌⊎◌, ◌↔◌, ℕ, ◌+◌, ◌<◌, ◌≤◌, true, List, [], ◌∷◌, ◌++◌}
-use Rattle.std.specs.Prelude.{length, slice_get, slice_index, Some, None, Contains, All}
+use Rattle.std.specs.Prelude.{◌≡◌, ◌⊎◌, ◌↔◌, ℕ, ◌+◌, ◌<◌, ◌≤◌, List, [], ◌∷◌, ◌++◌}
+use Rattle.std.specs.Prelude.{length, slice_get, slice_index, Option, Some, None, IsSome}
+use Rattle.std.specs.Prelude.{Contains, All}
 use Rattle.std.specs.Prelude.{vec_len, vec_capacity}
 use Rattle.std.specs.FinMap.{get}
+use Rattle.std.specs.Ordering.{nat_cmp}
+use Rattle.std.specs.Cmp.Lexicographic.{slice_cmp}
+use Rattle.file_index.specs.Index.{Index, Puts, Drops}
 use Rattle.page_alloc.specs.Free.{FreePages, IsInOrder}
 use Rattle.file_content.specs.Pages.{AreApart}
 use Rattle.dn_model.specs.declared.op.Op.{Op}
-use Rattle.dn_model.specs.declared.op.Op.TheVariants.{Create}
+use Rattle.dn_model.specs.declared.op.Op.TheVariants as op
 use Rattle.dn_model.specs.declared.op.Reply.TheVariants.{Done}
 use Rattle.dn_volume.specs.declared.units.TheConstants.{NAMES_UNITS}
 use Rattle.dn_volume.specs.declared.flight.Flight.{Flight}
@@ -14,8 +18,17 @@ use Rattle.dn_volume.specs.declared.flight.Change.TheVariants.{Names}
 use Rattle.dn_volume.specs.declared.flight.NameChange.{NameChange}
 use Rattle.dn_volume.specs.declared.volume.InodeState.{InodeState}
 use Rattle.dn_volume.specs.declared.volume.Parts.{Parts}
+use Rattle.dn_volume.specs.Parties.{Flies}
 use Rattle.dn_volume.specs.PlannedNames.{name_put}
-use Rattle.name_ops.specs.Landing.{names_after, TurnsInode, LetsGo, turn_units, places_kept, IsToCommit}
+use Rattle.dn_volume.specs.Begins.{IsNamesOp}
+use Rattle.name_ops.specs.Landing.{
+  names_after,
+  TurnsInode,
+  LetsGo,
+  turn_units,
+  places_kept,
+  IsToCommit,
+}
 
 -- these pages became free, and nothing else changed
 pub record Gives (given : ℕ → Type 0) (old new : FreePages) : Type 0 where
@@ -50,21 +63,43 @@ pub record KeepsPlaces (n n' : InodeState) : Type 0 where
   pub round : n'.round ≡ n.round
   pub holder : n'.holder ≡ n.holder
 
--- it is a creation
-pub record IsCreate (op : Op) : Type 0 where
-  pub name : List ℕ
-  pub is : op ≡ Create name
+-- a renaming moves a name that leads somewhere
+abbrev pub MovesSome : Op → (List ℕ → Option ℕ) → Type 0
+MovesSome (op.Create name) leads = Unit {0}
+MovesSome (op.Write name at text) leads = Unit {0}
+MovesSome (op.Read name at count) leads = Unit {0}
+MovesSome (op.Cut name to) leads = Unit {0}
+MovesSome (op.Remove name) leads = Unit {0}
+MovesSome (op.Rename from to) leads = IsSome (leads from)
+MovesSome (op.Size name) leads = Unit {0}
+MovesSome op.List leads = Unit {0}
 
--- a creation of this client is in flight, and all that has to stand before its commit was stored
+-- one name leads nowhere, and the other to the inode to which that one led
+pub record MovesName (from to : List ℕ) (old new : Index (slice_cmp nat_cmp) ℕ) : Type 0 where
+  pub node : ℕ
+  pub mid : Index (slice_cmp nat_cmp) ℕ
+  pub led : get old.map from ≡ Some node
+  pub drops : Drops from old mid
+  pub puts : Puts to node mid new
+
+-- an operation on names of this client is in flight
+pub record FliesNames (b : Parts) (who : ℕ) : Type 0 where
+  pub flight : Flight
+  pub change : NameChange
+  pub flies : Flies b who flight
+  pub change_is : flight.change ≡ Names change
+
+-- an operation on names of this client is in flight, and what has to stand before its commit stands
 pub record IsNextToCommit (b : Parts) (who : ℕ) : Type 0 where
   pub flight : Flight
   pub change : NameChange
   pub is : IsToCommit b who flight change
-  pub kind : IsCreate flight.op
+  pub kind : IsNamesOp flight.op
 
 -- there is room for the end of an operation
 pub record CanLand (f : Flight) (c : NameChange) (b : Parts) : Type 0 where
-  pub kind : IsCreate f.op
+  pub kind : IsNamesOp f.op
+  pub moves : MovesSome f.op (get b.names.map)
   pub change_is : f.change ≡ Names c
   pub put_is : c.put ≡ name_put f.op
   pub node : c.node < length b.inodes.items
@@ -97,7 +132,8 @@ pub record FinishesNames (who : ℕ) (f : Flight) (c : NameChange) (b b' : Parts
   pub names_room : b.names.room ≤ b'.names.room + 1
   pub all : length b'.inodes.items ≡ length b.inodes.items
   pub each : (ino : ℕ) (n' : InodeState) → slice_get b'.inodes.items ino ≡ Some n'
-      → (n : InodeState) × (slice_get b.inodes.items ino ≡ Some n) × TurnsInode c ino n n' × LetsGo f
+      → (n : InodeState) × (slice_get b.inodes.items ino ≡ Some n) × TurnsInode c ino n n'
+          × LetsGo f
       ino n n'
   pub raised : b'.reclaiming.raised ≡ b.reclaiming.raised
   pub zero_check : b'.reclaiming.zero_check ≡ b.reclaiming.zero_check

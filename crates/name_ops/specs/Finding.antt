@@ -159,8 +159,8 @@ change_of (op.Size name) ino other fresh =
 change_of op.List ino other fresh =
     record { fresh = fresh; more = []; ino = ino; turn = Stays }
 
--- The room that an operation on names is owed whose items have so many slots, and whose log needs so
--- many pages.
+-- the room that is owed to an operation on names whose items have so many slots and whose log needs
+-- so many pages
 abbrev pub owed_names : (slots pages : ℕ) → Room
 owed_names slots pages = record {
   units = cost.SLOT_UNITS * (slots + pages) + cost.TURN_UNITS + cost.NAMES_UNITS;

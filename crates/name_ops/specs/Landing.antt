@@ -130,7 +130,8 @@ pub record LandsChange (who : ℕ) (f : Flight) (c : NameChange) (b b' : Parts) 
   pub names : (other : List ℕ) → get b'.names.map other ≡ names_after f.op (get b.names.map) c.node
       other
   pub each : (ino : ℕ) (n' : InodeState) → slice_get b'.inodes.items ino ≡ Some n'
-      → (n : InodeState) × (slice_get b.inodes.items ino ≡ Some n) × TurnsInode c ino n n' × LetsGo f
+      → (n : InodeState) × (slice_get b.inodes.items ino ≡ Some n) × TurnsInode c ino n n'
+          × LetsGo f
       ino n n'
   pub raised : b'.reclaiming.raised ≡ b.reclaiming.raised
   pub zero_check : b'.reclaiming.zero_check ≡ b.reclaiming.zero_check

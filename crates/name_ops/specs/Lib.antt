@@ -3,3 +3,4 @@ pub mod Preparing
 pub mod Beginning
 pub mod Finding
 pub mod Ending
+pub mod Creating

@@ -6,9 +6,12 @@ ghost use Rattle.file_content.specs.Pages.{AreApart};
 ghost use Rattle.dn_volume.specs.declared.flight.NameChange.{NameChange as KeptChange};
 ghost use Rattle.dn_volume.specs.PlannedNames.{name_put};
 ghost use Rattle.dn_volume.specs.Parties.{flight_at};
-ghost use Rattle.name_ops.specs.Ending.{Gives, LetsGoOf, KeepsPlaces, IsCreate, CanLand, FinishesNames};
+ghost use Rattle.dn_volume.specs.Begins.{IsNamesOp};
+ghost use Rattle.file_index.specs.Index.{Puts};
+ghost use Rattle.name_ops.specs.Ending.{Gives, LetsGoOf, KeepsPlaces, MovesSome, MovesName, CanLand, FinishesNames};
 ghost use Rattle.name_ops.specs.Landing.{names_after, Turned, places_in, places_kept, turn_units};
 
+use begin_steps::find_inode;
 use dn_model::{Entry, Op, Reply};
 use dn_volume::units::NAMES_UNITS;
 use dn_volume::{Change, Flight, InodeState, InodeUse, Parts, Turn};
@@ -117,9 +120,35 @@ pub fn turn_inode(node: &mut InodeState, turn: Turn)
     }
 }
 
+// A name leads to an inode.
+fn put_name(names: &mut NameMap, node: u64, put: Option<Name>)
+    requires some { IsSome put }
+    requires room { 0 < names.old.room }
+    ensures { IfSome put (λ name. Puts name node names.old names.new) }
+{
+    if let Some(name) = put {
+        names.put(name, node);
+    }
+}
+
+// A name leads nowhere, and another to the inode to which it led.
+fn move_name(names: &mut NameMap, from: &[u8], put: Option<Name>)
+    requires some { IsSome put }
+    requires leads { IsSome (get names.old.map from.now) }
+    requires room { 0 < names.old.room }
+    ensures { IfSome put (λ to. MovesName from.now to names.old names.new) }
+{
+    let Some(node) = find_inode(names, from) else {
+        unreachable!()
+    };
+    names.drop_bytes(from);
+    put_name(names, node, put);
+}
+
 // The names lead where they lead after an operation.
 fn change_names(names: &mut NameMap, op: &Op, node: u64, put: Option<Name>)
-    requires kind { IsCreate op.now }
+    requires kind { IsNamesOp op.now }
+    requires moves { MovesSome op.now (get names.old.map) }
     requires put_is { put ≡ name_put op.now }
     requires room { 0 < names.old.room }
     ensures names { (other : List ℕ) → get names.new.map other ≡ names_after op.now
@@ -127,11 +156,9 @@ fn change_names(names: &mut NameMap, op: &Op, node: u64, put: Option<Name>)
     ensures room { names.old.room ≤ names.new.room + 1 }
 {
     match op {
-        Op::Create { .. } => {
-            if let Some(name) = put {
-                names.put(name, node);
-            }
-        }
+        Op::Create { .. } => put_name(names, node, put),
+        Op::Remove { name } => names.drop_bytes(name.bytes()),
+        Op::Rename { from, .. } => move_name(names, from.bytes(), put),
         _ => unreachable!(),
     }
 }

@@ -2,9 +2,12 @@
 #![tactic(auto)]
 
 pub mod commit;
+pub mod create;
 pub mod ending;
 pub mod found;
 pub mod laws;
+pub mod list;
+pub mod names;
 pub mod opening;
 pub mod plan;
 pub mod prepare;

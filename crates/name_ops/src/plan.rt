@@ -18,7 +18,7 @@ use std::alloc::{AllocError, Global};
 /// What an operation on names will do, before it has its pages.
 #[derive(Debug, Drop)]
 pub struct NamesPlan {
-    /// The inode that comes to life or is dying; of a renaming that replaces none, the one that is renamed.
+    /// The inode that comes to life or is dying, or the one that is renamed where none is replaced.
     pub node: u64,
     /// What becomes of it.
     pub turn: Turn,

@@ -37,5 +37,6 @@ pub refilled_mapping : (ino : ℕ) (old new : Disk) (w : Writes ino old new) (si
     → maps new ino (last_page size) ≡ Some (run_mapping page (slot_name (new.inode ino).log.pages (count (old.inode ino).log)) 0)
 refilled_mapping ino old new w size page more lt =
     maps_new ino old new w (last_page size) ∙ mapping-grown old.geometry (old.inode ino).log (new.inode ino).log w.grown w.paged (last_page size)
-    ∙ ap (λ (xs : List LogItem). mapped_after (last_page size) (mapping (old.inode ino).log (last_page size)) (placed_from (new.inode ino).log.pages (count (old.inode ino).log) xs)) more
+    ∙ ap (λ (xs : List LogItem). mapped_after (last_page size) (mapping (old.inode ino).log (last_page size)) (placed_from
+    (new.inode ino).log.pages (count (old.inode ino).log) xs)) more
     ∙ refilled_item (new.inode ino).log.pages size (count (old.inode ino).log) page (mapping (old.inode ino).log (last_page size)) lt

@@ -1,5 +1,32 @@
 -- The cut that comes in flight is the one that was planned.
-use Rattle.std.proofs.Common.{◌≡◌, inl, inr, ℕ, ◌+◌, ◌-◌, ◌*◌, ◌/◌, ◌%◌, ◌<◌, ◌≤◌, Bool, true, false, List, [], ◌∷◌, ◌++◌, length, refl, sym, ◌∙◌, ap, subst, arith, length-append}
+use Rattle.std.proofs.Common.{
+  ◌≡◌,
+  inl,
+  inr,
+  ℕ,
+  ◌+◌,
+  ◌-◌,
+  ◌*◌,
+  ◌/◌,
+  ◌%◌,
+  ◌<◌,
+  ◌≤◌,
+  Bool,
+  true,
+  false,
+  List,
+  [],
+  ◌∷◌,
+  ◌++◌,
+  length,
+  refl,
+  sym,
+  ◌∙◌,
+  ap,
+  subst,
+  arith,
+  length-append,
+}
 use Rattle.std.specs.Prelude.{slice_index, if◌then◌else◌, ◌==◌, ◌&&◌, not, nat_lt, Option, IsSome, Contains}
 use Rattle.std.specs.Option.{option_map}
 use Rattle.std.proofs.lemmas.Bool.{cases_lt}
@@ -163,7 +190,8 @@ module _ (d : Disk) (op : Op) (ino : ℕ) (cut : CutPlan) (is : IsPlanOf d op in
   })
 
   module _ (b : Parts) (s : State) (v : IsVolume d b s) (who : ℕ) (free' : FreePages) (ready : Ready) (wp : WritePlan)
-      (takes : TakesPlan cut b.free free' wp) (held : ready.held.items ≡ ino ∷ []) (rows : ready.rows.items ≡ row_slots d ino cut.from (4096 - cut.from))
+      (takes : TakesPlan cut b.free free' wp) (held : ready.held.items ≡ ino ∷ []) (rows : ready.rows.items ≡ row_slots d ino cut.from
+      (4096 - cut.from))
     where
       abbrev f : Flight
       f = data_flight op ino ready wp

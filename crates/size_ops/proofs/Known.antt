@@ -198,7 +198,8 @@ module _ (d : Disk) (b : Parts) (s : State) (who : ℕ) (f : Flight) (c : DataCh
           | inr ne ↦ gone_place idx past (inr ne)
               (one_page c.size c.first idx plan.first (omega (arith, past, from_first c.size c.first c.blocks.items some plan.first)) ne)
         ]
-        | inr none ↦ gone_place idx past (inl (no_blocks c.blocks.items none)) (no_place c.blocks.items c.size idx (no_blocks c.blocks.items none) past)
+        | inr none ↦ gone_place idx past (inl (no_blocks c.blocks.items none)) (no_place c.blocks.items c.size idx
+            (no_blocks c.blocks.items none) past)
       ]
     ]
       where
@@ -223,11 +224,13 @@ module _ (d : Disk) (b : Parts) (s : State) (who : ℕ) (f : Flight) (c : DataCh
   }
 
   pub can_finish_cut : (node : InodeState) → slice_get b.inodes.items f.ino ≡ Some node → (mid : Parts) (tail : ℕ)
-      → tail ≡ tail_at (d.inode f.ino).log.pages (count (d.inode f.ino).log) → Gives (IsUnsharedAmong d node.map.map from (4096 - from)) b.free mid.free
+      → tail ≡ tail_at (d.inode f.ino).log.pages (count (d.inode f.ino).log) → Gives (IsUnsharedAmong d node.map.map from (4096 - from))
+      b.free mid.free
       → mid.inodes ≡ b.inodes → mid.queue ≡ b.queue → mid.reclaiming ≡ b.reclaiming → mid.owed ≡ b.owed → mid.history ≡ b.history
       → CanFinishCut tail f c mid
   can_finish_cut node node_is mid tail tail_is gives inodes queue reclaiming owed history = record {
-    can = can_end d b s who f c v last.flies last.kind fact node node_is mid tail from (4096 - from) in_file tail_is gives inodes queue reclaiming owed
+    can = can_end d b s who f c v last.flies last.kind fact node node_is mid tail from (4096 - from) in_file tail_is gives inodes queue
+        reclaiming owed
         history;
     small = small;
     first = plan.first;

@@ -39,11 +39,13 @@ module _ {D F : Type 0} (state : D → State) (v v1 : Volume D F) (d : Disk) (is
   pub untouched_ready : (free' : FreePages) → free' ≡ v1.parts.free
       → IsUntouched state v (record { device = v1.device; print = v1.print; parts = record v1.parts { free = free' } }) d
   untouched_ready free' same =
-      subst (λ (x : FreePages). IsUntouched state v (record { device = v1.device; print = v1.print; parts = record v1.parts { free = x } }) d) (sym same)
+      subst (λ (x : FreePages). IsUntouched state v (record { device = v1.device; print = v1.print; parts = record v1.parts { free = x } })
+      d) (sym same)
       (untouched_room state v d is_v v1 agree only.device only.keeps units_there only.history only.made)
 
   module _ (who : ℕ) (op : Op) (ask : DataAsk) (asks : IsAsk d op ask) (has : HasAll d v.parts op) (begins : MayBegin v.parts who)
-      (places slots : ℕ) (ready : Ready) (is_ready : IsReady state ask places slots v v1 ready) (few_places : places ≤ 4096) (few_slots : slots ≤ 4096)
+      (places slots : ℕ) (ready : Ready) (is_ready : IsReady state ask places slots v v1 ready) (few_places : places ≤ 4096)
+      (few_slots : slots ≤ 4096)
       (free' : FreePages) (wp : WritePlan) (takes : TakesFirst v1.parts.free free' (wp.fresh.items ++ wp.spare.items ++ wp.blocks.items))
       (places_are : length wp.blocks.items ≡ places) (slots_are : length wp.slots.items ≤ slots) (fresh_are : length wp.fresh.items ≤ 1)
       (runs_are : length wp.runs.items ≤ places) where
@@ -77,7 +79,8 @@ module _ {D F : Type 0} (state : D → State) (v v1 : Volume D F) (d : Disk) (is
         was.2.holder ∙ by_holder was.0 was.1 (subst (λ (xs : List ℕ). Contains xs ino) (sym asks.holds)
         (subst (λ (i : ℕ). Contains (ask.ino ∷ []) i) here (0, omega arith, refl))) was.0.holder refl
       where
-        by_holder : (x : InodeState) → slice_get v.parts.inodes.items ino ≡ Some x → Contains (wants d op) ino → (o : Option ℕ) → x.holder ≡ o → x.holder ≡ None
+        by_holder : (x : InodeState) → slice_get v.parts.inodes.items ino ≡ Some x → Contains (wants d op) ino → (o : Option ℕ)
+            → x.holder ≡ o → x.holder ≡ None
         by_holder x at wanted None is = is
         by_holder x at wanted (Some q) is = absurd (has.unhindered.loose ino q wanted ((is_v.holders.told ino q x at).0 is))
 
@@ -156,5 +159,6 @@ module _ {D F : Type 0} (state : D → State) (v v1 : Volume D F) (d : Disk) (is
         → IsDataFlight d who f c (state v1.device) → Starts who f (record v1.parts { free = free' }) v'.parts → left_now ≡ left_of f
         → HasBegun state who op left_now v v' d
     has_begun v' left_now same agree1 plans starts left_is =
-        begun state who op left_now f free' v v1 v' d is_v agree agree1 only.device only.keeps units_there only.history only.made same (may_start plans)
+        begun state who op left_now f free' v v1 v' d is_v agree agree1 only.device only.keeps units_there only.history only.made same
+        (may_start plans)
         starts has refl left_is refl least

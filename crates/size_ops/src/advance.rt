@@ -24,7 +24,8 @@ pub fn advance_cut<D: Pm, F: Fingerprint>(v: &mut Volume<D, F>, who: u32) -> Out
     requires flies { FliesAs IsCutOp v.old.parts who }
     ensures agrees { Agrees D.state v.new }
     ensures event { (d : Disk) (f : KeptFlight) → IsVolume d v.old.parts (D.state v.old.device)
-        → Flies v.old.parts who f → Advances D.state F.print who f.op (left_of f) v.old v.new d result }
+        → Flies v.old.parts who f → Advances D.state F.print who f.op (left_of f) v.old v.new d
+        result }
 {
     match next_step(&v.parts, who) {
         DataStep::Fill => fill_page(v, who),

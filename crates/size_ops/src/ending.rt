@@ -69,7 +69,8 @@ pub fn cut_inode(
     fresh: &[u64],
 )
     requires there { ino < length inodes.old.items }
-    requires can { (n : StateOf) → slice_get inodes.old.items ino ≡ Some n → CanCut change.now n.map.room }
+    requires can { (n : StateOf) → slice_get inodes.old.items ino ≡ Some n → CanCut change.now
+        n.map.room }
     requires tail { tail < 4194304 }
     requires fresh { All (λ page. page < 65536) fresh.now }
     ensures { CutsAt ino change.now tail fresh.now inodes.old.items inodes.new.items }

@@ -11,13 +11,13 @@ ghost use Rattle.dn_volume.specs.Begins.{IsCutOp};
 ghost use Rattle.size_ops.specs.Sizing.{IsAnswerNow};
 ghost use Rattle.size_ops.specs.Planning.{IsCutNow, IsCutOf, IsStateOf, IsPlanOf, lost_from};
 
-use begin_steps::find_inode;
+use data_begins::find_file;
 use dn_model::{Op, Refusal};
 use dn_volume::{InodeState, Parts, Volume};
 use file_write::take::room_of;
 use fingerprint::Fingerprint;
 use inode_table::TAIL;
-use log_entry::{MOST_SIZE, is_legal};
+use log_entry::MOST_SIZE;
 use pm_device::Pm;
 
 /// What a cut of a file takes.
@@ -44,12 +44,7 @@ pub(crate) fn file_to_cut(parts: &Parts, op: &Op) -> Result<u64, Refusal>
     let Op::Cut { name, size } = op else {
         unreachable!()
     };
-    if !is_legal(name.bytes()) {
-        return Err(Refusal::BadName);
-    }
-    let Some(ino) = find_inode(&parts.names, name.bytes()) else {
-        return Err(Refusal::NotFound);
-    };
+    let ino = find_file(&parts.names, name.bytes())?;
     if *size > MOST_SIZE {
         return Err(Refusal::TooBig);
     }
@@ -72,8 +67,8 @@ fn pages_to_fill(node: &InodeState, size: u64) -> u64
 // How many pages a log with this tail grows by for so many slots, which are fewer than a page has.
 fn pages_for_slots(tail: u64, slots: u64) -> u64
     ensures few { result ≤ 1 }
-    ensures pages { (g : Geometry) (log : Log) → IsPaged g log → tail ≡ tail_at log.pages (count log)
-        → result ≡ extra slots log }
+    ensures pages { (g : Geometry) (log : Log) → IsPaged g log
+        → tail ≡ tail_at log.pages (count log) → result ≡ extra slots log }
 {
     if room_of(tail) < slots { 1 } else { 0 }
 }
@@ -94,7 +89,8 @@ fn first_lost(size: u64, pages: u64) -> u64
 pub(crate) fn plan_cut<D: Pm, F: Fingerprint>(v: &Volume<D, F>, ino: u64, op: &Op) -> CutPlan
     requires agrees { Agrees D.state v.now }
     requires running { v.now.parts.stopped ≡ false }
-    requires cut { (d : Disk) → IsVolume d v.now.parts (D.state v.now.device) → IsCutOf d op.now ino }
+    requires cut { (d : Disk) → IsVolume d v.now.parts (D.state v.now.device) → IsCutOf d op.now
+        ino }
     ensures { (d : Disk) → IsVolume d v.now.parts (D.state v.now.device) → IsPlanOf d op.now ino
         result }
 {

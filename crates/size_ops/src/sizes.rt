@@ -5,11 +5,11 @@ ghost use Rattle.dn_volume.specs.Agrees.{Agrees, IsVolume};
 ghost use Rattle.dn_volume.specs.Begins.{MayBegin, IsSizeOp, Begins};
 ghost use Rattle.size_ops.specs.Sizing.{IsSomeVolume, IsAnswerNow};
 
-use begin_steps::{answer, find_inode};
-use dn_model::{Op, Refusal, Reply};
+use begin_steps::answer;
+use data_begins::find_file;
+use dn_model::{Op, Reply};
 use dn_volume::{Outcome, Parts, Volume};
 use fingerprint::Fingerprint;
-use log_entry::is_legal;
 use pm_device::Pm;
 use std::alloc::Global;
 
@@ -22,13 +22,10 @@ fn size_reply(parts: &Parts, op: &Op) -> Reply
     let Op::Size { name } = op else {
         unreachable!()
     };
-    if !is_legal(name.bytes()) {
-        return Reply::Refused(Refusal::BadName);
+    match find_file(&parts.names, name.bytes()) {
+        Ok(ino) => Reply::Number(parts.inodes[ino as usize].size),
+        Err(why) => Reply::Refused(why),
     }
-    let Some(ino) = find_inode(&parts.names, name.bytes()) else {
-        return Reply::Refused(Refusal::NotFound);
-    };
-    Reply::Number(parts.inodes[ino as usize].size)
 }
 
 /// Answers how many bytes a file has, in the begin of the operation: a number, `BadName` exactly where the name is not

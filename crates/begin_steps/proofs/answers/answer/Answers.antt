@@ -37,12 +37,16 @@ returns-clause-agrees g c =
     let found = running_disk g.D.Pm.state c.args.v.now c.requires.running c.requires.agrees in
     agrees_with found.0 (answered g.D.Pm.state c.args.v.now found.0 found.1 c.args.who c.args.op c.args.reply c.make_entry_room.new.parts
     (record { device = c.args.v.now.device; print = c.args.v.now.print; parts = c.enter.new.parts }) (g.met.D.Pm.agree c.args.v.now.device)
-    (record { now = refl; past = refl; faults = refl }) refl c.requires.begins c.make_entry_room.ensures.makes (c.make_entry_room.ensures.room c.if-not-make_entry_room.false)
-    (subst (λ (r : Reply). EntersHistory c.args.who c.args.op r c.make_entry_room.new.parts c.enter.new.parts) c.in-Ok.ensures c.enter.ensures) (c.requires.why found.0 found.1)).volume
+    (record { now = refl; past = refl; faults = refl }) refl c.requires.begins c.make_entry_room.ensures.makes
+    (c.make_entry_room.ensures.room c.if-not-make_entry_room.false)
+    (subst (λ (r : Reply). EntersHistory c.args.who c.args.op r c.make_entry_room.new.parts c.enter.new.parts) c.in-Ok.ensures c.enter.ensures)
+    (c.requires.why found.0 found.1)).volume
 
 pub returns-clause-event : goal.returns-clause-event
 returns-clause-event g c = λ d volume.
     answered g.D.Pm.state c.args.v.now d volume c.args.who c.args.op c.args.reply c.make_entry_room.new.parts
     (record { device = c.args.v.now.device; print = c.args.v.now.print; parts = c.enter.new.parts }) (g.met.D.Pm.agree c.args.v.now.device)
-    (record { now = refl; past = refl; faults = refl }) refl c.requires.begins c.make_entry_room.ensures.makes (c.make_entry_room.ensures.room c.if-not-make_entry_room.false)
-    (subst (λ (r : Reply). EntersHistory c.args.who c.args.op r c.make_entry_room.new.parts c.enter.new.parts) c.in-Ok.ensures c.enter.ensures) (c.requires.why d volume)
+    (record { now = refl; past = refl; faults = refl }) refl c.requires.begins c.make_entry_room.ensures.makes
+    (c.make_entry_room.ensures.room c.if-not-make_entry_room.false)
+    (subst (λ (r : Reply). EntersHistory c.args.who c.args.op r c.make_entry_room.new.parts c.enter.new.parts) c.in-Ok.ensures c.enter.ensures)
+    (c.requires.why d volume)

@@ -11,7 +11,8 @@ use Rattle.dedupe_daemon.proofs.begin.begin_fresh.Goals as goal
 pub returns-in-Some-clause-event : goal.returns-in-Some-clause-event
 returns-in-Some-clause-event g c = λ d v. (
   untouched g.D.Pm.state c.args.v.now d v,
-  held_up g.D.Pm.state c.args.v.now c.args.work c.requires.none_begun c.requires.front c.requires.fresh c.index.result.now c.index.ensures c.in-Some.holder
+  held_up g.D.Pm.state c.args.v.now c.args.work c.requires.none_begun c.requires.front c.requires.fresh c.index.result.now c.index.ensures
+      c.in-Some.holder
       c.in-Some.is d v,
 )
 
@@ -37,7 +38,8 @@ take_item-requires-clause-loose g c = λ n at.
     let same = stand_made g.D.Pm.state c.args.v.now c.make_room.new.v c.make_room.ensures.makes in
     node_loose g.D.Pm.state c.args.v.now c.args.work c.requires.none_begun c.requires.front c.requires.fresh c.index.result.now c.index.ensures
     c.in_default.is n
-    (ap (λ ns. slice_get ns c.args.work.ino) (sym same.inodes) ∙ subst (λ (x : KeptSharing). slice_get c.make_room.new.v.parts.inodes.items x.work.ino ≡ Some
+    (ap (λ ns. slice_get ns c.args.work.ino) (sym same.inodes) ∙ subst (λ (x : KeptSharing). slice_get c.make_room.new.v.parts.inodes.items
+    x.work.ino ≡ Some
     n) c.item_at-sharing.ensures at)
 
 pub returns-then-make_room-clause-event : goal.returns-then-make_room-clause-event

@@ -3,7 +3,7 @@ use Rattle.dn_volume.proofs.Tables.{running_disk}
 use Rattle.count_events.proofs.Ends.{err_is}
 use Rattle.dedupe_daemon.proofs.Passed.{begun_work}
 use Rattle.dedupe_daemon.proofs.Ended.{end_lowers}
-use Rattle.dedupe_daemon.proofs.EndEnds.{SetsTag, end_slot, end_there, end_units, end_spare, end_moves, end_breaks}
+use Rattle.dedupe_daemon.proofs.EndEnds.{end_slot, end_there, end_units, end_spare, end_moves, end_breaks}
 use Rattle.dedupe_daemon.proofs.end.end_item.Goals as goal
 
 pub set_flag-requires-clause-slot : goal.set_flag-requires-clause-slot

@@ -22,7 +22,12 @@ events_left-requires-clause-few g c = few_places g.D.Pm.state c.args.v.now c.req
 pub returns-clause-agrees : goal.returns-clause-agrees
 returns-clause-agrees g c =
     let found = running_disk g.D.Pm.state c.args.v.now c.requires.running c.requires.agrees in
-    let moves = pass_moves g.D.Pm.state c.args.v.now (record { device = c.args.v.now.device; print = c.args.v.now.print; parts = c.note_pass.new.parts })
+    let moves = pass_moves g.D.Pm.state c.args.v.now (record {
+      device = c.args.v.now.device;
+      print = c.args.v.now.print;
+      parts =
+          c.note_pass.new.parts;
+    })
     c.args.sharing c.requires.looking c.requires.passed c.note_pass.ensures (g.met.D.Pm.agree c.args.v.now.device) g.F.Fingerprint.print found.0
     found.1 in
     agrees_with moves.after moves.moves.volume

@@ -20,7 +20,8 @@ returns g c = λ d volume.
     (c.load-tail.ensures ∙ ap (slice_index s.now) c.inode_word.ensures ∙ tail_read d c.args.v.now.parts s volume c.args.ino file) in
     record {
       ino_is = refl;
-      needs = c.pages_needed.ensures ∙ needs_pages (d.inode c.args.ino).log c.places_of-places.result (touched c.args.at c.args.count) c.room_of.result
+      needs = c.pages_needed.ensures ∙ needs_pages (d.inode c.args.ino).log c.places_of-places.result
+          (touched c.args.at c.args.count) c.room_of.result
           c.places_of-places.ensures room_is;
       lost = refl;
       places = c.places_of-places.ensures;

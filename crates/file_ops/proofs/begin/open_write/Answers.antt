@@ -57,7 +57,8 @@ start_data-requires-clause-held g c =
     let rdy = subst (λ (n : ℕ). IsReady S c.args.ask.now n n c.args.v.now v1 c.in-Some.ready) c.places_of-places.ensures c.in-Some.ensures.ready in
     let agree = g.met.D.Pm.agree c.args.v.now.device in
     let only = c.make_ready.ensures.makes in
-    all_inside S c.args.v.now v1 d volume agree only c.args.op c.in-Write.name at text op_is c.args.ask.now is c.args.who c.requires.begins has c.in-Some.ready
+    all_inside S c.args.v.now v1 d volume agree only c.args.op c.in-Write.name at text op_is c.args.ask.now is c.args.who c.requires.begins has
+    c.in-Some.ready
     rdy
 
 pub start_data-requires-clause-few : goal.start_data-requires-clause-few
@@ -75,11 +76,13 @@ start_data-requires-clause-few g c =
     let rdy = subst (λ (n : ℕ). IsReady S c.args.ask.now n n c.args.v.now v1 c.in-Some.ready) c.places_of-places.ensures c.in-Some.ensures.ready in
     let agree = g.met.D.Pm.agree c.args.v.now.device in
     let only = c.make_ready.ensures.makes in
-    let size_is = size_at S c.args.v.now v1 d volume agree only c.args.op c.in-Write.name at text op_is c.args.ask.now is c.args.who c.requires.begins has
+    let size_is = size_at S c.args.v.now v1 d volume agree only c.args.op c.in-Write.name at text op_is c.args.ask.now is c.args.who
+    c.requires.begins has
     c.in-Some.ready rdy c.index.result.now c.index.ensures in
     let room_is = room_at S c.args.v.now v1 d volume agree only c.args.op c.in-Write.name at text op_is c.args.ask.now is c.args.who c.requires.begins
     has c.in-Some.ready rdy c.load.result c.room_of-room.result c.inode_word.result c.inode_word.ensures c.load.ensures c.room_of-room.ensures.room in
-    is_few S c.args.v.now v1 d volume agree only c.args.op c.in-Write.name at text op_is c.args.ask.now is c.args.who c.requires.begins has c.in-Some.ready
+    is_few S c.args.v.now v1 d volume agree only c.args.op c.in-Write.name at text op_is c.args.ask.now is c.args.who c.requires.begins has
+    c.in-Some.ready
     rdy c.index.result.now.size c.room_of-room.result size_is room_is c.plan_write.new.free c.in-Ok.plan c.in-Ok.ensures.plan
 
 pub start_data-requires-clause-fits : goal.start_data-requires-clause-fits
@@ -97,11 +100,13 @@ start_data-requires-clause-fits g c =
     let rdy = subst (λ (n : ℕ). IsReady S c.args.ask.now n n c.args.v.now v1 c.in-Some.ready) c.places_of-places.ensures c.in-Some.ensures.ready in
     let agree = g.met.D.Pm.agree c.args.v.now.device in
     let only = c.make_ready.ensures.makes in
-    let size_is = size_at S c.args.v.now v1 d volume agree only c.args.op c.in-Write.name at text op_is c.args.ask.now is c.args.who c.requires.begins has
+    let size_is = size_at S c.args.v.now v1 d volume agree only c.args.op c.in-Write.name at text op_is c.args.ask.now is c.args.who
+    c.requires.begins has
     c.in-Some.ready rdy c.index.result.now c.index.ensures in
     let room_is = room_at S c.args.v.now v1 d volume agree only c.args.op c.in-Write.name at text op_is c.args.ask.now is c.args.who c.requires.begins
     has c.in-Some.ready rdy c.load.result c.room_of-room.result c.inode_word.result c.inode_word.ensures c.load.ensures c.room_of-room.ensures.room in
-    (room_for S c.args.v.now v1 d volume agree only c.args.op c.in-Write.name at text op_is c.args.ask.now is c.args.who c.requires.begins has c.in-Some.ready
+    (room_for S c.args.v.now v1 d volume agree only c.args.op c.in-Write.name at text op_is c.args.ask.now is c.args.who c.requires.begins has
+    c.in-Some.ready
     rdy c.index.result.now.size c.room_of-room.result size_is room_is c.plan_write.new.free c.in-Ok.plan c.in-Ok.ensures.plan).fits
 
 pub returns-in-Ok-clause-agrees : goal.returns-in-Ok-clause-agrees
@@ -119,13 +124,16 @@ returns-in-Ok-clause-agrees g c =
     let rdy = subst (λ (n : ℕ). IsReady S c.args.ask.now n n c.args.v.now v1 c.in-Some.ready) c.places_of-places.ensures c.in-Some.ensures.ready in
     let agree = g.met.D.Pm.agree c.args.v.now.device in
     let only = c.make_ready.ensures.makes in
-    let size_is = size_at S c.args.v.now v1 d volume agree only c.args.op c.in-Write.name at text op_is c.args.ask.now is c.args.who c.requires.begins has
+    let size_is = size_at S c.args.v.now v1 d volume agree only c.args.op c.in-Write.name at text op_is c.args.ask.now is c.args.who
+    c.requires.begins has
     c.in-Some.ready rdy c.index.result.now c.index.ensures in
     let room_is = room_at S c.args.v.now v1 d volume agree only c.args.op c.in-Write.name at text op_is c.args.ask.now is c.args.who c.requires.begins
     has c.in-Some.ready rdy c.load.result c.room_of-room.result c.inode_word.result c.inode_word.ensures c.load.ensures c.room_of-room.ensures.room in
-    agrees_with d (has_begun S c.args.v.now v1 d volume agree only c.args.op c.in-Write.name at text op_is c.args.ask.now is c.args.who c.requires.begins has c.in-Some.ready
+    agrees_with d (has_begun S c.args.v.now v1 d volume agree only c.args.op c.in-Write.name at text op_is c.args.ask.now is c.args.who
+    c.requires.begins has c.in-Some.ready
     rdy c.index.result.now.size c.room_of-room.result size_is room_is c.plan_write.new.free c.in-Ok.plan c.in-Ok.ensures.plan
-    (record { device = v1.device; print = v1.print; parts = c.start_data.new.parts }) refl (g.met.D.Pm.agree v1.device) c.start_data.ensures.starts c.start_data.result
+    (record { device = v1.device; print = v1.print; parts = c.start_data.new.parts }) refl
+    (g.met.D.Pm.agree v1.device) c.start_data.ensures.starts c.start_data.result
     c.start_data.ensures.left).volume
 
 pub returns-in-Ok-clause-event : goal.returns-in-Ok-clause-event
@@ -140,13 +148,16 @@ returns-in-Ok-clause-event g c = λ d volume.
     let rdy = subst (λ (n : ℕ). IsReady S c.args.ask.now n n c.args.v.now v1 c.in-Some.ready) c.places_of-places.ensures c.in-Some.ensures.ready in
     let agree = g.met.D.Pm.agree c.args.v.now.device in
     let only = c.make_ready.ensures.makes in
-    let size_is = size_at S c.args.v.now v1 d volume agree only c.args.op c.in-Write.name at text op_is c.args.ask.now is c.args.who c.requires.begins has
+    let size_is = size_at S c.args.v.now v1 d volume agree only c.args.op c.in-Write.name at text op_is c.args.ask.now is c.args.who
+    c.requires.begins has
     c.in-Some.ready rdy c.index.result.now c.index.ensures in
     let room_is = room_at S c.args.v.now v1 d volume agree only c.args.op c.in-Write.name at text op_is c.args.ask.now is c.args.who c.requires.begins
     has c.in-Some.ready rdy c.load.result c.room_of-room.result c.inode_word.result c.inode_word.ensures c.load.ensures c.room_of-room.ensures.room in
-    has_begun S c.args.v.now v1 d volume agree only c.args.op c.in-Write.name at text op_is c.args.ask.now is c.args.who c.requires.begins has c.in-Some.ready
+    has_begun S c.args.v.now v1 d volume agree only c.args.op c.in-Write.name at text op_is c.args.ask.now is c.args.who c.requires.begins has
+    c.in-Some.ready
     rdy c.index.result.now.size c.room_of-room.result size_is room_is c.plan_write.new.free c.in-Ok.plan c.in-Ok.ensures.plan
-    (record { device = v1.device; print = v1.print; parts = c.start_data.new.parts }) refl (g.met.D.Pm.agree v1.device) c.start_data.ensures.starts c.start_data.result
+    (record { device = v1.device; print = v1.print; parts = c.start_data.new.parts }) refl
+    (g.met.D.Pm.agree v1.device) c.start_data.ensures.starts c.start_data.result
     c.start_data.ensures.left
 
 pub returns-in-Err-clause-agrees : goal.returns-in-Err-clause-agrees

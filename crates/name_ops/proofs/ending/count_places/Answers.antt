@@ -1,7 +1,7 @@
-use Rattle.std.proofs.Common.{◌+◌, ◌≤◌, ◌∙◌, sym, ap, refl, arith}
-use Rattle.std.specs.Prelude.{if◌then◌else◌, is_some}
+use Rattle.std.proofs.Common.{◌∙◌, refl, arith}
+use Rattle.std.specs.Prelude.{is_some}
 use Rattle.std.specs.FinMap.{get}
-use Rattle.name_ops.proofs.Counted.{places_to, none_counted, one_counted, few_counted, all_counted, one_at_most}
+use Rattle.name_ops.proofs.Counted.{none_counted, one_counted, few_counted, all_counted, one_at_most}
 use Rattle.name_ops.proofs.ending.count_places.Goals as goal
 
 pub loop-idx-init : goal.loop-idx-init

@@ -1,5 +1,4 @@
-use Rattle.std.proofs.Common.{◌<◌, ◌≡◌, length, sym, ap, subst, arith}
-use Rattle.std.proofs.lemmas.List.Elements.{Contains-get_or}
+use Rattle.std.proofs.Common.{arith}
 use Rattle.name_ops.proofs.GivenPages.{lets_none, lets_next, lets_all}
 use Rattle.name_ops.proofs.ending.let_go.Goals as goal
 

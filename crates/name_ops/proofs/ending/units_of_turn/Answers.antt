@@ -1,4 +1,4 @@
-use Rattle.std.proofs.Common.{◌+◌, ◌≤◌, arith}
+use Rattle.std.proofs.Common.{arith}
 use Rattle.name_ops.proofs.Counted.{few_places}
 use Rattle.name_ops.proofs.ending.units_of_turn.Goals as goal
 

@@ -1,4 +1,4 @@
-use Rattle.std.proofs.Common.{subst, sym}
+use Rattle.std.proofs.Common.{subst}
 use Rattle.name_ops.specs.Finding.{IsFound}
 use Rattle.name_ops.proofs.Aimed.{found_room}
 use Rattle.name_ops.proofs.found.find_room.Goals as goal

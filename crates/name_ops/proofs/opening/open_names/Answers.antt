@@ -1,11 +1,10 @@
-use Rattle.std.proofs.Common.{◌≡◌, ℕ, length, ◌∙◌, refl, sym, subst, ap, arith}
+use Rattle.std.proofs.Common.{◌≡◌, ℕ, length, ◌∙◌, refl, ap, arith}
 use Rattle.page_alloc.specs.Free.{FreePages}
-use Rattle.dn_volume.specs.declared.volume.Parts.{Parts}
 use Rattle.dn_volume.specs.declared.volume.Volume.{Volume}
 use Rattle.dn_volume.specs.Agrees.{agrees_with}
 use Rattle.dn_volume.proofs.Tables.{running_disk}
 use Rattle.name_ops.specs.Finding.{owed_names}
-use Rattle.name_ops.proofs.MayOpen.{pages_few, pages_there, plan_few, few, room_alone, last, held_inside, has_begun}
+use Rattle.name_ops.proofs.MayOpen.{pages_few, plan_few, few, room_alone, last, held_inside, has_begun}
 use Rattle.name_ops.proofs.opening.open_names.Goals as goal
 
 pub names_room-room-requires-clause-few : goal.names_room-room-requires-clause-few
@@ -18,7 +17,8 @@ names_room-room-requires-clause-few g c =
 pub names_room-room-requires-clause-page : goal.names_room-room-requires-clause-page
 names_room-room-requires-clause-page g c =
     let found = running_disk g.D.Pm.state c.args.v.now c.requires.running c.requires.agrees in
-    pages_few found.0 c.args.v.now.parts (g.D.Pm.state c.args.v.now.device) found.1 c.args.op c.args.plan c.args.pages (c.requires.can found.0 found.1)
+    pages_few found.0 c.args.v.now.parts (g.D.Pm.state c.args.v.now.device) found.1 c.args.op c.args.plan c.args.pages
+    (c.requires.can found.0 found.1)
 
 pub returns-then-not-make_room-clause-agrees : goal.returns-then-not-make_room-clause-agrees
 returns-then-not-make_room-clause-agrees g c =

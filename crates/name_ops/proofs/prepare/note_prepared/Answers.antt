@@ -1,9 +1,9 @@
-use Rattle.std.proofs.Common.{◌≡◌, ◌-◌, ◌++◌, List, ℕ, refl, sym, ◌∙◌, ap, arith}
+use Rattle.std.proofs.Common.{◌-◌, ◌++◌, refl, sym, ◌∙◌, ap, arith}
 use Rattle.std.specs.Prelude.{Option}
 use Rattle.dn_volume.specs.declared.flight.Flight.{Flight}
 use Rattle.dn_volume.specs.declared.flight.Change.{Change}
 use Rattle.dn_volume.specs.Parties.{opened, blocks_of}
-use Rattle.count_events.proofs.Flown.{in_range, at_client, get_here, get_there, set_long, same_flight}
+use Rattle.count_events.proofs.Flown.{in_range, at_client, get_here, get_there, set_long}
 use Rattle.name_ops.proofs.prepare.note_prepared.Goals as goal
 
 pub prepare_flight-units-requires : goal.prepare_flight-units-requires
@@ -22,7 +22,8 @@ prepare_flight-units-requires c =
 pub overflow_sub-parts : goal.overflow_sub-parts
 overflow_sub-parts c =
     let r = c.requires.next in
-    let told = (c.prepare_flight-units.ensures r.flight r.change (at_client c.args.parts.now c.args.who r.flight r.is.flies _ c.index_mut.ensures.value)
+    let told = (c.prepare_flight-units.ensures r.flight r.change (at_client c.args.parts.now c.args.who r.flight r.is.flies _
+        c.index_mut.ensures.value)
     r.is.change_is).1 in
     omega (arith, told, c.requires.units r.flight r.is.flies)
 

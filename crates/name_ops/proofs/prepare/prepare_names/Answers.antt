@@ -1,12 +1,8 @@
-use Rattle.std.proofs.Common.{◌≡◌, ◌+◌, ◌*◌, ◌≤◌, ℕ, Bool, List, length, sym, ◌∙◌, ap, subst, refl, arith}
+use Rattle.std.proofs.Common.{Bool, ◌∙◌, ap, refl, arith}
 use Rattle.std.specs.Prelude.{if◌then◌else◌}
-use Rattle.pm_device.specs.State.{State}
-use Rattle.dn_volume.specs.declared.flight.Flight.{Flight}
 use Rattle.dn_volume.specs.Flights.{left_by}
 use Rattle.dn_volume.specs.Agrees.{agrees_with}
 use Rattle.dn_volume.proofs.Tables.{running_disk}
-use Rattle.count_events.proofs.Flown.{same_flight}
-use Rattle.name_ops.specs.Preparing.{IsToPrepare}
 use Rattle.name_ops.proofs.NameFlight.{flight_of, few_units}
 use Rattle.name_ops.proofs.Kept.{at_flight, units_owed_now}
 use Rattle.name_ops.proofs.Prepared.{names_prepare}

@@ -1,15 +1,8 @@
-use Rattle.std.proofs.Common.{◌≡◌, ◌+◌, ◌*◌, ◌≤◌, ℕ, Bool, List, length, sym, ◌∙◌, ap, subst, arith}
-use Rattle.pm_device.specs.State.{State}
-use Rattle.pm_layout.specs.Geometry.{IsAccepted}
+use Rattle.std.proofs.Common.{length, sym, ap, arith}
 use Rattle.inode_log.specs.Prepare.{CanPrepare, Prepares, IsNextTail}
-use Rattle.dn_volume.specs.declared.flight.Flight.{Flight}
-use Rattle.dn_volume.specs.declared.flight.NameChange.{NameChange}
 use Rattle.dn_volume.specs.Flights.{IsNameFlight}
-use Rattle.dn_volume.specs.Agrees.{IsVolume}
-use Rattle.dn_volume.specs.declared.units.TheConstants.{SLOT_UNITS, TURN_UNITS, NAMES_UNITS}
-use Rattle.dn_volume.specs.Reserve.{slots_of, prepared_units}
 use Rattle.name_ops.specs.Preparing.{IsToPrepare, StoresFlight}
-use Rattle.name_ops.proofs.NameFlight.{flight_of, units_owed}
+use Rattle.name_ops.proofs.NameFlight.{flight_of}
 use Rattle.name_ops.proofs.Stored.{can_prepare, root_there, node_there, node_kept, stores_flight}
 use Rattle.name_ops.proofs.Kept.{to_here, at_read, two_lists, node_at, units_to_prepare}
 use Rattle.name_ops.proofs.prepare.store_flight.Goals as goal

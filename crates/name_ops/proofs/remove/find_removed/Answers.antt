@@ -21,7 +21,8 @@ pub first_holder-requires : goal.first_holder-requires
 first_holder-requires g c =
     let found = running_disk g.D.Pm.state c.args.v.now c.requires.running c.requires.agrees in
     subst (λ (ns : List InodeState). All (λ i. i < length ns) (0 ∷ c.in-Some.ino ∷ [])) (sym c.deref.ensures.value)
-    (small_removed found.0 c.args.v.now.parts (g.D.Pm.state c.args.v.now.device) found.1 c.args.name.now (c.is_legal.ensures.0 c.if-not-is_legal.false)
+    (small_removed found.0 c.args.v.now.parts (g.D.Pm.state c.args.v.now.device) found.1 c.args.name.now
+    (c.is_legal.ensures.0 c.if-not-is_legal.false)
     c.in-Some.ino (sym c.in-Some.is ∙ c.find_inode.ensures))
 
 pub returns-in-Some-first_holder : goal.returns-in-Some-first_holder

@@ -1,4 +1,4 @@
-use Rattle.std.proofs.Common.{◌≡◌, Bool, true, false, ◌<◌, ◌∷◌, [], ◌∙◌, length, sym, subst, List}
+use Rattle.std.proofs.Common.{◌≡◌, Bool, true, false, ◌<◌, ◌∷◌, ◌∙◌, length, sym, subst, List}
 use Rattle.std.specs.Prelude.{All}
 use Rattle.dn_volume.specs.declared.volume.InodeState.{InodeState}
 use Rattle.dn_volume.specs.PlannedNames.{inode_list}

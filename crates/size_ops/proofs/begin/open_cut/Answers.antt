@@ -60,7 +60,8 @@ returns-in_default-take_for_cut-clause-agrees g c =
     let only = c.make_ready.ensures.makes in
     let agree = g.met.D.Pm.agree v0.device in
     let found = running_disk S v0 c.requires.running c.requires.agrees in
-    agrees_with found.0 (untouched_ready S v0 v1 found.0 found.1 agree only c.take_for_cut.new.free (c.in_default-take_for_cut.ensures.no_memory refl)).volume
+    agrees_with found.0 (untouched_ready S v0 v1 found.0 found.1 agree only c.take_for_cut.new.free
+    (c.in_default-take_for_cut.ensures.no_memory refl)).volume
 
 pub returns-in_default-take_for_cut-clause-event : goal.returns-in_default-take_for_cut-clause-event
 returns-in_default-take_for_cut-clause-event g c =
@@ -93,7 +94,8 @@ start_data-left-requires-clause-held g c =
     let asks = is_ask found.0 c.args.op cut.ino cut plan v0.parts (S v0.device) found.1 in
     let rows = is_ready.rows found.0 found.1 in
     let ok = sound found.0 c.args.op cut.ino cut plan in
-    λ k other lt. held_inside S v0 v1 found.0 found.1 agree only c.args.who c.args.op (ask found.0 c.args.op cut.ino cut plan) asks (c.requires.has found.0 found.1)
+    λ k other lt. held_inside S v0 v1 found.0 found.1 agree only c.args.who c.args.op (ask found.0 c.args.op cut.ino cut plan) asks
+    (c.requires.has found.0 found.1)
     c.requires.begins cut.pages (cut.pages + 1) ready is_ready (omega (arith, ok.few)) (omega (arith, ok.few)) free wp
     (takes_first found.0 c.args.op cut.ino cut plan v1.parts (S v1.device) v1_is c.args.who free ready wp takes is_ready.held rows)
     (long found.0 c.args.op cut.ino cut plan v1.parts (S v1.device) v1_is c.args.who free ready wp takes is_ready.held rows)
@@ -175,7 +177,8 @@ returns-clause-agrees g c =
     let asks = is_ask found.0 c.args.op cut.ino cut plan v0.parts (S v0.device) found.1 in
     let rows = is_ready.rows found.0 found.1 in
     let ok = sound found.0 c.args.op cut.ino cut plan in
-    agrees_with _ (has_begun S v0 v1 found.0 found.1 agree only c.args.who c.args.op (ask found.0 c.args.op cut.ino cut plan) asks (c.requires.has found.0 found.1)
+    agrees_with _ (has_begun S v0 v1 found.0 found.1 agree only c.args.who c.args.op (ask found.0 c.args.op cut.ino cut plan) asks
+    (c.requires.has found.0 found.1)
     c.requires.begins cut.pages (cut.pages + 1) ready is_ready (omega (arith, ok.few)) (omega (arith, ok.few)) free wp
     (takes_first found.0 c.args.op cut.ino cut plan v1.parts (S v1.device) v1_is c.args.who free ready wp takes is_ready.held rows)
     (long found.0 c.args.op cut.ino cut plan v1.parts (S v1.device) v1_is c.args.who free ready wp takes is_ready.held rows)

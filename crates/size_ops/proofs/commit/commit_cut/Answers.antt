@@ -106,7 +106,8 @@ give_back_unshared-requires-clause-can g c =
     let last = is_last b who f x c.requires.last c.end_flight-flight.ensures.was c.in-Data.is in
     let node_is = node_read b.inodes.items f.ino c.index.result.now (in_nodes_of found.0 b s who f x found.1 last.flies last.kind) c.index.ensures in
     subst (λ (n : ℕ). CanGive s.now b.fact c.index.result.now.map.map n (4096 - n) b.free) (sym c.first_gone-from.ensures)
-    (can_give found.0 b s who f x found.1 last.flies last.kind (fact found.0 b s who f x found.1 last) c.index.result.now node_is (from found.0 b s who f x found.1 last) (4096 - from found.0 b s who f x found.1 last))
+    (can_give found.0 b s who f x found.1 last.flies last.kind (fact found.0 b s who f x found.1 last) c.index.result.now node_is
+    (from found.0 b s who f x found.1 last) (4096 - from found.0 b s who f x found.1 last))
 
 pub append_items-requires-clause-ino : goal.append_items-requires-clause-ino
 append_items-requires-clause-ino g c =
@@ -132,7 +133,8 @@ append_items-requires-clause-can g c =
     let last = is_last b who f x c.requires.last c.end_flight-flight.ensures.was c.in-Data.is in
     both (λ (fresh : List ℕ) (slots : List (List ℕ)). CanAppend b.geometry who f.ino fresh slots s)
     c.deref-2.result.now f.fresh.items c.deref.result.now f.slots.items (sym c.deref-2.ensures.value) (sym c.deref.ensures.value)
-    (can_append_of found.0 b s who f x found.1 last.flies last.kind (cut_after found.0 b s who f x found.1 last) (from found.0 b s who f x found.1 last) (4096 - from found.0 b s who f x found.1 last) (decides found.0 b s who f x found.1 last))
+    (can_append_of found.0 b s who f x found.1 last.flies last.kind (cut_after found.0 b s who f x found.1 last)
+    (from found.0 b s who f x found.1 last) (4096 - from found.0 b s who f x found.1 last) (decides found.0 b s who f x found.1 last))
 
 pub append_items-requires-clause-room : goal.append_items-requires-clause-room
 append_items-requires-clause-room g c =
@@ -165,7 +167,8 @@ returns-in_default-append_items-clause-agrees g c =
     (S c.append_items.new.device)) f.fresh.items c.deref-2.result.now f.slots.items c.deref.result.now
     c.deref-2.ensures.value c.deref.ensures.value c.append_items.ensures.only) in
     is_stopped (breaks_by S g.F.Fingerprint.print c.args.v.now (record { device = c.append_items.new.device; print = c.args.v.now.print; parts = _ })
-    found.0 who f x found.1 last.flies last.kind (fact found.0 b s who f x found.1 last) (cut_after found.0 b s who f x found.1 last) (from found.0 b s who f x found.1 last) (4096 - from found.0 b s who f x found.1 last) (decides found.0 b s who f x found.1 last)
+    found.0 who f x found.1 last.flies last.kind (fact found.0 b s who f x found.1 last) (cut_after found.0 b s who f x found.1 last)
+    (from found.0 b s who f x found.1 last) (4096 - from found.0 b s who f x found.1 last) (decides found.0 b s who f x found.1 last)
     between there c.append_items.ensures.faults f.op refl refl refl refl refl refl c.count_call-v.ensures
     (c.in_default-append_items.ensures.failed refl) c.put_back.ensures.here
     (λ k ne. c.put_back.ensures.others k ne ∙ c.end_flight-flight.ensures.others k ne)).stopped
@@ -189,7 +192,8 @@ returns-in_default-append_items-clause-event g c =
     c.deref-2.ensures.value c.deref.ensures.value c.append_items.ensures.only) in
     let op_same = ap (λ (y : Flight). y.op) (same_flight _ f flies.flight c.end_flight-flight.ensures.was flies.flies.is) ∙ flies.op_is in
     breaks_by S g.F.Fingerprint.print c.args.v.now (record { device = c.append_items.new.device; print = c.args.v.now.print; parts = _ })
-    d who f x v last.flies last.kind (fact d b s who f x v last) (cut_after d b s who f x v last) (from d b s who f x v last) (4096 - from d b s who f x v last) (decides d b s who f x v last)
+    d who f x v last.flies last.kind (fact d b s who f x v last) (cut_after d b s who f x v last) (from d b s who f x v last)
+    (4096 - from d b s who f x v last) (decides d b s who f x v last)
     between there c.append_items.ensures.faults op op_same refl refl refl refl refl c.count_call-v.ensures
     (c.in_default-append_items.ensures.failed refl) c.put_back.ensures.here
     (λ k ne. c.put_back.ensures.others k ne ∙ c.end_flight-flight.ensures.others k ne)
@@ -208,7 +212,13 @@ finish_cut-requires g c =
     let tail_is = c.load-tail.ensures ∙ ap (slice_index s.now) c.inode_word.ensures ∙ tail_read_of found.0 b s who f x found.1 last.flies last.kind in
     let gives = subst (λ (n : ℕ). Gives (IsUnsharedAmong found.0 c.index.result.now.map.map n (4096 - n)) b.free c.give_back_unshared.new.free)
     c.first_gone-from.ensures (c.give_back_unshared.ensures found.0 (is_table found.0 b s found.1)) in
-    record { can = (x, can_finish_cut found.0 b s who f x found.1 last c.index.result.now node_is _ c.load-tail.result tail_is gives refl refl refl refl refl) }
+    record {
+      can = (
+        x,
+        can_finish_cut found.0 b s who f x found.1 last c.index.result.now node_is _ c.load-tail.result tail_is gives refl
+            refl refl refl refl,
+      );
+    }
 
 pub returns-clause-agrees : goal.returns-clause-agrees
 returns-clause-agrees g c =
@@ -235,9 +245,15 @@ returns-clause-agrees g c =
     c.deref-2.ensures.value c.deref.ensures.value c.in-Ok.ensures.done) in
     let e1 = ap length c.deref.ensures.value in
     let e2 = ap length c.deref-2.ensures.value in
-    let finish = c.finish_cut.ensures x (can_finish_cut found.0 b s who f x found.1 last c.index.result.now node_is _ c.load-tail.result tail_is gives refl refl refl refl refl) in
-    agrees_with _ (volume_by S g.F.Fingerprint.print c.args.v.now (record { device = c.append_items.new.device; print = c.args.v.now.print; parts = _ })
-    found.0 who f x found.1 last.flies last.kind (fact found.0 b s who f x found.1 last) (cut_after found.0 b s who f x found.1 last) (from found.0 b s who f x found.1 last) (4096 - from found.0 b s who f x found.1 last) (decides found.0 b s who f x found.1 last)
+    let finish = c.finish_cut.ensures x (can_finish_cut found.0 b s who f x found.1 last c.index.result.now node_is _ c.load-tail.result
+    tail_is gives refl refl refl refl refl) in
+    agrees_with _ (volume_by S g.F.Fingerprint.print c.args.v.now (record {
+      device = c.append_items.new.device;
+      print = c.args.v.now.print;
+      parts = _;
+    })
+    found.0 who f x found.1 last.flies last.kind (fact found.0 b s who f x found.1 last) (cut_after found.0 b s who f x found.1 last)
+    (from found.0 b s who f x found.1 last) (4096 - from found.0 b s who f x found.1 last) (decides found.0 b s who f x found.1 last)
     between there c.append_items.ensures.faults stands c.in-Ok.ensures.settles (omega (arith, c.append_items.ensures.spare, e1, e2))
     c.index.result.now node_is _ c.load-tail.result tail_is (record {
       geometry = refl;
@@ -285,9 +301,11 @@ returns-clause-event g c =
     c.deref-2.ensures.value c.deref.ensures.value c.in-Ok.ensures.done) in
     let e1 = ap length c.deref.ensures.value in
     let e2 = ap length c.deref-2.ensures.value in
-    let finish = c.finish_cut.ensures x (can_finish_cut d b s who f x v last c.index.result.now node_is _ c.load-tail.result tail_is gives refl refl refl refl refl) in (
+    let finish = c.finish_cut.ensures x (can_finish_cut d b s who f x v last c.index.result.now node_is _ c.load-tail.result tail_is gives
+    refl refl refl refl refl) in (
       answers_by S g.F.Fingerprint.print c.args.v.now (record { device = c.append_items.new.device; print = c.args.v.now.print; parts = _ })
-          d who f x v last.flies last.kind (fact d b s who f x v last) (cut_after d b s who f x v last) (from d b s who f x v last) (4096 - from d b s who f x v last) (decides d b s who f x v last)
+          d who f x v last.flies last.kind (fact d b s who f x v last) (cut_after d b s who f x v last) (from d b s who f x v last)
+          (4096 - from d b s who f x v last) (decides d b s who f x v last)
           between there c.append_items.ensures.faults stands c.in-Ok.ensures.settles (omega (arith, c.append_items.ensures.spare, e1, e2))
           c.index.result.now node_is _ c.load-tail.result tail_is (record {
             geometry = refl;
