@@ -29,7 +29,16 @@ use Rattle.dn_model.specs.Rolled.{rolled}
 use Rattle.dn_model.specs.Table.{Row as TableRow, row_of}
 use Rattle.dn_model.specs.Disk.{Disk, PagesSay, IsMapped, rows}
 use Rattle.dn_model.specs.Image.{StandsFor}
-use Rattle.dn_model.specs.Faults.{HasGate, HasLinks, HasPointers, FaultOf, IsBadInode, IsDouble, HasFree, geometry_of}
+use Rattle.dn_model.specs.Faults.{
+  HasGate,
+  HasLinks,
+  HasPointers,
+  FaultOf,
+  IsBadInode,
+  IsDouble,
+  HasFree,
+  geometry_of,
+}
 use Rattle.dn_model.specs.declared.fault.ImageFault.{ImageFault}
 use Rattle.fact_scan.specs.declared.row.Row.{Row}
 use Rattle.fact_scan.specs.Scan.{HasRows}

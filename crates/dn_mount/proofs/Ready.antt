@@ -273,7 +273,8 @@ module _ (d : Disk) (g : Geometry) (s : State) (read : WholeRead) (is : IsReadyO
       pointers = record { none = λ page lt some no. settled.none_stale page (record { in_image = lt; some = some; no_row = no }) };
       free = along (λ x. AreFreePages x free) (λ chain pointer. free_with d chain pointer free are_free);
       names = record {
-        leads = λ name. is.read_of.counted.names name ∙ along (λ x. named d name ≡ named x name) (λ chain pointer. sym (names_with d chain pointer name));
+        leads = λ name. is.read_of.counted.names name ∙ along (λ x. named d name ≡ named x name) (λ chain pointer. sym
+            (names_with d chain pointer name));
       };
       inodes = record { all = all_kept; each = are_kept.each };
       unheld = kept.unheld;

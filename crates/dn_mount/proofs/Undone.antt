@@ -199,7 +199,8 @@ module _ (s t : State) (same : IsSame s t) where
 
 -- a gate that isn't refused is one
 pub gate_of : (c : List ℕ) → HasGeometry c → ((IsGate (slice_index c 3) c → ⊥) → ⊥) → HasGate c
-gate_of c head not_not = ⊎_elim (λ (bad : (f : ImageFault) × FaultOf c f). by_fault bad.0 bad.1) (λ (links : (d : Disk) × HasLinks c d). links.1.logs.inodes.gate)
+gate_of c head not_not = ⊎_elim (λ (bad : (f : ImageFault) × FaultOf c f). by_fault bad.0 bad.1) (λ (links :
+    (d : Disk) × HasLinks c d). links.1.logs.inodes.gate)
     (read_to_links c)
   where
     by_fault : (f : ImageFault) → FaultOf c f → HasGate c

@@ -15,7 +15,8 @@ use Rattle.dn_check.specs.Passing.{IsRolled, IsWhole, IsReadOfEach}
 use Rattle.dn_check.proofs.Reading.{along, said}
 use Rattle.dn_mount.specs.Reading.{IsReadWhole, HasFreeOfEach}
 
-module _ (g : Geometry) (r : List ℕ) (logs : LogsRead) (kept : Kept) (image : ImageRead) (logs_read : AreRead g r logs) (are_kept : AreKeptTo g r g.inodes kept)
+module _ (g : Geometry) (r : List ℕ) (logs : LogsRead) (kept : Kept) (image : ImageRead) (logs_read : AreRead g r logs)
+    (are_kept : AreKeptTo g r g.inodes kept)
     (of_logs : image.logs ≡ logs) (whole : IsWhole g image) (each : IsReadOfEach g r image) (free : HasFreeOfEach g image) where
   stands : (c : List ℕ) (is : IsRolled c g r) → StandsFor c (each c is).disk
   stands c is = (free.of_each c (each c is)).stands
@@ -31,6 +32,7 @@ module _ (g : Geometry) (r : List ℕ) (logs : LogsRead) (kept : Kept) (image : 
     sound = λ c is. record { disk = (each c is).disk; stands_for = stands c is };
     each = λ c d is stood. record {
       counted = counted c d is stood;
-      rows_are = (each c is).rows_are ∙ (means_the_same (each c is).disk d (stands c is).valid (disk_one c (each c is).disk d (stands c is) stood)).rows;
+      rows_are = (each c is).rows_are ∙ (means_the_same (each c is).disk d (stands c is).valid (disk_one c (each c is).disk d
+          (stands c is) stood)).rows;
     };
   }

@@ -38,8 +38,10 @@ fn is_bad_inode<D: Pm>(device: &D, g: &Geometry, ino: u64) -> bool
 pub fn inode_fault<D: Pm>(device: &D, g: &Geometry) -> Option<u64>
     requires accepted { IsAccepted g.now }
     requires size { length (D.state device.now).now ≡ 512 * g.now.pages }
-    ensures some { IfSome result (λ ino. IsLeast g.now.inodes (IsBadInode (D.state device.now).now) ino) }
-    ensures none { IsNone result → (ino : ℕ) → ino < g.now.inodes → IsBadInode (D.state device.now).now ino → ⊥ }
+    ensures some { IfSome result
+        (λ ino. IsLeast g.now.inodes (IsBadInode (D.state device.now).now) ino) }
+    ensures none { IsNone result → (ino : ℕ) → ino < g.now.inodes
+        → IsBadInode (D.state device.now).now ino → ⊥ }
 {
     for ino in 0..g.inodes {
         if is_bad_inode(device, g, ino) {

@@ -1,16 +1,15 @@
 -- What is kept of an inode is the disk's.
-use Rattle.std.proofs.Common.{◌≡◌, ℕ, ◌<◌, ◌≤◌, Bool, true, false, refl, sym, ◌∙◌, ap, subst, arith}
-use Rattle.std.specs.Prelude.{Option, Some, None, nat_lt, if◌then◌else◌}
+use Rattle.std.proofs.Common.{◌≡◌, ℕ, Bool, true, false, refl, sym, ◌∙◌, ap, arith}
+use Rattle.std.specs.Prelude.{None, nat_lt, if◌then◌else◌}
 use Rattle.std.specs.Option.{option_map}
 use Rattle.std.specs.Ordering.{nat_cmp}
 use Rattle.std.specs.FinMap.{FinMap, get, empty, get-empty}
-use Rattle.std.proofs.lemmas.Bool.{cases_lt}
 use Rattle.std.proofs.lemmas.Bool.Decides.{nat_tests}
 use Rattle.file_index.specs.declared.page_map.Mapping.{Mapping}
 use Rattle.file_content.specs.Content.{kept}
 use Rattle.dn_model.specs.Log.{Log}
-use Rattle.dn_model.specs.Maps.{Mapping as DiskMapping, mapping}
-use Rattle.dn_model.specs.Disk.{Disk, Free, Live, Dying, IsUsed, maps, maps_by_use}
+use Rattle.dn_model.specs.Maps.{mapping}
+use Rattle.dn_model.specs.Disk.{Disk, Free, IsUsed, maps, maps_by_use}
 use Rattle.dn_volume.specs.declared.volume.InodeUse.{InodeUse}
 use Rattle.dn_volume.specs.declared.volume.InodeUse.TheVariants as used
 use Rattle.dn_volume.specs.Inodes.{as_use}

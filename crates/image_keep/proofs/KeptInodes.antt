@@ -1,46 +1,29 @@
 -- Inodes are kept one after another.
-use Rattle.std.proofs.Common.{◌≡◌, ◌≢◌, ◌⊎◌, inl, inr, ℕ, suc, ◌+◌, ◌*◌, ◌<◌, ◌≤◌, Bool, List, [], ◌∷◌, ◌++◌, length, map, refl, sym, ◌∙◌, ap, subst, add-one, arith}
-use Rattle.std.specs.Prelude.{Result, Ok, Err, OnOk, Option, Some, None, is_some, slice_get, slice_index, if◌then◌else◌}
+use Rattle.std.proofs.Common.{◌≡◌, ◌≢◌, inl, inr, ℕ, ◌+◌, ◌*◌, ◌<◌, Bool, List, [], ◌∷◌, length, map, refl, sym, ◌∙◌, ap, subst, add-one, arith}
+use Rattle.std.specs.Prelude.{Result, Ok, Err, OnOk, Option, Some, None, is_some, slice_get, if◌then◌else◌}
 use Rattle.std.specs.Option.{option_map}
-use Rattle.std.proofs.lemmas.List.{length-append, append-nil}
-use Rattle.std.proofs.lemmas.Bool.{cases_eq}
+use Rattle.std.proofs.lemmas.List.{length-append}
 use Rattle.pm_layout.specs.declared.Geometry.{Geometry}
-use Rattle.pm_layout.specs.Geometry.{inode_word}
-use Rattle.dedupe_queue.specs.declared.Work.{Work}
-use Rattle.file_index.specs.declared.page_map.Mapping.{Mapping as KeptMapping}
 use Rattle.file_content.specs.Content.{kept}
-use Rattle.dn_model.specs.Log.{Log, Placed, placed}
+use Rattle.dn_model.specs.Log.{Placed, placed}
 use Rattle.dn_model.specs.Maps.{Mapping}
 use Rattle.dn_model.specs.Disk.{Disk, Use, Free, Live, Dying, IsUsed, state_number, maps}
 use Rattle.dn_model.specs.Valid.{IsLog}
-use Rattle.dn_model.specs.Counts.{total}
 use Rattle.law_write.proofs.Counting.{total-same}
 use Rattle.log_walk.specs.Items.{seen}
 use Rattle.log_walk.specs.Laws.{ReadsAs}
 use Rattle.fact_scan.proofs.Pushed.{get-push_cases}
 use Rattle.image_logs.specs.declared.logs.UsedInode.{UsedInode}
-use Rattle.image_logs.specs.Logs.{IsSaid, IsInUse, IsFoundAt, IsUsedAt}
+use Rattle.image_logs.specs.Logs.{IsSaid, IsFoundAt, IsUsedAt}
 use Rattle.image_logs.proofs.Hits.{total-next, total-none}
 use Rattle.image_logs.proofs.Steps.{state_word, cut_word, used_from}
 use Rattle.dn_volume.specs.declared.volume.InodeState.{InodeState}
-use Rattle.dn_volume.specs.declared.volume.InodeUse.{InodeUse}
 use Rattle.dn_volume.specs.declared.volume.InodeUse.TheVariants as used
 use Rattle.dn_volume.specs.Inodes.{IsInodeOf, as_use}
 use Rattle.dn_volume.specs.Reclaims.{dying_units, mapped_places, units_by_use}
 use Rattle.image_keep.specs.declared.keep.Kept.{Kept}
 use Rattle.image_keep.specs.Waiting.{IsOpenItem, AreWorksOf, WaitFor}
-use Rattle.image_keep.specs.Keeping.{
-  MayKeep,
-  KeepsOne,
-  KeepsLive,
-  KeepsDying,
-  IsKeptOne,
-  KeepsInode,
-  AreKeptOf,
-  AreKeptTo,
-  place_hit,
-  places_in,
-}
+use Rattle.image_keep.specs.Keeping.{MayKeep, KeepsOne, KeepsLive, KeepsDying, KeepsInode, AreKeptTo, place_hit, places_in}
 use Rattle.image_keep.proofs.Queued.{works_same, open_same, waits_none, waits_next}
 
 pub may_keep : (g : Geometry) (c : List ℕ) (ino : ℕ) (found : Option UsedInode) → IsFoundAt g c ino found → MayKeep found
@@ -167,7 +150,8 @@ kept_none g c none inodes work waiting = record {
         empty : (k : ℕ) → slice_get [] k ≡ Some n → ⊥
         empty k e = cc
 
-module _ (g : Geometry) (c : List ℕ) (k : ℕ) (old new : Kept) (found : Option UsedInode) (so_far : AreKeptTo g c k old) (keeps : KeepsInode k found old new)
+module _ (g : Geometry) (c : List ℕ) (k : ℕ) (old new : Kept) (found : Option UsedInode) (so_far : AreKeptTo g c k old)
+    (keeps : KeepsInode k found old new)
     (lt : k < g.inodes) (is : IsFoundAt g c k found) where
   -- a node of after is one of before, or the new one
   by_node : (P : ℕ → InodeState → Type 0) → ((ino : ℕ) (n : InodeState) → slice_get old.inodes.items ino ≡ Some n → P ino n) → P k keeps.node

@@ -1,5 +1,34 @@
 -- The open items of a log wait one after another.
-use Rattle.std.proofs.Common.{◌≡◌, Bool, true, false, ◌⊎◌, inl, inr, ⊎_elim, ℕ, zero, suc, ◌+◌, ◌-◌, ◌<◌, ◌≤◌, List, [], ◌∷◌, ◌++◌, length, map, take, get_or, refl, sym, ◌∙◌, ap, subst, arith}
+use Rattle.std.proofs.Common.{
+  ◌≡◌,
+  Bool,
+  true,
+  false,
+  inl,
+  inr,
+  ⊎_elim,
+  ℕ,
+  zero,
+  suc,
+  ◌+◌,
+  ◌-◌,
+  ◌<◌,
+  ◌≤◌,
+  List,
+  [],
+  ◌∷◌,
+  ◌++◌,
+  length,
+  map,
+  take,
+  get_or,
+  refl,
+  sym,
+  ◌∙◌,
+  ap,
+  subst,
+  arith,
+}
 use Rattle.std.specs.Prelude.{◌↔◌, Option, Some, None, Contains}
 use Rattle.std.specs.Option.{option_map}
 use Rattle.std.specs.Ordering.{nat_cmp}
@@ -14,12 +43,11 @@ use Rattle.file_index.specs.declared.page_map.Mapping.{Mapping as KeptMapping}
 use Rattle.file_content.specs.Content.{kept}
 use Rattle.dn_model.specs.Log.{Log, Placed, placed}
 use Rattle.dn_model.specs.Maps.{Mapping, mapping}
-use Rattle.dn_model.specs.Disk.{Inode, Use, Free, Live, Dying}
+use Rattle.dn_model.specs.Disk.{Inode, Use, Live}
 use Rattle.log_walk.specs.Items.{seen}
 use Rattle.log_walk.specs.declared.items.Placed.{Placed as PlacedItem}
 use Rattle.file_scan.specs.declared.index.FileIndex.{FileIndex}
 use Rattle.file_scan.specs.Index.{IsIndexOf}
-use Rattle.image_keep.specs.Needed.{IsBy, MapsStill}
 use Rattle.image_keep.specs.Waiting.{
   IsOpenItem,
   IsOpenBy,
@@ -59,7 +87,7 @@ work_there Is ino [] works none p there is = absurd (omega (arith, there.1))
 work_there Is ino (q ∷ ps) works (inl here) p there is =
     subst (λ (ws : List Work). Contains ws (work_for ino p)) (sym here.1.1) (⊎_elim
     (λ (same : q ≡ p). subst (λ (r : Placed). Contains (work_for ino q ∷ here.1.0) (work_for ino r)) same
-        (Contains-append_left (work_for ino q ∷ []) here.1.0 (work_for ino q) (Contains-push [] (work_for ino q))))
+    (Contains-append_left (work_for ino q ∷ []) here.1.0 (work_for ino q) (Contains-push [] (work_for ino q))))
     (λ (old : Contains ps p). Contains-append_right (work_for ino q ∷ []) here.1.0 (work_for ino p) (work_there Is ino ps here.1.0 here.1.2 p old is))
     (cons_cases q p ps there))
 work_there Is ino (q ∷ ps) works (inr past) p there is = ⊎_elim
@@ -174,10 +202,10 @@ module _ (ino : ℕ) (map_of : FinMap nat_cmp KeptMapping) where
     works : AreWorks (front ++ seen p ∷ []) (all.more ++ one.more)
     works = ⊎_elim
         (λ (is_open : IsOpenBy map_of (seen p)). subst (AreWorks (front ++ seen p ∷ []))
-            (sym (ap (λ (ws : List Work). all.more ++ ws) (one.one is_open)))
-            (works_open (IsOpenBy map_of) ino front all.more (seen p) all.are is_open))
+        (sym (ap (λ (ws : List Work). all.more ++ ws) (one.one is_open)))
+        (works_open (IsOpenBy map_of) ino front all.more (seen p) all.are is_open))
         (λ (closed : IsOpenBy map_of (seen p) → ⊥). subst (AreWorks (front ++ seen p ∷ []))
-            (sym (same closed)) (works_closed (IsOpenBy map_of) ino front all.more (seen p) all.are closed))
+        (sym (same closed)) (works_closed (IsOpenBy map_of) ino front all.more (seen p) all.are closed))
         one.whether
 
     pub queued_next : QueuesAll ino (take (k + 1) items) map_of q new

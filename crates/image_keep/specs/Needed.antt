@@ -1,14 +1,12 @@
 -- The items of a file that aren't complete and map a place still.
-use Rattle.std.specs.Prelude.{◌≡◌, ◌≢◌, ℕ, ◌+◌, ◌-◌, ◌<◌, ◌≤◌, List, [], ◌∷◌, Some, Contains, None}
+use Rattle.std.specs.Prelude.{◌≡◌, ℕ, ◌+◌, ◌-◌, ◌<◌, ◌≤◌, Some, Contains, None}
 use Rattle.std.specs.Ordering.{nat_cmp}
 use Rattle.std.specs.FinMap.{FinMap, get}
-use Rattle.log_entry.specs.declared.item.Flag.{Flag}
-use Rattle.log_entry.specs.declared.item.Flag.TheVariants.{Complete}
 use Rattle.log_entry.specs.declared.item.LogItem.TheVariants.{Write}
 use Rattle.file_index.specs.declared.page_map.Mapping.{Mapping}
 use Rattle.dn_volume.specs.declared.volume.InodeUse.{InodeUse}
 use Rattle.dn_volume.specs.declared.volume.InodeUse.TheVariants as used
-use Rattle.dn_model.specs.Log.{Log, Placed, placed}
+use Rattle.dn_model.specs.Log.{Log, placed}
 use Rattle.dn_model.specs.Maps.{Mapping as DiskMapping}
 
 -- the place is mapped by the item at this slot

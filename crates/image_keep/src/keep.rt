@@ -50,7 +50,10 @@ fn is_open(placed: &Placed, map: &PageMap) -> bool
 {
     match &placed.item {
         LogItem::Write {
-            first, count, flag, ..
+            first,
+            count,
+            flag,
+            ..
         } => is_incomplete(*flag) && maps_still(map, placed.slot, *first, *count),
         LogItem::Size { .. } => false,
         LogItem::Add { .. } => false,

@@ -3,8 +3,6 @@ use Rattle.std.specs.Prelude.{
   ◌≡◌,
   ◌≢◌,
   ℕ,
-  zero,
-  suc,
   ◌+◌,
   ◌<◌,
   ◌≤◌,

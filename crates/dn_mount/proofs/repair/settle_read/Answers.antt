@@ -59,7 +59,8 @@ returns-in_err-settle_table-clause-images g c =
     let s = S c.args.device.now in
     λ d is.
     let table : IsTable d s.now c.in_ok-fact.fact = c.in_ok-fact.ensures.table d s.now
-    (subst (λ (rs : List RowValue). HasRowsOf d c.args.g.now s.now (map as_row rs)) (sym c.deref.ensures.value) (rows_of d c.args.g.now s c.args.read is)) in
+    (subst (λ (rs : List RowValue). HasRowsOf d c.args.g.now s.now (map as_row rs)) (sym c.deref.ensures.value)
+    (rows_of d c.args.g.now s c.args.read is)) in
     c.settle_table.ensures.images d
     (subst (λ (rs : List RowValue). IsTableToSettle d c.in_ok-fact.fact rs c.deref-5.result.now s) (sym c.deref-4.ensures.value)
     (subst (λ (ns : List ℕ). IsTableToSettle d c.in_ok-fact.fact c.args.read.image.table.rows.items ns s) (sym c.deref-5.ensures.value)
@@ -71,7 +72,8 @@ returns-clause-images g c =
     let s = S c.args.device.now in
     λ d is.
     let table : IsTable d s.now c.in_ok-fact.fact = c.in_ok-fact.ensures.table d s.now
-    (subst (λ (rs : List RowValue). HasRowsOf d c.args.g.now s.now (map as_row rs)) (sym c.deref.ensures.value) (rows_of d c.args.g.now s c.args.read is)) in
+    (subst (λ (rs : List RowValue). HasRowsOf d c.args.g.now s.now (map as_row rs)) (sym c.deref.ensures.value)
+    (rows_of d c.args.g.now s c.args.read is)) in
     c.settle_table.ensures.images d
     (subst (λ (rs : List RowValue). IsTableToSettle d c.in_ok-fact.fact rs c.deref-5.result.now s) (sym c.deref-4.ensures.value)
     (subst (λ (ns : List ℕ). IsTableToSettle d c.in_ok-fact.fact c.args.read.image.table.rows.items ns s) (sym c.deref-5.ensures.value)
@@ -83,12 +85,14 @@ returns-clause-done g c =
     let s = S c.args.device.now in
     λ d is.
     let table : IsTable d s.now c.in_ok-fact.fact = c.in_ok-fact.ensures.table d s.now
-    (subst (λ (rs : List RowValue). HasRowsOf d c.args.g.now s.now (map as_row rs)) (sym c.deref.ensures.value) (rows_of d c.args.g.now s c.args.read is)) in
+    (subst (λ (rs : List RowValue). HasRowsOf d c.args.g.now s.now (map as_row rs)) (sym c.deref.ensures.value)
+    (rows_of d c.args.g.now s c.args.read is)) in
     let settled = c.in_ok-settle_table.ensures.done d
     (subst (λ (rs : List RowValue). IsTableToSettle d c.in_ok-fact.fact rs c.deref-5.result.now s) (sym c.deref-4.ensures.value)
     (subst (λ (ns : List ℕ). IsTableToSettle d c.in_ok-fact.fact c.args.read.image.table.rows.items ns s) (sym c.deref-5.ensures.value)
     (to_settle d c.args.g.now s c.args.read is c.in_ok-fact.fact table))) in
-    let counted : IsCounted d c.deref-2.result.now c.deref-3.result.now = counted_as d _ _ c.deref-2.result.now c.deref-3.result.now c.deref-2.ensures.value
+    let counted : IsCounted d c.deref-2.result.now c.deref-3.result.now = counted_as d _ _ c.deref-2.result.now c.deref-3.result.now
+    c.deref-2.ensures.value
     c.deref-3.ensures.value (is_counted d c.args.g.now s c.args.read is c.requires.whole) in
     let free : AreFreePages d c.in_ok-free.free = c.in_ok-free.ensures d is.fast.geometry counted in
     rw c.scan_of.ensures (record {
@@ -99,10 +103,12 @@ returns-clause-done g c =
     })
 
 pub returns-in_err-fact-clause-quiet : goal.returns-in_err-fact-clause-quiet
-returns-in_err-fact-clause-quiet g c = λ d is exact none. stores_only-none Nowhere (g.D.Pm.state c.args.device.now) (g.met.D.Pm.agree c.args.device.now)
+returns-in_err-fact-clause-quiet g c = λ d is exact none. stores_only-none Nowhere (g.D.Pm.state c.args.device.now)
+    (g.met.D.Pm.agree c.args.device.now)
 
 pub returns-in_err-free-clause-quiet : goal.returns-in_err-free-clause-quiet
-returns-in_err-free-clause-quiet g c = λ d is exact none. stores_only-none Nowhere (g.D.Pm.state c.args.device.now) (g.met.D.Pm.agree c.args.device.now)
+returns-in_err-free-clause-quiet g c = λ d is exact none. stores_only-none Nowhere (g.D.Pm.state c.args.device.now)
+    (g.met.D.Pm.agree c.args.device.now)
 
 pub returns-in_err-settle_table-clause-quiet : goal.returns-in_err-settle_table-clause-quiet
 returns-in_err-settle_table-clause-quiet g c =
@@ -110,7 +116,8 @@ returns-in_err-settle_table-clause-quiet g c =
     let s = S c.args.device.now in
     λ d is exact none.
     let table : IsTable d s.now c.in_ok-fact.fact = c.in_ok-fact.ensures.table d s.now
-    (subst (λ (rs : List RowValue). HasRowsOf d c.args.g.now s.now (map as_row rs)) (sym c.deref.ensures.value) (rows_of d c.args.g.now s c.args.read is)) in
+    (subst (λ (rs : List RowValue). HasRowsOf d c.args.g.now s.now (map as_row rs)) (sym c.deref.ensures.value)
+    (rows_of d c.args.g.now s c.args.read is)) in
     c.settle_table.ensures.quiet d
     (subst (λ (rs : List RowValue). IsTableToSettle d c.in_ok-fact.fact rs c.deref-5.result.now s) (sym c.deref-4.ensures.value)
     (subst (λ (ns : List ℕ). IsTableToSettle d c.in_ok-fact.fact c.args.read.image.table.rows.items ns s) (sym c.deref-5.ensures.value)
@@ -123,7 +130,8 @@ returns-clause-quiet g c =
     let s = S c.args.device.now in
     λ d is exact none.
     let table : IsTable d s.now c.in_ok-fact.fact = c.in_ok-fact.ensures.table d s.now
-    (subst (λ (rs : List RowValue). HasRowsOf d c.args.g.now s.now (map as_row rs)) (sym c.deref.ensures.value) (rows_of d c.args.g.now s c.args.read is)) in
+    (subst (λ (rs : List RowValue). HasRowsOf d c.args.g.now s.now (map as_row rs)) (sym c.deref.ensures.value)
+    (rows_of d c.args.g.now s c.args.read is)) in
     c.settle_table.ensures.quiet d
     (subst (λ (rs : List RowValue). IsTableToSettle d c.in_ok-fact.fact rs c.deref-5.result.now s) (sym c.deref-4.ensures.value)
     (subst (λ (ns : List ℕ). IsTableToSettle d c.in_ok-fact.fact c.args.read.image.table.rows.items ns s) (sym c.deref-5.ensures.value)

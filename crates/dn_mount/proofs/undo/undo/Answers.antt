@@ -33,7 +33,8 @@ pub returns-in-Ok-clause-gate : goal.returns-in-Ok-clause-gate
 returns-in-Ok-clause-gate g c =
     let w = (g.D.Pm.state c.args.device.now).now in
     gate_of w c.requires.head (λ none.
-    let e = sym c.in-Ok.is ∙ c.roll_back.ensures.bad.1 (λ gate. none (subst (λ (n : ℕ). IsGate n w) (ap (λ (h : Geometry). h.inodes) c.requires.geometry)
+    let e = sym c.in-Ok.is ∙ c.roll_back.ensures.bad.1 (λ gate. none (subst (λ (n : ℕ). IsGate n w) (ap (λ
+    (h : Geometry). h.inodes) c.requires.geometry)
     gate)) in cc)
 
 pub returns-in-Ok-clause-back : goal.returns-in-Ok-clause-back

@@ -11,12 +11,14 @@ in_table d g ino same lt = subst (λ (h : Geometry). ino < h.inodes) (sym same) 
 
 pub returns-in-0 : goal.returns-in-0
 returns-in-0 h c = λ d same reads.
-    free_by _ _ (d.inode c.args.ino).use_of (is_use d (h.D.Pm.state c.args.device.now).now c.args.ino (in_table d c.args.g.now c.args.ino same c.requires.ino) reads)
+    free_by _ _ (d.inode c.args.ino).use_of (is_use d (h.D.Pm.state c.args.device.now).now c.args.ino
+    (in_table d c.args.g.now c.args.ino same c.requires.ino) reads)
     (sym c.read_field.ensures ∙ c.in-0.is)
 
 pub returns-in-1 : goal.returns-in-1
 returns-in-1 h c = λ d same reads.
-    live_by _ _ (d.inode c.args.ino).use_of (is_use d (h.D.Pm.state c.args.device.now).now c.args.ino (in_table d c.args.g.now c.args.ino same c.requires.ino) reads)
+    live_by _ _ (d.inode c.args.ino).use_of (is_use d (h.D.Pm.state c.args.device.now).now c.args.ino
+    (in_table d c.args.g.now c.args.ino same c.requires.ino) reads)
     (sym c.read_field.ensures ∙ c.in-1.is)
 
 pub returns-in_default : goal.returns-in_default
@@ -24,5 +26,6 @@ returns-in_default h c = λ d same reads.
     let high : 2 ≤ c.read_field.result = omega arith in
     let high_word : 2 ≤ slice_index (h.D.Pm.state c.args.device.now).now (inode_word c.args.ino 0) = omega (arith, high, c.read_field.ensures) in
     rw c.read_field-in_default.ensures
-    (dying_by _ _ (d.inode c.args.ino).use_of (is_use d (h.D.Pm.state c.args.device.now).now c.args.ino (in_table d c.args.g.now c.args.ino same c.requires.ino)
+    (dying_by _ _ (d.inode c.args.ino).use_of (is_use d (h.D.Pm.state c.args.device.now).now c.args.ino
+    (in_table d c.args.g.now c.args.ino same c.requires.ino)
     reads) high_word)

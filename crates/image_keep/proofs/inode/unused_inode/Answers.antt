@@ -1,5 +1,5 @@
-use Rattle.std.proofs.Common.{arith, subst, sym}
-use Rattle.dn_model.specs.Disk.{Use, IsUsed}
+use Rattle.std.proofs.Common.{arith, subst}
+use Rattle.dn_model.specs.Disk.{IsUsed}
 use Rattle.image_keep.proofs.Kept.{places_none}
 use Rattle.image_keep.proofs.inode.unused_inode.Goals as goal
 

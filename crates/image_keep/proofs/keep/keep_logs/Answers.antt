@@ -1,7 +1,7 @@
 use Rattle.std.proofs.Common.{rules, arith, subst, refl, ℕ}
 use Rattle.image_logs.proofs.Steps.{counted-none, counted-next, first-fault, fault-of_each, all-read}
 use Rattle.image_keep.specs.Keeping.{AreKeptTo}
-use Rattle.image_keep.proofs.KeptInodes.{kept_none, kept_next, may_keep}
+use Rattle.image_keep.proofs.KeptInodes.{kept_none, kept_next}
 use Rattle.image_keep.proofs.keep.keep_logs.Goals as goal
 
 pub loop-ino-init : goal.loop-ino-init
