@@ -1,4 +1,4 @@
-use Rattle.std.proofs.Common.{◌≡◌, rules}
+use Rattle.std.proofs.Common.{rules}
 use Rattle.dn_script.specs.Work.{work_ops}
 use Rattle.dn_script.proofs.WorkLaws.{is_picked, made_more, made_all}
 use Rattle.dn_script.proofs.work.generated.Goals as goal

@@ -1,5 +1,5 @@
-use Rattle.std.proofs.Common.{◌≡◌, ◌∙◌, ℕ, List, sym, ap, rules, arith}
-use Rattle.dn_model.specs.declared.op.Op.TheVariants.{Create, Write, Cut, Remove, Rename}
+use Rattle.std.proofs.Common.{◌∙◌, sym, ap, rules, arith}
+use Rattle.dn_model.specs.declared.op.Op.TheVariants.{Create, Remove}
 use Rattle.dn_script.proofs.WorkLaws.{is_create, is_write, is_cut, is_remove, is_rename}
 use Rattle.dn_script.proofs.work.op_of.Goals as goal
 use Rattle.dn_script.proofs.work.op_of.Goals.{in-0, in-5, in-6, in-1-to-4+in_ok-page_of-in-1-to-4, in_default+in_ok-work_name-in_default}
