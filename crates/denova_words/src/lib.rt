@@ -22,7 +22,7 @@ mod tests {
     ) -> Result<(), AllocError> {
         let mut words = Vec::new(alloc);
         for word in line.split(' ') {
-            words.push(String::from_str_in(word, alloc)?)?;
+            words.push(String::from_str(alloc, word)?)?;
         }
         let command = command_of(alloc, &words)?;
         let text = format!(in alloc; "{command:?}")?;
