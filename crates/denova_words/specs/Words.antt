@@ -24,7 +24,7 @@ use Rattle.std.specs.Prelude.{
   option_and_then,
 }
 use Rattle.std.specs.List.{list_all}
-use Rattle.dn_script.specs.Text.{number_of, name_of}
+use Rattle.dn_script.specs.Text.{number_of, name_of, one_of, two_of}
 use Rattle.denova_words.specs.declared.words.Command.{Command}
 use Rattle.denova_words.specs.declared.words.Command.TheVariants.{
   Format,
@@ -38,26 +38,10 @@ use Rattle.denova_words.specs.declared.words.Command.TheVariants.{
   Run,
 }
 
--- whether words are a first one alone
+-- whether there are no words
 abbrev pub has_none : List (List ℕ) → Bool
-has_none [] = false
-has_none (name ∷ []) = true
-has_none (name ∷ first ∷ words) = false
-
--- the word behind the first, where it is the only one
-abbrev pub one_after : List (List ℕ) → Option (List ℕ)
-one_after [] = None
-one_after (name ∷ []) = None
-one_after (name ∷ first ∷ []) = Some first
-one_after (name ∷ first ∷ second ∷ words) = None
-
--- the words behind the first, where they are two
-abbrev pub two_after : List (List ℕ) → Option (List ℕ × List ℕ)
-two_after [] = None
-two_after (name ∷ []) = None
-two_after (name ∷ first ∷ []) = None
-two_after (name ∷ first ∷ second ∷ []) = Some (first, second)
-two_after (name ∷ first ∷ second ∷ third ∷ words) = None
+has_none [] = true
+has_none (word ∷ words) = false
 
 -- a command without further words
 abbrev pub alone_of : Command → List (List ℕ) → Option Command
@@ -65,21 +49,21 @@ alone_of command words = if has_none words then Some command else None
 
 -- `cat NAME`, of a name that isn't empty
 abbrev pub cat_of : List (List ℕ) → Option Command
-cat_of words = option_map (λ name. Cat name) (option_and_then name_of (one_after words))
+cat_of words = option_map (λ name. Cat name) (option_and_then name_of (one_of words))
 
 -- `work N`, from 1 to 100,000
 abbrev pub work_on : ℕ → Option Command
 work_on n = if nat_le 1 n && nat_le n 100000 then Some (Work n) else None
 
 abbrev pub work_of : List (List ℕ) → Option Command
-work_of words = option_and_then work_on (option_and_then number_of (one_after words))
+work_of words = option_and_then work_on (option_and_then number_of (one_of words))
 
 -- two words that spell numbers
 abbrev pub pair_of : List ℕ × List ℕ → Option (ℕ × ℕ)
 pair_of w = option_and_then (λ m. option_map (λ n. (m, n)) (number_of w.1)) (number_of w.0)
 
 abbrev pub numbers_of : List (List ℕ) → Option (ℕ × ℕ)
-numbers_of words = option_and_then pair_of (two_after words)
+numbers_of words = option_and_then pair_of (two_of words)
 
 -- `format PAGES INODES`
 abbrev pub format_of : List (List ℕ) → Option Command
@@ -89,7 +73,7 @@ format_of words = option_map (λ n. Format n.0 n.1) (numbers_of words)
 abbrev pub trial_of : List (List ℕ) → Option Command
 trial_of words = option_map (λ n. Trial n.0 n.1) (numbers_of words)
 
--- the command with this name, where these are the words from it on
+-- the command with this name, where these are the words behind it
 abbrev pub named_of : List ℕ → List (List ℕ) → Option Command
 named_of name words =
     if bytes_eq name (codes "format") then format_of words
@@ -106,7 +90,7 @@ named_of name words =
 -- the command of the words behind the image, the first of which names it
 abbrev pub order_of : List (List ℕ) → Option Command
 order_of [] = None
-order_of (name ∷ words) = named_of name (name ∷ words)
+order_of (name ∷ words) = named_of name words
 
 -- a word that doesn't begin with the byte 45, `-`
 abbrev pub is_plain : List ℕ → Bool

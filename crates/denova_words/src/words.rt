@@ -4,7 +4,7 @@ ghost use Rattle.std.specs.List.{list_all};
 ghost use Rattle.dn_script.specs.Text.{number_of};
 ghost use Rattle.denova_words.specs.Words.{is_plain, alone_of, cat_of, work_on, work_of, pair_of, numbers_of, format_of, trial_of, named_of, order_of, command_of};
 
-use crate::arguments::{has_none, one_after, two_after};
+use crate::arguments::{has_none, one_of, two_of};
 use dn_model::ByteText;
 use dn_script::{MOST_WORK, number_of};
 use std::alloc::{AllocError, Global};
@@ -68,13 +68,12 @@ fn alone(alloc: Global, words: &[String], command: Command) -> Result<Option<Com
 fn cat(alloc: Global, words: &[String]) -> Result<Option<Command>, AllocError>
     ensures { IfOk result (λ o. o ≡ cat_of (map string_bytes words.now)) }
 {
-    let Some(word) = one_after(alloc, words)? else {
+    let Some(name) = one_of(alloc, words)? else {
         return Ok(None);
     };
-    if word.is_empty() {
+    if name.bytes().is_empty() {
         return Ok(None);
     }
-    let name = ByteText::of(Vec::from_slice(alloc, word.as_bytes())?);
     Ok(Some(Command::Cat { name }))
 }
 
@@ -89,38 +88,38 @@ fn work_on(operations: u64) -> Option<Command>
 }
 
 // The work of a word that spells its number.
-fn work_by(word: &str) -> Option<Command>
+fn work_by(word: &[u8]) -> Option<Command>
     ensures { result ≡ option_and_then work_on (number_of word.now) }
 {
-    work_on(number_of(word.as_bytes())?)
+    work_on(number_of(word)?)
 }
 
 // `work N`.
 fn work(alloc: Global, words: &[String]) -> Result<Option<Command>, AllocError>
     ensures { IfOk result (λ o. o ≡ work_of (map string_bytes words.now)) }
 {
-    let Some(word) = one_after(alloc, words)? else {
+    let Some(word) = one_of(alloc, words)? else {
         return Ok(None);
     };
-    Ok(work_by(word))
+    Ok(work_by(word.bytes()))
 }
 
 // Two words that spell numbers.
-fn pair(first: &str, second: &str) -> Option<(u64, u64)>
+fn pair(first: &[u8], second: &[u8]) -> Option<(u64, u64)>
     ensures { result ≡ pair_of (first.now, second.now) }
 {
-    let first = number_of(first.as_bytes())?;
-    let second = number_of(second.as_bytes())?;
+    let first = number_of(first)?;
+    let second = number_of(second)?;
     Some((first, second))
 }
 
 fn numbers(alloc: Global, words: &[String]) -> Result<Option<(u64, u64)>, AllocError>
     ensures { IfOk result (λ o. o ≡ numbers_of (map string_bytes words.now)) }
 {
-    let Some((first, second)) = two_after(alloc, words)? else {
+    let Some((first, second)) = two_of(alloc, words)? else {
         return Ok(None);
     };
-    Ok(pair(first, second))
+    Ok(pair(first.bytes(), second.bytes()))
 }
 
 // `format PAGES INODES`.
@@ -137,7 +136,7 @@ fn trial(alloc: Global, words: &[String]) -> Result<Option<Command>, AllocError>
     Ok(numbers(alloc, words)?.map(|(calls, pick)| Command::Trial { calls, pick }))
 }
 
-// The command with this name, which is the first of the words.
+// The command with this name, where these are the words behind it.
 fn named(alloc: Global, name: &str, words: &[String]) -> Result<Option<Command>, AllocError>
     ensures { IfOk result (λ o. o ≡ named_of name.now (map string_bytes words.now)) }
 {
@@ -169,7 +168,7 @@ fn order_of(alloc: Global, words: &[String]) -> Result<Option<Command>, AllocErr
     ensures { IfOk result (λ o. o ≡ order_of (map string_bytes words.now)) }
 {
     match words {
-        [name, ..] => named(alloc, name.as_str(), words),
+        [name, others @ ..] => named(alloc, name.as_str(), others),
         [] => Ok(None),
     }
 }
