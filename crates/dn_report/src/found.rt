@@ -1,9 +1,8 @@
 // The texts of what is found of an image.
 ghost use Rattle.std.specs.Prelude.{◌≡◌, ◌++◌, OnOk};
-ghost use Rattle.dn_report.specs.Report.{spaced_number};
 ghost use Rattle.dn_report.specs.Found.{fault_text, faulty_text, row_line, exact_text, numbers_line, found_text};
 
-use crate::report::{end_line, write_number};
+use crate::report::{end_line, write_count, write_number};
 use dn_model::ImageFault;
 use fact_scan::Row;
 use std::alloc::AllocError;
@@ -12,13 +11,6 @@ fn write_name(text: &mut Vec<u8>, name: &[u8]) -> Result<(), AllocError>
     ensures { OnOk result (text.new.items ≡ text.old.items ++ name.now) }
 {
     text.extend_from_slice(name)
-}
-
-fn write_count(text: &mut Vec<u8>, name: &[u8], number: u64) -> Result<(), AllocError>
-    ensures { OnOk result (text.new.items ≡ text.old.items ++ name.now ++ spaced_number number) }
-{
-    write_name(text, name)?;
-    write_number(text, number)
 }
 
 fn write_fault(text: &mut Vec<u8>, fault: ImageFault) -> Result<(), AllocError>

@@ -41,7 +41,7 @@ pub const TOO_LONG: &[u8] = b"too-long\n";
 /// What is written where the image can't be opened.
 pub const CANNOT_OPEN: &[u8] = b"denova: cannot open image\n";
 
-fn write_word(text: &mut Vec<u8>, word: &[u8]) -> Result<(), AllocError>
+pub(crate) fn write_word(text: &mut Vec<u8>, word: &[u8]) -> Result<(), AllocError>
     ensures { OnOk result (text.new.items ≡ text.old.items ++ spaced word.now) }
 {
     text.push(b' ')?;
@@ -53,6 +53,13 @@ pub(crate) fn write_number(text: &mut Vec<u8>, number: u64) -> Result<(), AllocE
 {
     let mut buffer = Buffer::new();
     write_word(text, buffer.format(number).as_bytes())
+}
+
+pub(crate) fn write_count(text: &mut Vec<u8>, name: &[u8], number: u64) -> Result<(), AllocError>
+    ensures { OnOk result (text.new.items ≡ text.old.items ++ name.now ++ spaced_number number) }
+{
+    text.extend_from_slice(name)?;
+    write_number(text, number)
 }
 
 pub(crate) fn end_line(text: &mut Vec<u8>) -> Result<(), AllocError>

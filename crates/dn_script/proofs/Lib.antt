@@ -6,3 +6,4 @@ pub mod Meanings
 pub mod NumberLists
 pub mod StreamLaws
 pub mod TextLaws
+pub mod WorkLaws

@@ -8,6 +8,7 @@ ghost use Rattle.dn_script.specs.declared.job.JobFault.TheVariants.{NoMemory, To
 
 use crate::job::{Clients, Command, Job, JobFault, Line, Lines, MOST_WEIGHT, Turns};
 use crate::line::{JobForm, LineMeaning, line_meaning};
+use dn_model::{CLIENTS, DAEMON, RECLAIM};
 use std::alloc::{AllocError, Global};
 use std::marker::Model;
 
@@ -206,7 +207,7 @@ fn clients_of(
 {
     let mut clients = Vec::new(alloc);
     let mut left = owned;
-    for before in 0..14 {
+    for before in 0..CLIENTS {
         let (lines, others) = split_client(alloc, left, before + 1)?;
         left = others;
         push_client(&mut clients, named, before + 1, lines)?;
@@ -230,10 +231,12 @@ fn client_of(clients: &[(u32, Lines)], number: u64) -> Option<u32>
 fn actor_of(clients: &[(u32, Lines)], number: u64) -> Option<u32>
     ensures { result ≡ (if is_actor clients.now number then Some number else None) }
 {
-    match number {
-        15 => Some(15),
-        16 => Some(16),
-        _ => client_of(clients, number),
+    if number == u64::from(DAEMON) {
+        Some(DAEMON)
+    } else if number == u64::from(RECLAIM) {
+        Some(RECLAIM)
+    } else {
+        client_of(clients, number)
     }
 }
 

@@ -11,6 +11,7 @@ pub mod stream;
 #[cfg(test)]
 mod tests;
 pub mod text;
+pub mod work;
 
 pub use job::{Clients, Command, Job, JobFault, Line, Lines, Turns};
 pub use line::{JobForm, LineMeaning, Numbers, line_meaning};
@@ -19,3 +20,4 @@ pub use reading::read_job;
 pub use spelling::number_of;
 pub use stream::{MOST_BYTES, ReadFault, Sink, Source, read_to_end, write_all};
 pub use text::first_line;
+pub use work::{MOST_WORK, generated};

@@ -5,7 +5,7 @@ ghost use Rattle.dn_script.specs.Line.{Gives, GivesBy, keyword_of, has, create_o
 
 use crate::spelling::{byte_of, number_of};
 use crate::text::Words;
-use dn_model::{ByteText, Op};
+use dn_model::{ByteText, CLIENTS, Op};
 use hex::FromHexError;
 use std::alloc::{AllocError, Global};
 use std::marker::Model;
@@ -15,9 +15,6 @@ pub const MOST_FILLED: u64 = 131_072;
 
 /// The weight of a line that lists all names.
 pub const LIST_WEIGHT: u64 = 1_048_576;
-
-/// The most clients of a job, which are numbered from 1.
-pub const MOST_CLIENTS: u64 = 14;
 
 /// The forms of a job.
 #[derive(Clone, Copy, Debug, PartialEq, Eq)]
@@ -298,7 +295,7 @@ fn client(words: Words) -> Result<LineMeaning, LineFault>
     ensures { Gives result (client_of words.entry) }
 {
     let number = number(words.one().ok_or(LineFault::Bad)?)?;
-    if number < 1 || number > MOST_CLIENTS {
+    if number < 1 || number > u64::from(CLIENTS) {
         return Err(LineFault::Bad);
     }
     Ok(LineMeaning::Client {
