@@ -348,7 +348,7 @@ module _ (d : Disk) (b b' : Parts) (s t : State) (who : ℕ) (f : Flight) (c : N
 
   module _ (units : s.spare ≤ t.spare + 25) (dying_same : b'.reclaiming.raised ≡ b.reclaiming.raised)
       (zero_same : b'.reclaiming.zero_check ≡ b.reclaiming.zero_check) (releases_same : b'.reclaiming.releases ≡ b.reclaiming.releases) (inodes :
-          (ino : ℕ) (n' : InodeState)
+      (ino : ℕ) (n' : InodeState)
       → slice_get b'.inodes.items ino ≡ Some n' → (n : InodeState) × (slice_get b.inodes.items ino ≡ Some n) × (n'.map ≡ n.map)) where
     pub room : HasRoom b' t
     room =

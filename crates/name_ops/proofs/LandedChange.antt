@@ -301,7 +301,7 @@ module _ (d : Disk) (b b' : Parts) (s t : State) (who : ℕ) (f : Flight) (c : N
             let as_turned : e.inode ino ≡ turned change.turn (d.inode ino) =
             ap (λ (i : ℕ). e.inode i) here' ∙ at_ino d change node_file ∙ ap (λ (i : ℕ). turned change.turn (d.inode i)) (sym here') in
             ap (λ (x : Inode). size_of x.log) as_turned ∙ (turned_so (same_node here')).size_is (subst (λ (x : Inode). IsUsed x.use_of) as_turned
-                used)
+            used)
         by_size (elsewhere some other) used =
             ap (λ (x : Inode). size_of x.log) (at_other d change ino some other) ∙ was.size_is
             (subst (λ (x : Inode). IsUsed x.use_of) (at_other d change ino some other) used) ∙ sym (turns.elsewhere (apart_node other)).1

@@ -288,8 +288,11 @@ module _ (d : Disk) (b : Parts) (s : State) (who : ℕ) (f : Flight) (c : NameCh
       (state_changes change.turn change.ino) (state_changes (as_turn c.turn) c.node)
       (ap (λ (x : DiskTurn). state_changes x change.ino) flight.turn_is ∙ ap (state_changes (as_turn c.turn)) flight.node_is)
     where
-      both : (x y : ℕ) → x ≡ y → (xs ys : List Word) → xs ≡ ys → record { at = inode_word 0 2; value = y } ∷ xs ≡ record { at =
-          inode_word 0 2; value = x } ∷ ys
+      both : (x y : ℕ) → x ≡ y → (xs ys : List Word) → xs ≡ ys → record { at = inode_word 0 2; value = y } ∷ xs ≡ record {
+        at =
+            inode_word 0 2;
+        value = x;
+      } ∷ ys
       both x y one xs ys other = ap (λ (n : ℕ). record { at = inode_word 0 2; value = n } ∷ xs) (sym one)
           ∙ ap (λ (zs : List Word). record { at = inode_word 0 2; value = x } ∷ zs) other
 

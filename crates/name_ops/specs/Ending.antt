@@ -133,7 +133,7 @@ pub record FinishesNames (who : ℕ) (f : Flight) (c : NameChange) (b b' : Parts
   pub all : length b'.inodes.items ≡ length b.inodes.items
   pub each : (ino : ℕ) (n' : InodeState) → slice_get b'.inodes.items ino ≡ Some n'
       → (n : InodeState) × (slice_get b.inodes.items ino ≡ Some n) × TurnsInode c ino n n'
-          × LetsGo f
+      × LetsGo f
       ino n n'
   pub raised : b'.reclaiming.raised ≡ b.reclaiming.raised
   pub zero_check : b'.reclaiming.zero_check ≡ b.reclaiming.zero_check

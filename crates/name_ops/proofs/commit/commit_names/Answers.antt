@@ -95,11 +95,19 @@ returns-clause-event g c = λ d f v flies.
     let S = g.D.Pm.state in
     let b = c.args.v.now.parts in
     let to = to_commit b c.args.who c.requires.next c.take_flight-flight.result c.take_flight-flight.ensures.was c.in-Names.change c.in-Names.is in
-    answers_of S g.F.Fingerprint.print c.args.v.now (record { device = c.commit_change.new.device; print = c.args.v.now.print; parts =
-        c.land_names.new.parts }) c.args.who c.take_flight-flight.result c.in-Names.change to.0
+    answers_of S g.F.Fingerprint.print c.args.v.now (record {
+      device = c.commit_change.new.device;
+      print = c.args.v.now.print;
+      parts =
+          c.land_names.new.parts;
+    }) c.args.who c.take_flight-flight.result c.in-Names.change to.0
     (g.met.D.Pm.agree c.args.v.now.device) d f flies
-    (commit_answers S g.F.Fingerprint.print c.args.v.now (record { device = c.commit_change.new.device; print = c.args.v.now.print; parts =
-        c.land_names.new.parts }) c.args.who c.take_flight-flight.result c.in-Names.change to.0
+    (commit_answers S g.F.Fingerprint.print c.args.v.now (record {
+      device = c.commit_change.new.device;
+      print = c.args.v.now.print;
+      parts =
+          c.land_names.new.parts;
+    }) c.args.who c.take_flight-flight.result c.in-Names.change to.0
     (g.met.D.Pm.agree c.args.v.now.device) c.in-Ok.ensures.done to.1 _
     (record {
       geometry = refl;
@@ -124,8 +132,12 @@ returns-clause-agrees g c =
     let b = c.args.v.now.parts in
     let found = running_disk S c.args.v.now c.requires.running c.requires.agrees in
     let to = to_commit b c.args.who c.requires.next c.take_flight-flight.result c.take_flight-flight.ensures.was c.in-Names.change c.in-Names.is in
-    let answers = commit_answers S g.F.Fingerprint.print c.args.v.now (record { device = c.commit_change.new.device; print =
-        c.args.v.now.print; parts = c.land_names.new.parts }) c.args.who c.take_flight-flight.result c.in-Names.change to.0
+    let answers = commit_answers S g.F.Fingerprint.print c.args.v.now (record {
+      device = c.commit_change.new.device;
+      print =
+          c.args.v.now.print;
+      parts = c.land_names.new.parts;
+    }) c.args.who c.take_flight-flight.result c.in-Names.change to.0
     (g.met.D.Pm.agree c.args.v.now.device) c.in-Ok.ensures.done to.1 _
     (record {
       geometry = refl;
@@ -175,8 +187,12 @@ returns-in_default-commit_change-clause-agrees g c =
     let to = to_commit b c.args.who c.requires.next c.take_flight-flight.result c.take_flight-flight.ensures.was c.in-Names.change c.in-Names.is in
     let counted : (c.saturating_add-v.result ≡ b.made + 1) ⊎ ((b.made ≡ 18446744073709551615) × (c.saturating_add-v.result ≡ b.made)) =
     grind (arith, c.saturating_add-v.ensures) in
-    is_stopped (commit_breaks S g.F.Fingerprint.print c.args.v.now (record { device = c.commit_change.new.device; print =
-        c.args.v.now.print; parts = _ })
+    is_stopped (commit_breaks S g.F.Fingerprint.print c.args.v.now (record {
+      device = c.commit_change.new.device;
+      print =
+          c.args.v.now.print;
+      parts = _;
+    })
     c.args.who c.take_flight-flight.result c.in-Names.change to.0 (g.met.D.Pm.agree c.args.v.now.device) c.commit_change.ensures.any_moment
     c.commit_change.ensures.only (c.in_default-commit_change.ensures.failed refl) c.commit_change.ensures.faults
     (record {

@@ -23,7 +23,7 @@ first_holder-requires g c =
     let found = running_disk g.D.Pm.state c.args.v.now c.requires.running c.requires.agrees in
     subst (λ (ns : List InodeState). All (λ i. i < length ns) (0 ∷ [])) (sym c.deref.ensures.value)
     (small_created found.0 c.args.v.now.parts (g.D.Pm.state c.args.v.now.device) found.1 c.args.name.now (c.is_legal.ensures.0
-        c.if-not-is_legal.false)
+    c.if-not-is_legal.false)
     (sym c.in_default.is ∙ c.find_inode.ensures))
 
 pub returns-in-Some-first_holder : goal.returns-in-Some-first_holder

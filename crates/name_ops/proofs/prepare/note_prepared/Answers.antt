@@ -23,7 +23,7 @@ pub overflow_sub-parts : goal.overflow_sub-parts
 overflow_sub-parts c =
     let r = c.requires.next in
     let told = (c.prepare_flight-units.ensures r.flight r.change (at_client c.args.parts.now c.args.who r.flight r.is.flies _
-        c.index_mut.ensures.value)
+    c.index_mut.ensures.value)
     r.is.change_is).1 in
     omega (arith, told, c.requires.units r.flight r.is.flies)
 
