@@ -1,0 +1,6 @@
+//! Whole runs: the image of a device is mounted, scripts are run on it, and all work is drained.
+#![tactic(auto)]
+
+pub mod run;
+
+pub use run::{RunEnd, run_scripts};

@@ -1,0 +1,10 @@
+pub mod Turned
+pub mod BeginsLeft
+pub mod BeginsHeld
+pub mod Fitting
+pub mod MayAnswer
+pub mod Ending
+pub mod Counting
+pub mod Walking
+pub mod Fronts
+pub mod Going

@@ -1,0 +1,4 @@
+pub mod Planned
+pub mod TellingLaws
+pub mod Marked
+pub mod CountedRows
