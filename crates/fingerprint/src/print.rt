@@ -8,7 +8,7 @@ use sha1::Sha1;
 
 /// A fingerprint: a function of a page's bytes alone. All values of one type give equal bytes the
 /// same print.
-pub trait Fingerprint {
+pub trait Fingerprint: Copy {
     /// The print of a list of bytes.
     ghost print: { List ℕ → List ℕ };
 
