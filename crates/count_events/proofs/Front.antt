@@ -50,7 +50,7 @@ module _ (d : Disk) (b : Parts) (s : State) (v : IsVolume d b s) where
             → times slot (added_at step) ≤ mappings d row.page
         by_step sharing begun Look at = omega arith
         by_step sharing begun (Remap other) at = omega arith
-        by_step sharing begun (Settle other) at = elim (cases_eq other slot) [
+        by_step sharing begun (Settle other inserted) at = elim (cases_eq other slot) [
           | inl here ↦
               let some = settle_maps sharing begun (subst (IsToSettle d sharing) here at) in
               let one : times slot (other ∷ []) ≡ 1 = ap (λ (t : Bool). (if t then 1 else 0) + 0) (same_test other slot here) in

@@ -41,7 +41,7 @@ shared_few slot (Some sharing) = by_step sharing.step
     by_step : (step : SharingStep) → times slot (raised_at step) + times slot (added_at step) ≤ 1
     by_step Look = omega arith
     by_step (Remap x) = let most = times-le slot (x ∷ []) in omega (arith, most)
-    by_step (Settle x) = let most = times-le slot (x ∷ []) in omega (arith, most)
+    by_step (Settle x inserted) = let most = times-le slot (x ∷ []) in omega (arith, most)
 
 died_few : (slot : ℕ) (r : Option DyingPlace) → times slot (raised_to_die r) ≤ one_if r
 died_few slot None = omega arith

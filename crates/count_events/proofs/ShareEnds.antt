@@ -82,21 +82,26 @@ module _ {D F : Type 0} (state : D → State) (w : Volume D F) (slot : ℕ) (to 
         let queued = ap (λ (ws : List Work). length ws) change.kept.queue in
         let before = ap (λ (o : Option Sharing). sharing_events o) to.begun in
         let after = ap (λ (o : Option Sharing). sharing_events o) (change.sharing to.sharing to.begun) in
-        let one = falls to.sharing to.step (share_some agrees running to.sharing to.begun) in
+        let one = falls to.sharing to.inserted to.step (share_some agrees running to.sharing to.begun) in
         omega (arith, queued, before, after, one);
     waiting = change.waiting;
   }
     where
-      falls : (x : Sharing) → x.step ≡ Settle slot → x.done < x.count
+      some_left : (inserted : Bool) → 1 ≤ step_events (Settle slot inserted)
+      some_left true = omega arith
+      some_left false = omega arith
+
+      falls : (x : Sharing) (inserted : Bool) → x.step ≡ Settle slot inserted → x.done < x.count
           → sharing_events (Some (record x { done = x.done + 1; step = Look })) < sharing_events (Some x)
-      falls x step some =
+      falls x inserted step some =
           let test = less_test x.done x.count some in
-          let was : sharing_events (Some x) ≡ 3 * (x.count - x.done - 1) + 1 + 1 =
+          let left = some_left inserted in
+          let was : sharing_events (Some x) ≡ 3 * (x.count - x.done - 1) + step_events (Settle slot inserted) + 1 =
           ap (λ (t : Bool). if t then 3 * (x.count - x.done - 1) + step_events x.step + 1 else 1) test
           ∙ ap (λ (st : SharingStep). 3 * (x.count - x.done - 1) + step_events st + 1) step in
-          by (nat_lt (x.done + 1) x.count) refl was
+          by (nat_lt (x.done + 1) x.count) refl (omega (arith, was, left))
         where
-          by : (t : Bool) → nat_lt (x.done + 1) x.count ≡ t → sharing_events (Some x) ≡ 3 * (x.count - x.done - 1) + 1 + 1
+          by : (t : Bool) → nat_lt (x.done + 1) x.count ≡ t → 3 * (x.count - x.done - 1) + 1 + 1 ≤ sharing_events (Some x)
               → sharing_events (Some (record x { done = x.done + 1; step = Look })) < sharing_events (Some x)
           by true is was =
               let now = ap (λ (t : Bool). if t then 3 * (x.count - (x.done + 1) - 1) + 3 + 1 else 1) is in

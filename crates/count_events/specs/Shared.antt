@@ -1,5 +1,5 @@
 -- The daemon settles the row whose mapping it has added.
-use Rattle.std.specs.Prelude.{◌≡◌, ℕ, ◌+◌, ◌-◌, [], ◌∷◌, ◌++◌, Some, vec_len, vec_capacity}
+use Rattle.std.specs.Prelude.{◌≡◌, Bool, ℕ, ◌+◌, ◌-◌, [], ◌∷◌, ◌++◌, Some, vec_len, vec_capacity}
 use Rattle.std.specs.VecDeque.{deque_len, deque_capacity}
 use Rattle.dn_volume.specs.declared.background.Sharing.{Sharing}
 use Rattle.dn_volume.specs.declared.background.SharingStep.TheVariants.{Look, Settle}
@@ -11,7 +11,8 @@ use Rattle.count_events.specs.Released.{KeepsParts}
 pub record IsAtSettle (b : Parts) (slot : ℕ) : Type 0 where
   pub sharing : Sharing
   pub begun : b.sharing ≡ Some sharing
-  pub step : sharing.step ≡ Settle slot
+  pub inserted : Bool
+  pub step : sharing.step ≡ Settle slot inserted
 
 -- it is settled, and has this word
 pub record SettlesShare (slot word : ℕ) (b b' : Parts) : Type 0 where

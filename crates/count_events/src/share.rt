@@ -55,7 +55,7 @@ fn slot_to_settle(parts: &Parts) -> u64
     match parts.sharing {
         Some(
             Sharing {
-                step: SharingStep::Settle { slot },
+                step: SharingStep::Settle { slot, .. },
                 ..
             },
         ) => slot,

@@ -1,5 +1,5 @@
 -- The event of a row that comes in, from what its calls give.
-use Rattle.std.proofs.Common.{◌≡◌, inl, inr, ⊎_elim, ℕ, ◌+◌, ◌*◌, ◌^◌, ◌<◌, ◌≤◌, false, List, [], ◌∷◌, length, refl, sym, ◌∙◌, ap, subst, arith}
+use Rattle.std.proofs.Common.{◌≡◌, inl, inr, ⊎_elim, ℕ, ◌+◌, ◌*◌, ◌^◌, ◌<◌, ◌≤◌, true, false, List, [], ◌∷◌, length, refl, sym, ◌∙◌, ap, subst, arith}
 use Rattle.std.specs.Prelude.{Some, None, Contains, slice_index, vec_len, vec_capacity}
 use Rattle.std.proofs.lemmas.List.Elements.{All-from_get_or}
 use Rattle.pm_device.specs.Past.{Left, moment}
@@ -123,12 +123,12 @@ module _ {D F : Type 0} (state : D → State) (print : Print) (w : Volume D F) (
     pub insert_change : 1 ≤ w.parts.owed.trace
     insert_change = look_owes_change w.parts looks found.0 (state w.device) found.1
 
-    pub insert_few : (b' : Parts) (slot word units : ℕ) → Looks (Settle slot) slot word units w.parts b'
+    pub insert_few : (b' : Parts) (slot word units : ℕ) → Looks (Settle slot true) slot word units w.parts b'
         → (x : Sharing) × ((b'.sharing ≡ Some x) × (x.count < 2 ^ 32))
     insert_few b' slot word units change = (
       _,
       (
-        now_is w.parts looks b' (Settle slot) slot word units change,
+        now_is w.parts looks b' (Settle slot true) slot word units change,
         item_few found.0 found.1.fast.valid looks.sharing (found.1.sharing looks.sharing looks.begun).begun,
       ),
     )
@@ -186,7 +186,7 @@ module _ {D F : Type 0} (state : D → State) (print : Print) (w : Volume D F) (
     module _ (slot : ℕ) (made : MakesInserted w.parts.fact t' fp page (state w.device) (state w'.device) slot)
         (others : KeepsFlushed (Others 15) (IsInsertWord w.parts.fact t' fp page) (state w.device) (state w'.device))
         (own : SettlesAll 15 (state w.device) (state w'.device)) (spare : (state w.device).spare ≤ (state w'.device).spare + LOOK_UNITS)
-        (change : Looks (Settle slot) slot 1 (LOOK_UNITS + REMAP_UNITS) w.parts w'.parts) (fact : w'.parts.fact ≡ t') where
+        (change : Looks (Settle slot true) slot 1 (LOOK_UNITS + REMAP_UNITS) w.parts w'.parts) (fact : w'.parts.fact ≡ t') where
       is : HasInserted d w.parts.fact t' fp page slot (state w.device) (state w'.device)
       is = made d (may d v)
 
@@ -280,7 +280,7 @@ module _ {D F : Type 0} (state : D → State) (print : Print) (w : Volume D F) (
       }
 
       pub insert_lowers : DaemonLowers w.parts w'.parts (sharing_events w'.parts.sharing)
-      insert_lowers = look_lowers w.parts (at d v).looks w'.parts (Settle slot) slot 1 (LOOK_UNITS + REMAP_UNITS) change (omega arith)
+      insert_lowers = look_lowers w.parts (at d v).looks w'.parts (Settle slot true) slot 1 (LOOK_UNITS + REMAP_UNITS) change (omega arith)
 
       pub insert_agrees : Agrees state w'
       insert_agrees = agrees_with e volume

@@ -1,5 +1,5 @@
 -- The event of a row that comes in: the volume of after.
-use Rattle.std.proofs.Common.{◌≡◌, ◌≢◌, inl, inr, ⊎_elim, ℕ, ◌+◌, ◌-◌, ◌<◌, ◌≤◌, Bool, List, [], ◌∷◌, length, refl, sym, ◌∙◌, ap, subst, arith}
+use Rattle.std.proofs.Common.{◌≡◌, ◌≢◌, inl, inr, ⊎_elim, ℕ, ◌+◌, ◌-◌, ◌<◌, ◌≤◌, Bool, true, List, [], ◌∷◌, length, refl, sym, ◌∙◌, ap, subst, arith}
 use Rattle.std.specs.Prelude.{Option, Some, IsSome, All, Contains, if◌then◌else◌}
 use Rattle.std.specs.FinMap.{FinMap}
 use Rattle.std.specs.Ordering.{nat_cmp}
@@ -168,7 +168,7 @@ module _ (d : Disk) (b : Parts) (s : State) (v : IsVolume d b s) (fp : List ℕ)
       at_least : (n : ℕ) → n ≢ 0 → 1 ≤ n
       at_least n ne = omega arith
 
-  module _ (b' : Parts) (u : State) (t' : Table) (change : Looks (Settle slot) slot 1 (LOOK_UNITS + REMAP_UNITS) b b') (fact : b'.fact ≡ t')
+  module _ (b' : Parts) (u : State) (t' : Table) (change : Looks (Settle slot true) slot 1 (LOOK_UNITS + REMAP_UNITS) b b') (fact : b'.fact ≡ t')
       (stores : StoresOnly (IsTableWord d.geometry) s u) (others : KeepsFlushed (Others 15) (IsTableWord d.geometry) s u)
       (own : SettlesAll 15 s u) (settled : Stands (TableSays e) u) (table : IsTable e u.now t') (spare : s.spare ≤ u.spare + LOOK_UNITS) where
     fast : StandsFast e b.geometry u
@@ -213,13 +213,13 @@ module _ (d : Disk) (b : Parts) (s : State) (v : IsVolume d b s) (fp : List ℕ)
 
     -- the counts
     raised_here : (x : ℕ) → raised b' x ≡ raised b x
-    raised_here x = raised_more b at.looks b' (Settle slot) slot 1 (LOOK_UNITS + REMAP_UNITS) change x ∙ omega arith
+    raised_here x = raised_more b at.looks b' (Settle slot true) slot 1 (LOOK_UNITS + REMAP_UNITS) change x ∙ omega arith
 
     added_here : (x : ℕ) → added b' x ≡ times x (slot ∷ [])
-    added_here x = added_now b at.looks b' (Settle slot) slot 1 (LOOK_UNITS + REMAP_UNITS) change x
+    added_here x = added_now b at.looks b' (Settle slot true) slot 1 (LOOK_UNITS + REMAP_UNITS) change x
 
     dropped_here : (x : ℕ) → dropped b' x ≡ dropped b x
-    dropped_here x = dropped_still b at.looks b' (Settle slot) slot 1 (LOOK_UNITS + REMAP_UNITS) change x
+    dropped_here x = dropped_still b at.looks b' (Settle slot true) slot 1 (LOOK_UNITS + REMAP_UNITS) change x
 
     counts_after : AreCounted e b'
     counts_after = coming_counted d e b b' row (record {
@@ -238,15 +238,15 @@ module _ (d : Disk) (b : Parts) (s : State) (v : IsVolume d b s) (fp : List ℕ)
         dropped_same = dropped_here x;
       };
       zero_same = change.zero_check;
-      few = let long = long_still b at.looks b' (Settle slot) slot 1 (LOOK_UNITS + REMAP_UNITS) change in
-          let sum = owed_still b at.looks b' (Settle slot) slot 1 (LOOK_UNITS + REMAP_UNITS) change (λ room. room.releases) in
-          let one = one_raised b at.looks b' (Settle slot) slot 1 (LOOK_UNITS + REMAP_UNITS) change in
+      few = let long = long_still b at.looks b' (Settle slot true) slot 1 (LOOK_UNITS + REMAP_UNITS) change in
+          let sum = owed_still b at.looks b' (Settle slot true) slot 1 (LOOK_UNITS + REMAP_UNITS) change (λ room. room.releases) in
+          let one = one_raised b at.looks b' (Settle slot true) slot 1 (LOOK_UNITS + REMAP_UNITS) change in
           omega (arith, v.counts.few, long, sum, one);
     }) v.counts
 
     -- the item goes on
     abbrev now : Sharing
-    now = record its_item { step = Settle slot }
+    now = record its_item { step = Settle slot true }
 
     begun_was : IsBegun d its_item
     begun_was = item_begun d b s v page at
@@ -276,7 +276,7 @@ module _ (d : Disk) (b : Parts) (s : State) (v : IsVolume d b s) (fp : List ℕ)
     }
 
     shares_after : Shares e b'
-    shares_after x is = subst (IsSharing e) (same_now b at.looks b' (Settle slot) slot 1 (LOOK_UNITS + REMAP_UNITS) change x is) item_now
+    shares_after x is = subst (IsSharing e) (same_now b at.looks b' (Settle slot true) slot 1 (LOOK_UNITS + REMAP_UNITS) change x is) item_now
 
     trace_after : NamesSlots b'
     trace_after =
@@ -290,27 +290,27 @@ module _ (d : Disk) (b : Parts) (s : State) (v : IsVolume d b s) (fp : List ℕ)
       running = change.stopped ∙ v.running;
       names = subst (λ (m : FinMap (slice_cmp nat_cmp) ℕ). AreNamesOf e m) (sym change.names) (names_stay d chain pointer b.names.map v.names);
       inodes = subst (λ (ns : List InodeState). AreInodesOf e ns) (sym change.inodes) (inodes_stay d chain pointer b.inodes.items v.inodes);
-      holders = holders_stay d chain pointer b b' (look_hands b at.looks b' (Settle slot) slot 1 (LOOK_UNITS + REMAP_UNITS) change) change.inodes
+      holders = holders_stay d chain pointer b b' (look_hands b at.looks b' (Settle slot true) slot 1 (LOOK_UNITS + REMAP_UNITS) change) change.inodes
           v.holders;
-      space = space_stays d chain pointer b b' (look_hands b at.looks b' (Settle slot) slot 1 (LOOK_UNITS + REMAP_UNITS) change) change.free
+      space = space_stays d chain pointer b b' (look_hands b at.looks b' (Settle slot true) slot 1 (LOOK_UNITS + REMAP_UNITS) change) change.free
           unused_after unused_before v.space;
       table = subst (λ (x : Table). AreSlotsOf e x) (sym fact) (table_stays e u.now t' table);
       counts = counts_after;
       flights = flights_after;
-      queue = queue_stays d chain pointer b b' (look_hands b at.looks b' (Settle slot) slot 1 (LOOK_UNITS + REMAP_UNITS) change) v.queue;
+      queue = queue_stays d chain pointer b b' (look_hands b at.looks b' (Settle slot true) slot 1 (LOOK_UNITS + REMAP_UNITS) change) v.queue;
       sharing = shares_after;
       reclaiming = record {
         waiting =
-            let long = long_still b at.looks b' (Settle slot) slot 1 (LOOK_UNITS + REMAP_UNITS) change in
-            let one = one_raised b at.looks b' (Settle slot) slot 1 (LOOK_UNITS + REMAP_UNITS) change in
-            let zero' = one_zero b at.looks b' (Settle slot) slot 1 (LOOK_UNITS + REMAP_UNITS) change in
+            let long = long_still b at.looks b' (Settle slot true) slot 1 (LOOK_UNITS + REMAP_UNITS) change in
+            let one = one_raised b at.looks b' (Settle slot true) slot 1 (LOOK_UNITS + REMAP_UNITS) change in
+            let zero' = one_zero b at.looks b' (Settle slot true) slot 1 (LOOK_UNITS + REMAP_UNITS) change in
             let units = dying_same d chain pointer in
             omega (arith, v.reclaiming.waiting, change.waiting, long, one, zero', units);
         zero_check = λ x is. row_still x (v.reclaiming.zero_check x (sym change.zero_check ∙ is));
         raised = stay.1.raised (omega arith);
       };
       pointers = none_stale;
-      room = look_room b at.looks b' (Settle slot) slot 1 (LOOK_UNITS + REMAP_UNITS) change d s u v refl (omega arith) refl (omega (arith, spare));
+      room = look_room b at.looks b' (Settle slot true) slot 1 (LOOK_UNITS + REMAP_UNITS) change d s u v refl (omega arith) refl (omega (arith, spare));
       trace = trace_after;
       still = still_settles 15 b b' s u own same v.still;
     }

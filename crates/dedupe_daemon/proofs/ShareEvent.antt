@@ -1,5 +1,5 @@
 -- The event of a place that comes to share a page: the volume of after.
-use Rattle.std.proofs.Common.{◌≡◌, ◌≢◌, inl, inr, ⊎_elim, ℕ, ◌+◌, ◌-◌, ◌*◌, ◌<◌, ◌≤◌, List, [], ◌∷◌, length, refl, sym, ◌∙◌, ap, subst, arith}
+use Rattle.std.proofs.Common.{◌≡◌, ◌≢◌, inl, inr, ⊎_elim, ℕ, ◌+◌, ◌-◌, ◌*◌, ◌<◌, ◌≤◌, false, List, [], ◌∷◌, length, refl, sym, ◌∙◌, ap, subst, arith}
 use Rattle.std.specs.Prelude.{Option, Some, IsSome, All, Contains, slice_get, vec_len, vec_capacity}
 use Rattle.std.specs.VecDeque.{deque_len, deque_capacity}
 use Rattle.std.specs.Option.{option_map}
@@ -92,7 +92,7 @@ module _ (d : Disk) (b : Parts) (s : State) (v : IsVolume d b s) (sharing : Shar
     m = record { block = n.page; slot = item; bit = 0 }
 
     abbrev now : Sharing
-    now = record sharing { step = Settle slot }
+    now = record sharing { step = Settle slot false }
 
     pub remapped_now : b'.sharing ≡ Some now
     remapped_now = change.sharing sharing begun

@@ -1,6 +1,6 @@
 -- The daemon maps a place to the page of a row that has the same bytes.
 use Rattle.std.specs.Prelude.{◌≡◌, ◌≢◌, ◌⊎◌, ℕ, ◌+◌, ◌-◌, ◌≤◌, List, [], ◌∷◌, ◌++◌}
-use Rattle.std.specs.Prelude.{Option, Some, None}
+use Rattle.std.specs.Prelude.{Option, Some, None, false}
 use Rattle.std.specs.FinMap.{get}
 use Rattle.pm_device.specs.State.{State}
 use Rattle.pm_device.specs.Settled.{LeavesOnly, StoresOnly, KeepsFlushed, Others}
@@ -129,7 +129,7 @@ pub record RemapsPart (n : NewPlace) (m : KeptMapping) (slot : ℕ) (b b' : Part
   pub queue : b'.queue ≡ b.queue
   pub flights : b'.flights ≡ b.flights
   pub sharing : (was : Sharing) → b.sharing ≡ Some was
-      → b'.sharing ≡ Some (record was { step = Settle slot })
+      → b'.sharing ≡ Some (record was { step = Settle slot false })
   pub reclaiming : b'.reclaiming ≡ b.reclaiming
   pub history : b'.history ≡ b.history
   pub trace : b'.trace ≡ b.trace

@@ -34,7 +34,10 @@ pub fn insert_row<D: Pm, F: Fingerprint>(
     match insert(&mut v.parts.fact, &mut v.device, DAEMON, print, page) {
         Ok(slot) => {
             let word = CountWord { rfc: 0, uc: 1 }.word();
-            let step = SharingStep::Settle { slot };
+            let step = SharingStep::Settle {
+                slot,
+                inserted: true,
+            };
             note_looked(&mut v.parts, step, slot, word, LOOK_UNITS + REMAP_UNITS);
             Outcome::Running {
                 left: events_left(&v.parts),

@@ -169,7 +169,11 @@ fn note_remapped(parts: &mut Parts, n: &NewPlace, mapping: Mapping, slot: u64)
     ensures { RemapsPart n.now mapping slot parts.old parts.new }
 {
     if let Some(sharing) = parts.sharing {
-        parts.sharing = Some(at_step(sharing, SharingStep::Settle { slot }));
+        let step = SharingStep::Settle {
+            slot,
+            inserted: false,
+        };
+        parts.sharing = Some(at_step(sharing, step));
     }
     map_inode(&mut parts.inodes, n.ino, n.idx, mapping);
     parts.free.give_back(n.was);

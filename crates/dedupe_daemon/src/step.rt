@@ -46,7 +46,7 @@ fn step_left(step: SharingStep) -> u64
     match step {
         SharingStep::Look => 3,
         SharingStep::Remap { .. } => 2,
-        SharingStep::Settle { .. } => 1,
+        SharingStep::Settle { inserted, .. } => { if inserted { 2 } else { 1 } }
     }
 }
 

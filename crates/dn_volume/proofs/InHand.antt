@@ -119,7 +119,7 @@ module _ (inodes pages : List ℕ) (d e : Disk) (valid : IsValid d) (rest : Keep
                 };
               })));
         }
-    step_same (Settle slot) at st =
+    step_same (Settle slot inserted) at st =
         let still = row_kept st.row st.at_slot.there (added_once slot st.row.slot st.at_slot.slot_is (ap added_to_share begun_is ∙ ap added_at at)) in
         record {
           some = st.some;

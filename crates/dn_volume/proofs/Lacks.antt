@@ -250,7 +250,7 @@ module _ (d : Disk) (b : Parts) (s : State) (volume : IsVolume d b s) (none_wait
     where
       by : (step : SharingStep) → 1 ≤ times row.slot (raised_at step) → step ≡ Remap row.slot
       by Look none = absurd (omega (arith, none))
-      by (Settle slot) none = absurd (omega (arith, none))
+      by (Settle slot inserted) none = absurd (omega (arith, none))
       by (Remap slot) one = ⊎_elim (λ same. ap Remap same) (λ none. absurd (none_listed row.slot none))
           (cons_cases slot row.slot [] (times_listed row.slot (slot ∷ []) one))
 

@@ -46,12 +46,12 @@ raised_by (Some f) = take f.raised f.rows.items
 abbrev pub raised_at : SharingStep → List ℕ
 raised_at Look = []
 raised_at (Remap slot) = slot ∷ []
-raised_at (Settle slot) = []
+raised_at (Settle slot inserted) = []
 
 abbrev pub added_at : SharingStep → List ℕ
 added_at Look = []
 added_at (Remap slot) = []
-added_at (Settle slot) = slot ∷ []
+added_at (Settle slot inserted) = slot ∷ []
 
 abbrev pub raised_to_share : Option Sharing → List ℕ
 raised_to_share None = []

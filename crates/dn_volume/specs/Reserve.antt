@@ -62,13 +62,13 @@ owed_sum b kind = total 14 (λ k. kind (owed_to (flight_at b.flights.items k)))
 abbrev pub units_spent : SharingStep → ℕ
 units_spent Look = 0
 units_spent (Remap slot) = cost.LOOK_UNITS
-units_spent (Settle slot) = cost.LOOK_UNITS + cost.REMAP_UNITS
+units_spent (Settle slot inserted) = cost.LOOK_UNITS + cost.REMAP_UNITS
 
 -- the row is inserted or raised, and settled
 abbrev pub changes_spent : SharingStep → ℕ
 changes_spent Look = 0
 changes_spent (Remap slot) = 1
-changes_spent (Settle slot) = 1
+changes_spent (Settle slot inserted) = 1
 
 abbrev pub units_to_share : Option Sharing → ℕ
 units_to_share None = 0

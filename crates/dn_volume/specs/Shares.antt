@@ -72,7 +72,7 @@ pub record IsToSettle (d : Disk) (sharing : Sharing) (slot : ℕ) : Type 0 where
 abbrev pub IsAtStep : Disk → Sharing → SharingStep → Type 0
 IsAtStep d sharing Look = sharing.done ≤ sharing.count
 IsAtStep d sharing (Remap slot) = IsToRemap d sharing slot
-IsAtStep d sharing (Settle slot) = IsToSettle d sharing slot
+IsAtStep d sharing (Settle slot inserted) = IsToSettle d sharing slot
 
 pub record IsSharing (d : Disk) (sharing : Sharing) : Type 0 where
   pub begun : IsBegun d sharing

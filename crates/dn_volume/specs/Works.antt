@@ -50,11 +50,12 @@ Works state print who stand lowers v v' d told.NoMemory =
 Works state print who stand lowers v v' d told.Stopped =
     Breaks state print who None v v' d × MayWork stand
 
--- The daemon has so many events left of the item that it has begun, 0 where that is ended.
+-- The daemon has so many events left of the item that it has begun, 0 where that is ended. A row
+-- that was inserted is settled by an event that counts for two: no place is mapped anew in between.
 abbrev pub step_events : SharingStep → ℕ
 step_events Look = 3
 step_events (Remap slot) = 2
-step_events (Settle slot) = 1
+step_events (Settle slot inserted) = if inserted then 2 else 1
 
 abbrev pub sharing_events : Option Sharing → ℕ
 sharing_events None = 0

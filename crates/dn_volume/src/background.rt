@@ -31,6 +31,8 @@ pub enum SharingStep {
     Settle {
         /// The slot of the row.
         slot: u64,
+        /// Whether the row was inserted for the place: nothing was mapped anew between its look and this.
+        inserted: bool,
     },
 }
 

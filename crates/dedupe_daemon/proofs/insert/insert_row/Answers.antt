@@ -1,4 +1,4 @@
-use Rattle.std.proofs.Common.{ℕ, ◌+◌, sym, subst}
+use Rattle.std.proofs.Common.{ℕ, ◌+◌, true, sym, subst}
 use Rattle.dn_volume.specs.declared.units.TheConstants.{LOOK_UNITS, REMAP_UNITS}
 use Rattle.dn_volume.specs.declared.background.SharingStep.TheVariants.{Settle}
 use Rattle.dn_volume.specs.Works.{DaemonLowers}
@@ -57,7 +57,7 @@ pub events_left-requires : goal.events_left-requires
 events_left-requires g c = insert_few g.D.Pm.state g.F.Fingerprint.print c.args.v.now c.args.print.now c.args.page
     (twenty_bytes c.args.print.now c.told-print c.fits-print) (λ d v. to_insert c.args.v.now.parts c.args.sharing c.requires.looking
     g.F.Fingerprint.print d c.args.page c.args.print.now (c.requires.place d v)) c.requires.agrees c.requires.running c.note_looked.new.parts
-    c.in-Ok.slot c.word-word.result (LOOK_UNITS + REMAP_UNITS) (looks_since (Settle c.in-Ok.slot) c.in-Ok.slot c.word-word.result
+    c.in-Ok.slot c.word-word.result (LOOK_UNITS + REMAP_UNITS) (looks_since (Settle c.in-Ok.slot true) c.in-Ok.slot c.word-word.result
     (LOOK_UNITS + REMAP_UNITS) c.args.v.now.parts c.insert.new.fact c.note_looked.new.parts c.note_looked.ensures.looks)
 
 pub returns-in-Ok-clause-agrees : goal.returns-in-Ok-clause-agrees
@@ -69,15 +69,15 @@ returns-in-Ok-clause-agrees g c =
     v)) (record { device = c.insert.new.device; print = c.args.v.now.print; parts = c.note_looked.new.parts }) c.insert.new.fact
     c.insert.ensures.only c.insert.ensures.images (g.met.D.Pm.agree c.insert.new.device) c.insert.ensures.faults found.0 found.1 c.in-Ok.slot
     c.in-Ok.ensures.done c.insert.ensures.others c.in-Ok.ensures.settles c.insert.ensures.spare
-    (subst (λ (word : ℕ). Looks (Settle c.in-Ok.slot) c.in-Ok.slot word (LOOK_UNITS + REMAP_UNITS) c.args.v.now.parts c.note_looked.new.parts)
-    c.word-word.ensures (looks_since (Settle c.in-Ok.slot) c.in-Ok.slot c.word-word.result (LOOK_UNITS + REMAP_UNITS) c.args.v.now.parts
+    (subst (λ (word : ℕ). Looks (Settle c.in-Ok.slot true) c.in-Ok.slot word (LOOK_UNITS + REMAP_UNITS) c.args.v.now.parts c.note_looked.new.parts)
+    c.word-word.ensures (looks_since (Settle c.in-Ok.slot true) c.in-Ok.slot c.word-word.result (LOOK_UNITS + REMAP_UNITS) c.args.v.now.parts
     c.insert.new.fact c.note_looked.new.parts c.note_looked.ensures.looks)) c.note_looked.ensures.fact
 
 pub returns-in-Ok-clause-event : goal.returns-in-Ok-clause-event
 returns-in-Ok-clause-event g c = λ d v.
     let S = g.D.Pm.state in
-    let change = subst (λ (word : ℕ). Looks (Settle c.in-Ok.slot) c.in-Ok.slot word (LOOK_UNITS + REMAP_UNITS) c.args.v.now.parts
-    c.note_looked.new.parts) c.word-word.ensures (looks_since (Settle c.in-Ok.slot) c.in-Ok.slot c.word-word.result (LOOK_UNITS + REMAP_UNITS)
+    let change = subst (λ (word : ℕ). Looks (Settle c.in-Ok.slot true) c.in-Ok.slot word (LOOK_UNITS + REMAP_UNITS) c.args.v.now.parts
+    c.note_looked.new.parts) c.word-word.ensures (looks_since (Settle c.in-Ok.slot true) c.in-Ok.slot c.word-word.result (LOOK_UNITS + REMAP_UNITS)
     c.args.v.now.parts c.insert.new.fact c.note_looked.new.parts c.note_looked.ensures.looks) in (
       insert_moves S g.F.Fingerprint.print c.args.v.now c.args.print.now c.args.page
           (twenty_bytes c.args.print.now c.told-print c.fits-print) (λ d v. to_insert c.args.v.now.parts c.args.sharing c.requires.looking
