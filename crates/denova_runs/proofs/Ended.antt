@@ -13,9 +13,9 @@ use Rattle.dn_volume.specs.Sound.{Sound}
 use Rattle.dn_volume.proofs.SoundStays.{rose_since}
 use Rattle.dn_core.specs.declared.event.DrainFault.TheVariants as drain_fault
 use Rattle.dn_core.specs.Rest.{Drained, DrainFails, Rounds}
-use Rattle.volume_runs.specs.Reaching.{Reaches}
-use Rattle.volume_runs.specs.declared.script.RunFault.{RunFault}
-use Rattle.volume_runs.specs.declared.script.RunFault.TheVariants as fault
+use Rattle.job_runs.specs.Reaching.{Reaches}
+use Rattle.job_runs.specs.declared.script.RunFault.{RunFault}
+use Rattle.job_runs.specs.declared.script.RunFault.TheVariants as fault
 use Rattle.job_runs.specs.declared.plan.Order.{Order}
 use Rattle.job_runs.specs.Scripts.{Rises, Suits}
 use Rattle.job_runs.specs.Playing.{IsNew, RunsJob, EndsJob}

@@ -13,8 +13,8 @@ use Rattle.dn_volume.specs.Accounts.{KeepsAlone}
 use Rattle.dn_volume.specs.Sound.{Sound}
 use Rattle.dn_mount.specs.declared.fault.MountFault.{MountFault}
 use Rattle.dn_mount.specs.declared.fault.MountFault.TheVariants as why
-use Rattle.volume_runs.specs.declared.script.RunFault.{RunFault}
-use Rattle.volume_runs.specs.declared.script.RunFault.TheVariants as fault
+use Rattle.job_runs.specs.declared.script.RunFault.{RunFault}
+use Rattle.job_runs.specs.declared.script.RunFault.TheVariants as fault
 use Rattle.job_runs.specs.declared.plan.Order.{Order}
 use Rattle.denova_runs.specs.declared.run.RunEnd.{RunEnd}
 use Rattle.denova_runs.specs.declared.run.RunEnd.TheVariants as end

@@ -17,10 +17,9 @@ use dn_mount::fault::MountFault;
 use dn_mount::mount::mount;
 use dn_volume::Volume;
 use fingerprint::Fingerprint;
-use job_runs::{Order, Scripts, play};
+use job_runs::{Order, RunFault, Scripts, play};
 use pm_device::Pm;
 use std::alloc::Global;
-use volume_runs::RunFault;
 
 /// Why a run didn't come to its end.
 #[derive(Debug, Drop)]

@@ -25,7 +25,7 @@ use Rattle.dn_volume.proofs.Soundness.{sound_disk}
 use Rattle.dn_core.specs.declared.event.Event.{Event}
 use Rattle.dn_core.specs.declared.event.Event.TheVariants.{Begin, Advance, Daemon, Reclaim}
 use Rattle.dn_core.specs.Steps.{Steps, actor_of}
-use Rattle.volume_runs.specs.Reaching.{WasStopped}
+use Rattle.job_runs.specs.Reaching.{WasStopped}
 use Rattle.job_runs.specs.declared.plan.Order.{Order}
 use Rattle.job_runs.specs.declared.turn.Turn.{Turn}
 use Rattle.job_runs.specs.Turns.{Played, Upcoming, next_op, upcoming, at_start, after}

@@ -1,3 +1,5 @@
+pub mod Told
+pub mod Onward
 pub mod Turned
 pub mod BeginsLeft
 pub mod BeginsHeld

@@ -1,3 +1,5 @@
+pub mod Reaching
+pub mod Telling
 pub mod Turns
 pub mod Plays
 pub mod Scripts

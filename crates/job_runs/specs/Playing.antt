@@ -10,9 +10,9 @@ use Rattle.dn_volume.specs.Parties.{Flies, flight_of}
 use Rattle.dn_volume.specs.Flights.{left_of}
 use Rattle.dn_volume.specs.Works.{sharing_events}
 use Rattle.dn_volume.specs.Resting.{AllLanded}
-use Rattle.volume_runs.specs.Reaching.{WasStopped}
-use Rattle.volume_runs.specs.declared.script.RunFault.{RunFault}
-use Rattle.volume_runs.specs.declared.script.RunFault.TheVariants as fault
+use Rattle.job_runs.specs.Reaching.{WasStopped}
+use Rattle.job_runs.specs.declared.script.RunFault.{RunFault}
+use Rattle.job_runs.specs.declared.script.RunFault.TheVariants as fault
 use Rattle.job_runs.specs.declared.plan.Order.{Order}
 use Rattle.job_runs.specs.Turns.{Played, next_op}
 use Rattle.job_runs.specs.Plays.{Move, Plays, PlayedAll}

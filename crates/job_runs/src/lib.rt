@@ -5,7 +5,9 @@ pub mod laws;
 pub mod plan;
 mod player;
 pub mod running;
+pub mod script;
 mod turn;
 
 pub use plan::{Order, Script, Scripts};
 pub use running::play;
+pub use script::{RunFault, run_script};

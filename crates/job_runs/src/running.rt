@@ -3,19 +3,19 @@ ghost use Rattle.std.specs.Prelude.{◌≡◌, ◌≤◌};
 ghost use Rattle.dn_model.specs.Course.{Base};
 ghost use Rattle.dn_volume.specs.Agrees.{Agrees};
 ghost use Rattle.dn_volume.specs.Sound.{Sound};
-ghost use Rattle.volume_runs.specs.Reaching.{Reaches};
+ghost use Rattle.job_runs.specs.Reaching.{Reaches};
 ghost use Rattle.job_runs.specs.Scripts.{Rises, Suits};
 ghost use Rattle.job_runs.specs.Playing.{IsNew, RunsJob, EndsJob};
 
 use crate::plan::{Order, Scripts};
 use crate::player::Player;
+use crate::script::RunFault;
 use crate::turn::turn_of;
 use dn_core::step;
 use dn_volume::{Outcome, Volume};
 use fingerprint::Fingerprint;
 use pm_device::Pm;
 use std::alloc::Global;
-use volume_runs::RunFault;
 
 // The events after which a run would give up. None makes as many: each event of an operation in flight, of the daemon or of
 // reclaim leaves less of its work, a begin that waits for releases leaves less that waits, and one that is held up comes

@@ -1,6 +1,6 @@
 use Rattle.std.proofs.Common.{arith}
 use Rattle.std.proofs.lemmas.Result.{err_from_is_err_and}
-use Rattle.volume_runs.proofs.Onward.{reach_none, reach_next}
+use Rattle.job_runs.proofs.Onward.{reach_none, reach_next}
 use Rattle.job_runs.proofs.Going.{
   stands_first,
   none_so,

@@ -1,7 +1,7 @@
 use Rattle.dn_model.specs.Course.{Base}
 use Rattle.dn_volume.specs.Agrees.{Agrees}
 use Rattle.dn_volume.specs.Sound.{Sound}
-use Rattle.volume_runs.specs.Reaching.{Reaches}
+use Rattle.job_runs.specs.Reaching.{Reaches}
 use Rattle.job_runs.proofs.Going.{Stands}
 use Rattle.job_runs.proofs.running.play.Given as goal
 

@@ -1,8 +1,8 @@
 use Rattle.std.proofs.Common.{◌≡◌, Bool, true, subst}
 use Rattle.std.specs.Prelude.{Ok}
-use Rattle.volume_runs.specs.Reaching.{BeginsOp}
-use Rattle.volume_runs.proofs.Onward.{reach_then, runs_since}
-use Rattle.volume_runs.proofs.script.run_op.Goals as goal
+use Rattle.job_runs.specs.Reaching.{BeginsOp}
+use Rattle.job_runs.proofs.Onward.{reach_then, runs_since}
+use Rattle.job_runs.proofs.script.run_op.Goals as goal
 
 pub returns-then-branch-clause-reaches : goal.returns-then-branch-clause-reaches
 returns-then-branch-clause-reaches g c =

@@ -2,9 +2,9 @@ use Rattle.std.proofs.Common.{◌≡◌, ◌∙◌, ◌++◌, ◌∷◌, [], Lis
 use Rattle.std.proofs.lemmas.List.{take_more, take-append-drop}
 use Rattle.std.proofs.lemmas.Result.{err_from_is_err_and}
 use Rattle.dn_model.specs.declared.op.Op.{Op}
-use Rattle.volume_runs.specs.Reaching.{RunsAll, RunsScript}
-use Rattle.volume_runs.proofs.Onward.{reach_none, reach_then, steady_none, steady_then, all_none, all_next, ends_since}
-use Rattle.volume_runs.proofs.script.run_script.Goals as goal
+use Rattle.job_runs.specs.Reaching.{RunsAll, RunsScript}
+use Rattle.job_runs.proofs.Onward.{reach_none, reach_then, steady_none, steady_then, all_none, all_next, ends_since}
+use Rattle.job_runs.proofs.script.run_script.Goals as goal
 
 pub loop-op-init : goal.loop-op-init
 loop-op-init g c = record {

@@ -1,8 +1,8 @@
 use Rattle.std.proofs.Common.{ℕ}
 use Rattle.dn_volume.specs.Agrees.{Agrees}
-use Rattle.volume_runs.specs.Reaching.{Reaches, IsLoose}
-use Rattle.volume_runs.specs.Telling.{SoFar}
-use Rattle.volume_runs.proofs.script.begin_op.Given as goal
+use Rattle.job_runs.specs.Reaching.{Reaches, IsLoose}
+use Rattle.job_runs.specs.Telling.{SoFar}
+use Rattle.job_runs.proofs.script.begin_op.Given as goal
 
 abbrev pub invariant-loop-again : goal.invariant-loop-again
 invariant-loop-again g l = record {

@@ -1,8 +1,8 @@
 use Rattle.std.proofs.Common.{ℕ, List, take}
 use Rattle.dn_model.specs.declared.op.Op.{Op}
 use Rattle.dn_volume.specs.Agrees.{Agrees}
-use Rattle.volume_runs.specs.Reaching.{Reaches, IsLoose, RunsAll, IsSteady}
-use Rattle.volume_runs.proofs.script.run_script.Given as goal
+use Rattle.job_runs.specs.Reaching.{Reaches, IsLoose, RunsAll, IsSteady}
+use Rattle.job_runs.proofs.script.run_script.Given as goal
 
 abbrev pub invariant-loop-op : goal.invariant-loop-op
 invariant-loop-op g l = record {

@@ -5,10 +5,10 @@ use Rattle.dn_volume.specs.declared.outcome.Outcome.{Outcome}
 use Rattle.dn_volume.specs.declared.outcome.Outcome.TheVariants as told
 use Rattle.dn_core.specs.declared.event.Event.TheVariants.{Begin, Advance}
 use Rattle.dn_core.specs.Steps.{Steps}
-use Rattle.volume_runs.specs.Telling.{BeginTells, AdvanceTells}
-use Rattle.volume_runs.proofs.Told.{begin_tells, begin_never}
-use Rattle.volume_runs.proofs.Onward.{reach_none, reach_next, far_none, far_next, stopped_since, adds_since, steady_then}
-use Rattle.volume_runs.proofs.script.begin_op.Goals as goal
+use Rattle.job_runs.specs.Telling.{BeginTells, AdvanceTells}
+use Rattle.job_runs.proofs.Told.{begin_tells, begin_never}
+use Rattle.job_runs.proofs.Onward.{reach_none, reach_next, far_none, far_next, stopped_since, adds_since, steady_then}
+use Rattle.job_runs.proofs.script.begin_op.Goals as goal
 
 pub loop-again-init : goal.loop-again-init
 loop-again-init g c = record {

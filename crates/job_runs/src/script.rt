@@ -1,7 +1,7 @@
 // A script of one client, while nobody else has anything in flight.
 ghost use Rattle.std.specs.Prelude.{◌≡◌, ◌≤◌};
 ghost use Rattle.dn_volume.specs.Agrees.{Agrees};
-ghost use Rattle.volume_runs.specs.Reaching.{Reaches, IsLoose, FliesAlone, BeginsOp, RunsOp, RunsScript};
+ghost use Rattle.job_runs.specs.Reaching.{Reaches, IsLoose, FliesAlone, BeginsOp, RunsOp, RunsScript};
 
 use dn_core::{Event, step};
 use dn_model::Op;
@@ -24,7 +24,7 @@ pub enum RunFault {
 
 impl From<AllocError> for RunFault {
     ghost use Rattle.std.specs.Prelude.{◌≡◌};
-    ghost use Rattle.volume_runs.specs.declared.script.RunFault.TheVariants.{NoMemory};
+    ghost use Rattle.job_runs.specs.declared.script.RunFault.TheVariants.{NoMemory};
 
     ghost from_gives = { λ _ e. e ≡ NoMemory };
 

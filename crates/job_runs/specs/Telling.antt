@@ -9,7 +9,7 @@ use Rattle.dn_volume.specs.declared.volume.Parts.{Parts}
 use Rattle.dn_volume.specs.declared.volume.Volume.{Volume}
 use Rattle.dn_volume.specs.Parties.{flight_of}
 use Rattle.dn_volume.specs.Flights.{left_of}
-use Rattle.volume_runs.specs.Reaching.{IsLoose, FliesAlone, WasStopped, AddsEntry, IsSteady}
+use Rattle.job_runs.specs.Reaching.{IsLoose, FliesAlone, WasStopped, AddsEntry, IsSteady}
 
 -- the history stays, the volume isn't stopped, and faults haven't fallen
 pub record GoesQuietly {D F : Type 0} (state : D → State) (v v' : Volume D F) : Type 0 where

@@ -1,9 +1,9 @@
 use Rattle.std.proofs.Common.{ℕ}
 use Rattle.dn_volume.specs.Agrees.{Agrees}
 use Rattle.dn_volume.specs.Parties.{flight_of}
-use Rattle.volume_runs.specs.Reaching.{Reaches, FliesAlone}
-use Rattle.volume_runs.specs.Telling.{SoFar, flight_left}
-use Rattle.volume_runs.proofs.script.finish_op.Given as goal
+use Rattle.job_runs.specs.Reaching.{Reaches, FliesAlone}
+use Rattle.job_runs.specs.Telling.{SoFar, flight_left}
+use Rattle.job_runs.proofs.script.finish_op.Given as goal
 
 abbrev pub invariant-loop : goal.invariant-loop
 invariant-loop g l = record {

@@ -5,10 +5,10 @@ use Rattle.dn_volume.specs.declared.outcome.Outcome.{Outcome}
 use Rattle.dn_volume.specs.declared.outcome.Outcome.TheVariants as told
 use Rattle.dn_core.specs.declared.event.Event.TheVariants.{Begin, Advance}
 use Rattle.dn_core.specs.Steps.{Steps}
-use Rattle.volume_runs.specs.Telling.{BeginTells, AdvanceTells}
-use Rattle.volume_runs.proofs.Told.{advance_tells, advance_never}
-use Rattle.volume_runs.proofs.Onward.{reach_none, reach_next, far_none, far_next, stopped_since, adds_since, steady_then}
-use Rattle.volume_runs.proofs.script.finish_op.Goals as goal
+use Rattle.job_runs.specs.Telling.{BeginTells, AdvanceTells}
+use Rattle.job_runs.proofs.Told.{advance_tells, advance_never}
+use Rattle.job_runs.proofs.Onward.{reach_none, reach_next, far_none, far_next, stopped_since, adds_since, steady_then}
+use Rattle.job_runs.proofs.script.finish_op.Goals as goal
 
 pub loop-init : goal.loop-init
 loop-init g c = record {

@@ -12,10 +12,10 @@ use Rattle.dn_volume.proofs.SoundStays.{rose_since}
 use Rattle.dn_core.specs.declared.event.Event.{Event}
 use Rattle.dn_core.specs.Steps.{Steps}
 use Rattle.dn_core.specs.Run.{Run, at_first, then_next}
-use Rattle.volume_runs.specs.declared.script.RunFault.TheVariants as fault
-use Rattle.volume_runs.specs.declared.script.RunFault.{RunFault}
-use Rattle.volume_runs.specs.Reaching.{Reaches, IsLoose, FliesAlone, WasStopped, AddsEntry, BeginsOp, RunsOp, RunsScript, RunsFront, RunsAll, AreEntriesOf, ops_of, IsSteady}
-use Rattle.volume_runs.specs.Telling.{GoesQuietly, SoFar}
+use Rattle.job_runs.specs.declared.script.RunFault.TheVariants as fault
+use Rattle.job_runs.specs.declared.script.RunFault.{RunFault}
+use Rattle.job_runs.specs.Reaching.{Reaches, IsLoose, FliesAlone, WasStopped, AddsEntry, BeginsOp, RunsOp, RunsScript, RunsFront, RunsAll, AreEntriesOf, ops_of, IsSteady}
+use Rattle.job_runs.specs.Telling.{GoesQuietly, SoFar}
 
 module _ {D F : Type 0} (state : D → State) (print : Print) where
   pub reach_none : (u : Volume D F) → Reaches state print u u

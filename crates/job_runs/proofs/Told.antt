@@ -22,8 +22,8 @@ use Rattle.dn_volume.specs.Events.{Advances, MovesOn, Breaks}
 use Rattle.dn_volume.specs.Resting.{AllLanded}
 use Rattle.dn_core.specs.declared.event.Event.TheVariants.{Begin, Advance}
 use Rattle.dn_core.specs.Steps.{Steps, Opens, GoesOn, IsNotYours}
-use Rattle.volume_runs.specs.Reaching.{IsLoose, FliesAlone, WasStopped, AddsEntry, IsSteady}
-use Rattle.volume_runs.specs.Telling.{GoesQuietly, flight_left, BeginTells, AdvanceTells}
+use Rattle.job_runs.specs.Reaching.{IsLoose, FliesAlone, WasStopped, AddsEntry, IsSteady}
+use Rattle.job_runs.specs.Telling.{GoesQuietly, flight_left, BeginTells, AdvanceTells}
 
 no_flight : (b : Parts) → AllLanded b → (who : ℕ) → 1 ≤ who → flight_at b.flights.items (who - 1) ≡ None
 no_flight b landed who some = by (flight_at b.flights.items (who - 1)) refl

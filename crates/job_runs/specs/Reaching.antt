@@ -13,8 +13,8 @@ use Rattle.dn_volume.specs.Parties.{Flies}
 use Rattle.dn_volume.specs.Resting.{AllLanded}
 use Rattle.dn_core.specs.declared.event.Event.{Event}
 use Rattle.dn_core.specs.Run.{Run}
-use Rattle.volume_runs.specs.declared.script.RunFault.{RunFault}
-use Rattle.volume_runs.specs.declared.script.RunFault.TheVariants as fault
+use Rattle.job_runs.specs.declared.script.RunFault.{RunFault}
+use Rattle.job_runs.specs.declared.script.RunFault.TheVariants as fault
 
 -- some events lead from the one volume to the other
 pub record Reaches {D F : Type 0} (state : D → State) (print : Print) (u v : Volume D F) : Type 0
