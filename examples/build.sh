@@ -35,7 +35,7 @@ fi
 
 names=$(crates_of denova_cli | sed '$d')
 count=$(($(echo "$names" | wc -l) + 1))
-echo "Proving and building $count crates with $jobs processors; the first time takes about twenty minutes on four processors."
+echo "Proving and building $count crates with $jobs processors; the first time takes about forty minutes on four processors."
 k=0
 echo "$names" | xargs -P "$jobs" -I NAME sh "$0" --one NAME "$logs" | while read -r name; do
     k=$((k + 1))

@@ -5,8 +5,8 @@ use Rattle.dn_check.specs.declared.finding.Finding.{Finding}
 use Rattle.dn_check.specs.declared.finding.Finding.TheVariants.{Fault, Sound}
 use Rattle.denova_calls.specs.Ends.{CheckEnds}
 use Rattle.denova_calls.specs.Steps.{FindingEnds}
-use Rattle.denova_calls.specs.declared.ending.Ending.{Ending}
-use Rattle.denova_calls.specs.declared.ending.Ending.TheVariants.{Done, Faulty, NoMemory}
+use Rattle.call_endings.specs.declared.ending.Ending.{Ending}
+use Rattle.call_endings.specs.declared.ending.Ending.TheVariants.{Done, Faulty, NoMemory}
 
 pub check_ends : (w : List ℕ) (finding : Finding) (e : Ending) → Tells w finding → FindingEnds finding e → CheckEnds w e
 check_ends w (Fault f) (Faulty text) tells told = (f, tells, told)

@@ -1,6 +1,10 @@
-pub mod Scripts
-pub mod OpenRuns
-pub mod Reports
+pub mod Parts
+pub mod Plans
+pub mod Runs
+pub mod Looks
+pub mod Copies
+pub mod Fronts
+pub mod Tried
 pub mod Checked
 pub mod Makes
 pub mod Statuses

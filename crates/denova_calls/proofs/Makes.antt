@@ -14,8 +14,8 @@ use Rattle.dn_report.specs.Report.{formatted_text}
 use Rattle.dn_report.specs.declared.report.Cause.TheVariants.{WrongSize}
 use Rattle.denova_calls.specs.Ends.{HasMade, MakeEnds}
 use Rattle.denova_calls.specs.Steps.{RefusalEnds}
-use Rattle.denova_calls.specs.declared.ending.Ending.{Ending}
-use Rattle.denova_calls.specs.declared.ending.Ending.TheVariants.{HalfMade, NoMemory, Refused}
+use Rattle.call_endings.specs.declared.ending.Ending.{Ending}
+use Rattle.call_endings.specs.declared.ending.Ending.TheVariants.{Failed, NoMemory, Refused}
 
 -- what `format` says of the size
 abbrev OnWrongSize : Geometry → State → Result (Unit {0}) FormatFault → Type 0
@@ -41,7 +41,7 @@ module _ (g : Geometry) (s t : State) (accepted : IsAccepted g) where
 
   pub failed_tells : (result : Result (Unit {0}) FormatFault) → OnWrongSize g s result → result ≡ Err format.Failed
       → LeavesOnly s t (IsFormatting g s.now) → Rose s.faults t.faults
-      → MakeEnds g.pages g.inodes s t HalfMade
+      → MakeEnds g.pages g.inodes s t Failed
   failed_tells result wrong failed images rose = (
     record {
       accepted = accepted;

@@ -14,16 +14,13 @@ use Rattle.std.specs.Prelude.{
   Option,
   Some,
   None,
-  IfSome,
-  Result,
-  Ok,
-  Err,
 }
 use Rattle.pm_device.specs.State.{State, IsSame, Rose}
 use Rattle.pm_device.specs.Settled.{LeavesOnly}
 use Rattle.pm_layout.specs.declared.Geometry.{Geometry}
 use Rattle.pm_layout.specs.Geometry.{IsAccepted, LacksRoom, first_data}
 use Rattle.dn_model.specs.Disk.{Disk}
+use Rattle.dn_model.specs.Own.{Print}
 use Rattle.dn_model.specs.Image.{StandsFor}
 use Rattle.dn_model.specs.Faults.{FaultOf, HasFree}
 use Rattle.dn_model.specs.Numbers.{AreNumbersOf}
@@ -31,10 +28,8 @@ use Rattle.dn_model.specs.Empty.{empty_disk, IsFormatting, IsFormatted}
 use Rattle.dn_model.specs.declared.fault.ImageFault.{ImageFault}
 use Rattle.fact_scan.specs.Seen.{as_row}
 use Rattle.fact_scan.specs.declared.row.Row.{Row}
-use Rattle.dn_script.specs.declared.job.Line.{Line}
-use Rattle.dn_script.specs.declared.job.JobFault.{JobFault}
-use Rattle.dn_script.specs.declared.job.JobFault.TheVariants as fault
-use Rattle.dn_report.specs.Report.{bad_line_text, formatted_text, refused_text}
+use Rattle.dn_script.specs.declared.line.JobForm.TheVariants as forms
+use Rattle.dn_report.specs.Report.{formatted_text, refused_text}
 use Rattle.dn_report.specs.Found.{faulty_text, found_text}
 use Rattle.dn_report.specs.declared.report.Cause.{Cause}
 use Rattle.dn_report.specs.declared.report.Cause.TheVariants.{
@@ -42,46 +37,25 @@ use Rattle.dn_report.specs.declared.report.Cause.TheVariants.{
   TooManyPages,
   BadInodes,
   WrongSize,
+  BadName,
+  NotFound,
 }
-use Rattle.denova_calls.specs.Words.{command_of}
-use Rattle.denova_calls.specs.Script.{ops_in, numbers_in, script_of}
-use Rattle.denova_calls.specs.Call.{Input, Call, IsTold}
-use Rattle.denova_calls.specs.Runs.{RunEnds}
-use Rattle.denova_calls.specs.declared.words.Command.{Command}
-use Rattle.denova_calls.specs.declared.words.Command.TheVariants as asked
-use Rattle.denova_calls.specs.declared.ending.Ending.{Ending}
-use Rattle.denova_calls.specs.declared.ending.Ending.TheVariants.{
+use Rattle.denova_words.specs.Words.{command_of}
+use Rattle.denova_words.specs.declared.words.Command.{Command}
+use Rattle.denova_words.specs.declared.words.Command.TheVariants as asked
+use Rattle.call_endings.specs.Call.{Input, Call, IsTold}
+use Rattle.call_endings.specs.declared.ending.Ending.{Ending}
+use Rattle.call_endings.specs.declared.ending.Ending.TheVariants.{
   Done,
   Usage,
-  BadLine,
   Faulty,
-  HalfMade,
-  Unread,
+  Failed,
   NoMemory,
-  TooLong,
   Refused,
 }
-
--- APPLY
-
--- a source had a text left whose script this is, where it tells what it had
-abbrev pub HasRead : Input → Result (List Line) JobFault → Type 0
-HasRead input read = IfSome input.left (λ text. script_of text ≡ read)
-
--- the script wasn't read
-abbrev pub ScriptEnds : Input → Ending → Type 0
-ScriptEnds input (BadLine text) =
-    (line : ℕ) × HasRead input (Err (fault.BadLine line)) × (text.items ≡ bad_line_text line)
-ScriptEnds input TooLong = HasRead input (Err fault.TooLong)
-ScriptEnds input Unread = Rose input.faults_before input.faults_after
-ScriptEnds input NoMemory = Unit {0}
-ScriptEnds input e = ⊥
-
--- a script is read, and then run
-pub data ApplyEnds (input : Input) (s t : State) (e : Ending) : Type 0 where
-  unread : t ≡ s → ScriptEnds input e → ApplyEnds input s t e
-  run : (lines : List Line) → HasRead input (Ok lines)
-      → RunEnds (ops_in lines) (numbers_in lines) s t e → ApplyEnds input s t e
+use Rattle.job_runs.specs.declared.plan.Order.TheVariants.{Alone, InTurns}
+use Rattle.denova_calls.specs.RunEnds.{ScriptEnds, WorkEnds}
+use Rattle.denova_calls.specs.LookEnds.{ListEnds, CatEnds, TrialEnds}
 
 -- CHECK
 
@@ -116,6 +90,8 @@ IsCause pages inodes w TooManyPages = 65536 < pages
 IsCause pages inodes w BadInodes = (64 ≤ pages) × (pages ≤ 65536) × LacksRoom pages inodes
 IsCause pages inodes w (WrongSize n) =
     IsAccepted (geometry pages inodes) × (length w ≢ 512 * pages) × (n ≡ length w)
+IsCause pages inodes w BadName = ⊥
+IsCause pages inodes w NotFound = ⊥
 
 -- on the way a crash leaves the words as they were, or no image, or the file system without files
 pub record IsBeingMade (pages inodes : ℕ) (s t : State) : Type 0 where
@@ -134,7 +110,7 @@ pub record HasMade (pages inodes : ℕ) (s t : State) (text : List ℕ) : Type 0
 
 abbrev pub MakeEnds : ℕ → ℕ → State → State → Ending → Type 0
 MakeEnds pages inodes s t (Done text) = HasMade pages inodes s t text.items
-MakeEnds pages inodes s t HalfMade = IsBeingMade pages inodes s t × Rose s.faults t.faults
+MakeEnds pages inodes s t Failed = IsBeingMade pages inodes s t × Rose s.faults t.faults
 MakeEnds pages inodes s t (Refused text) =
     IsSame s t
     × ((cause : Cause) × IsCause pages inodes s.now cause × (text.items ≡ refused_text cause))
@@ -143,18 +119,28 @@ MakeEnds pages inodes s t e = ⊥
 
 -- THE CALL
 
-abbrev pub CommandEnds : Command → Input → State → State → Ending → Type 0
-CommandEnds asked.Apply input s t e = ApplyEnds input s t e
-CommandEnds (asked.Format pages inodes) input s t e = MakeEnds pages inodes s t e
-CommandEnds asked.Check input s t e = (t ≡ s) × CheckEnds s.now e
+-- `run` needs threads, which this call doesn't have: it is answered by the usage
+abbrev pub CommandEnds : Print → Command → Input → State → State → Ending → Type 0
+CommandEnds print asked.Apply input s t e = ScriptEnds print forms.Apply Alone input s t e
+CommandEnds print asked.Replay input s t e = ScriptEnds print forms.Replay InTurns input s t e
+CommandEnds print (asked.Work n) input s t e = WorkEnds print n s t e
+CommandEnds print asked.List input s t e = ListEnds print s t e
+CommandEnds print (asked.Cat name) input s t e = CatEnds print name s t e
+CommandEnds print (asked.Trial calls pick) input s t e = TrialEnds print calls input s t e
+CommandEnds print asked.Check input s t e = (t ≡ s) × CheckEnds s.now e
+CommandEnds print (asked.Format pages inodes) input s t e = MakeEnds pages inodes s t e
+CommandEnds print asked.Run input s t e = (t ≡ s) × (e ≡ Usage)
 
--- words without a command are answered by the usage
-abbrev pub Answers : Option Command → Input → State → State → Ending → Type 0
-Answers None input s t e = (t ≡ s) × (e ≡ Usage)
-Answers (Some command) input s t e = CommandEnds command input s t e
+-- there was no memory to read the words; or they give no command; or their command was obeyed
+pub data Answers (print : Print) (asked : Option Command) (input : Input) (s t : State) (e : Ending)
+    : Type 0 where
+  unread : t ≡ s → e ≡ NoMemory → Answers print asked input s t e
+  no_command : asked ≡ None → t ≡ s → e ≡ Usage → Answers print asked input s t e
+  obeyed : (command : Command) → asked ≡ Some command → CommandEnds print command input s t e
+      → Answers print asked input s t e
 
--- what the program promises of a call
-pub record Ended (c : Call) : Type 0 where
+-- what the program promises of a call, where the image is made with this fingerprint
+pub record Ended (print : Print) (c : Call) : Type 0 where
   pub ending : Ending
-  pub answers : Answers (command_of c.words) c.input c.before c.after ending
+  pub answers : Answers print (command_of c.words) c.input c.before c.after ending
   pub told : IsTold c.output c.status ending

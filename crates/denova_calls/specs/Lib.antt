@@ -1,7 +1,8 @@
-pub mod Words
-pub mod Script
-pub mod Call
-pub mod Runs
+pub mod RunEnds
+pub mod RunSteps
+pub mod Plans
+pub mod LookEnds
+pub mod LookSteps
 pub mod Ends
 pub mod Steps
 pub mod Statuses

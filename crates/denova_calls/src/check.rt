@@ -1,26 +1,15 @@
 // An image is checked.
-ghost use Rattle.std.specs.Prelude.{◌≡◌, take, IfOk};
+ghost use Rattle.std.specs.Prelude.{◌≡◌, IfOk};
 ghost use Rattle.dn_check.specs.Finding.{Tells};
 ghost use Rattle.denova_calls.specs.Ends.{CheckEnds};
 ghost use Rattle.denova_calls.specs.Steps.{finding_text, FindingEnds};
 
-use crate::ending::Ending;
+use crate::words::words_of;
+use call_endings::Ending;
 use dn_check::{Finding, check_words};
 use dn_report::found::{Numbers, write_faulty, write_found};
 use pm_device::Pm;
 use std::alloc::{AllocError, Global};
-
-// The words of a device.
-fn words_of<D: Pm>(alloc: Global, device: &D) -> Result<Vec<u64>, AllocError>
-    ensures { IfOk result (λ words. words.items ≡ (D.state device.now).now) }
-{
-    let length = device.words();
-    let mut words = Vec::with_capacity(alloc, length as usize)?;
-    for at in 0..length {
-        words.push(device.load(at))?;
-    }
-    Ok(words)
-}
 
 // What is found of the image of a device.
 fn find<D: Pm>(alloc: Global, device: &D) -> Result<Finding, AllocError>

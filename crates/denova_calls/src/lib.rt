@@ -1,15 +1,14 @@
 //! What the program does for the words after its name, over any device, source and sink.
 #![tactic(auto)]
 
-pub mod apply;
 pub mod check;
-pub mod ending;
+mod endings;
 pub mod laws;
+pub mod look;
 pub mod make;
-pub mod report;
-pub mod script;
+mod mounted;
+pub mod plan;
+pub mod run;
 pub mod tool;
+pub mod trials;
 pub mod words;
-
-pub use ending::Ending;
-pub use words::{Command, command_of};

@@ -6,7 +6,7 @@ ghost use Rattle.dn_report.specs.Report.{formatted_text, refused_text};
 ghost use Rattle.denova_calls.specs.Ends.{MakeEnds};
 ghost use Rattle.denova_calls.specs.Steps.{cause_of, RefusalEnds};
 
-use crate::ending::Ending;
+use call_endings::Ending;
 use dn_report::report::{Cause, write_formatted, write_refused};
 use pm_device::Pm;
 use pm_layout::{Geometry, GeometryFault};
@@ -56,7 +56,7 @@ fn make<D: Pm>(alloc: Global, device: &mut D, g: Geometry) -> Ending
     match format(device, g) {
         Ok(()) => Ending::Done(text),
         Err(FormatFault::WrongSize { words }) => refused(alloc, Cause::WrongSize { words }),
-        Err(FormatFault::Failed) => Ending::HalfMade,
+        Err(FormatFault::Failed) => Ending::Failed,
         Err(FormatFault::NoMemory) => Ending::NoMemory,
     }
 }

@@ -5,8 +5,8 @@ ghost use Rattle.dn_report.specs.Report.{bad_length_text};
 
 use crate::streams::{StdSink, StdSource};
 use denova_calls::tool::tool;
-use denova_calls::{Command, command_of};
-use dn_report::report::{CANNOT_OPEN, NO_MEMORY, write_bad_length};
+use denova_words::{Command, command_of};
+use dn_report::report::{CANNOT_OPEN, NO_MEMORY, USAGE, write_bad_length};
 use dn_script::write_all;
 use fingerprint::Sha1Print;
 use pm_device::{MemPm, Pm};
@@ -16,6 +16,9 @@ use std::alloc::{AllocError, Global};
 use std::io::{Input, Print, Write};
 use std::rt::{Env, Files};
 use std::{env, io};
+
+// The status where the words give no command.
+const WITHOUT_COMMAND: u8 = 1;
 
 // The status where memory ran out.
 const WITHOUT_MEMORY: u8 = 7;
@@ -30,6 +33,15 @@ fn words_after_name(rt: &(impl Env + AllocGlobal)) -> io::Result<Vec<String>> {
         words.push(word)?;
     }
     Ok(words)
+}
+
+// Ends where the words couldn't be had: one of them is no text, or memory ran out.
+fn end_wordless<W: Write>(out: &mut StdSink<W>, error: io::Error) -> u8 {
+    if error.kind() == io::ErrorKind::InvalidData {
+        end_with(out, USAGE, WITHOUT_COMMAND)
+    } else {
+        end_with(out, NO_MEMORY, WITHOUT_MEMORY)
+    }
 }
 
 // Writes a text, and answers the status, whether or not the text was written.
@@ -73,14 +85,15 @@ enum ImageFile {
     Unopened,
 }
 
-// What these words want of the file that the first one names.
-fn image_file_of(words: &[String]) -> ImageFile {
-    match command_of(words) {
-        Some(Command::Apply | Command::Check) => ImageFile::Kept,
-        Some(Command::Format { pages, inodes }) if Geometry::of(pages, inodes).is_ok() => {
-            ImageFile::New { pages }
-        }
-        _ => ImageFile::Unopened,
+// What a command wants of the image file.
+fn image_file_of(command: Option<Command>) -> ImageFile {
+    match command {
+        Some(Command::Format { pages, inodes }) => match Geometry::of(pages, inodes) {
+            Ok(_) => ImageFile::New { pages },
+            Err(_) => ImageFile::Unopened,
+        },
+        Some(Command::Run) | None => ImageFile::Unopened,
+        Some(_) => ImageFile::Kept,
     }
 }
 
@@ -135,7 +148,10 @@ fn obey<R: Files + Input + AllocGlobal, W: Write>(
     words: &[String],
     out: &mut StdSink<W>,
 ) -> u8 {
-    match image_file_of(words) {
+    let Ok(command) = command_of(rt.alloc(), words) else {
+        return end_with(out, NO_MEMORY, WITHOUT_MEMORY);
+    };
+    match image_file_of(command) {
         ImageFile::Kept => serve(rt, None, words, out),
         ImageFile::New { pages } => serve(rt, Some(pages), words, out),
         ImageFile::Unopened => serve_unopened(rt, words, out),
@@ -145,12 +161,13 @@ fn obey<R: Files + Input + AllocGlobal, W: Write>(
 /// Does what the words after the program's name say, and answers the status that the program ends with.
 ///
 /// The first word names the image file, which is opened as it is, or for `format` made anew with so many pages; where
-/// the words give no command, or `format` has numbers that are refused, no file is opened. Status 10 is that of a file
-/// that can't be opened, or whose length is none of an image. What else comes is what `tool` answers.
+/// the words give no command (one of them may be no text), or `format` has numbers that are refused, no file is opened.
+/// Status 10 is that of a file that can't be opened, or whose length is none of an image. What else comes is what `tool`
+/// answers.
 pub fn run<R: Env + Files + Input + Print + AllocGlobal>(rt: &R) -> u8 {
     let mut out = StdSink::of(io::writer(rt));
     match words_after_name(rt) {
         Ok(words) => obey(rt, &words, &mut out),
-        Err(_) => end_with(&mut out, NO_MEMORY, WITHOUT_MEMORY),
+        Err(error) => end_wordless(&mut out, error),
     }
 }

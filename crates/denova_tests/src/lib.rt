@@ -4,6 +4,12 @@
 #[cfg(test)]
 mod calls;
 #[cfg(test)]
-mod streams;
+mod faults;
 #[cfg(test)]
-mod words;
+mod images;
+#[cfg(test)]
+mod jobs;
+#[cfg(test)]
+mod shares;
+#[cfg(test)]
+mod streams;

@@ -1,8 +1,8 @@
 -- Lemmas on the texts that are written.
 use Rattle.std.proofs.Common.{◌≡◌, ◌<◌, ◌∷◌, [], ℕ, List, length, refl, arith}
 use Rattle.hex.specs.Hex.{encode_lower}
-use Rattle.dn_report.specs.Report.{spaced, spaced_digits, usage_text, unbuilt_text, stopped_text, read_fault_text, no_memory_text, too_long_text}
-use Rattle.dn_report.specs.declared.report.TheConstants.{USAGE, UNBUILT, STOPPED, READ_FAULT, NO_MEMORY, TOO_LONG}
+use Rattle.dn_report.specs.Report.{spaced, spaced_digits, usage_text, stopped_text, read_fault_text, no_memory_text, too_long_text}
+use Rattle.dn_report.specs.declared.report.TheConstants.{USAGE, STOPPED, READ_FAULT, NO_MEMORY, TOO_LONG}
 
 -- no bytes have no digits
 pub digits_of_none : (bytes : List ℕ) → length bytes ≡ 0 → spaced_digits bytes ≡ []
@@ -19,9 +19,6 @@ digits_of_some (b ∷ bs) some = refl
 -- the texts of the program are those of the statuses
 pub usage_is : USAGE.now ≡ usage_text
 usage_is = refl
-
-pub unbuilt_is : UNBUILT.now ≡ unbuilt_text
-unbuilt_is = refl
 
 pub stopped_is : STOPPED.now ≡ stopped_text
 stopped_is = refl

@@ -20,6 +20,8 @@ use Rattle.dn_report.specs.declared.report.Cause.TheVariants.{
   TooManyPages,
   BadInodes,
   WrongSize,
+  BadName as NoName,
+  NotFound as NoFile,
 }
 
 -- a text behind a space
@@ -90,6 +92,10 @@ report_text history free = history_text history ++ last_line (length history) fr
 abbrev pub bad_line_text : ℕ → List ℕ
 bad_line_text line = codes "bad-line" ++ spaced_number line ++ line_end
 
+-- the text of a job whose schedule has a number that is no actor of it
+abbrev pub bad_turn_text : ℕ → List ℕ
+bad_turn_text number = codes "bad-turn" ++ spaced_number number ++ line_end
+
 -- the text of an image with a length that none has
 abbrev pub bad_length_text : ℕ → List ℕ
 bad_length_text bytes = codes "denova: bad length" ++ spaced_number bytes ++ line_end
@@ -100,6 +106,8 @@ cause_text TooFewPages = codes "too-few-pages"
 cause_text TooManyPages = codes "too-many-pages"
 cause_text BadInodes = codes "bad-inodes"
 cause_text (WrongSize words) = codes "wrong-size" ++ spaced_number words
+cause_text NoName = codes "bad-name"
+cause_text NoFile = codes "not-found"
 
 abbrev pub refused_text : Cause → List ℕ
 refused_text cause = codes "refused" ++ spaced (cause_text cause) ++ line_end
@@ -112,9 +120,6 @@ formatted_text pages inodes free = codes "formatted" ++ spaced_number pages ++ s
 -- the texts of the other statuses
 abbrev pub usage_text : List ℕ
 usage_text = codes "usage" ++ line_end
-
-abbrev pub unbuilt_text : List ℕ
-unbuilt_text = codes "refused unbuilt" ++ line_end
 
 abbrev pub stopped_text : List ℕ
 stopped_text = codes "stopped" ++ line_end

@@ -1,6 +1,6 @@
 // The texts that the program writes.
 ghost use Rattle.std.specs.Prelude.{◌≡◌, ◌++◌, OnOk};
-ghost use Rattle.dn_report.specs.Report.{spaced, spaced_number, spaced_digits, bytes_text, names_text, refusal_text, reply_text, history_line, line_end, last_line, bad_line_text, bad_length_text, cause_text, refused_text, formatted_text};
+ghost use Rattle.dn_report.specs.Report.{spaced, spaced_number, spaced_digits, bytes_text, names_text, refusal_text, reply_text, history_line, line_end, last_line, bad_line_text, bad_turn_text, bad_length_text, cause_text, refused_text, formatted_text};
 
 use dn_model::{Refusal, Reply};
 use itoa::Buffer;
@@ -18,13 +18,14 @@ pub enum Cause {
     BadInodes,
     /// The device has so many words, which aren't those of the pages.
     WrongSize { words: u64 },
+    /// The name isn't one that a file can have.
+    BadName,
+    /// No file has the name.
+    NotFound,
 }
 
 /// What is written where the words give no command.
 pub const USAGE: &[u8] = b"usage\n";
-
-/// What is written where the image is one that isn't served yet.
-pub const UNBUILT: &[u8] = b"refused unbuilt\n";
 
 /// What is written behind the history lines where the device stopped.
 pub const STOPPED: &[u8] = b"stopped\n";
@@ -164,6 +165,15 @@ pub fn write_bad_line(text: &mut Vec<u8>, line: u64) -> Result<(), AllocError>
     end_line(text)
 }
 
+/// Appends what is written where a schedule has a number that is no actor of the job.
+pub fn write_bad_turn(text: &mut Vec<u8>, number: u64) -> Result<(), AllocError>
+    ensures { OnOk result (text.new.items ≡ text.old.items ++ bad_turn_text number) }
+{
+    text.extend_from_slice(b"bad-turn")?;
+    write_number(text, number)?;
+    end_line(text)
+}
+
 fn write_cause(text: &mut Vec<u8>, cause: Cause) -> Result<(), AllocError>
     ensures { OnOk result (text.new.items ≡ text.old.items ++ cause_text cause) }
 {
@@ -175,6 +185,8 @@ fn write_cause(text: &mut Vec<u8>, cause: Cause) -> Result<(), AllocError>
             text.extend_from_slice(b"wrong-size")?;
             write_number(text, words)
         }
+        Cause::BadName => text.extend_from_slice(b"bad-name"),
+        Cause::NotFound => text.extend_from_slice(b"not-found"),
     }
 }
 

@@ -1,42 +1,15 @@
 -- Pages are taken from a set of free pages, and given back.
-use Rattle.std.proofs.Common.{
-  ◌≡◌,
-  ◌≢◌,
-  ◌⊎◌,
-  inl,
-  inr,
-  ⊎_elim,
-  ℕ,
-  ◌+◌,
-  ◌-◌,
-  ◌<◌,
-  ◌≤◌,
-  Bool,
-  true,
-  false,
-  List,
-  [],
-  ◌∷◌,
-  ◌++◌,
-  length,
-  refl,
-  sym,
-  ◌∙◌,
-  ap,
-  subst,
-  arith,
-  length-append,
-}
-use Rattle.std.specs.Prelude.{Contains, slice_index, slice_get, nat_lt, if◌then◌else◌, Some, None}
+use Rattle.std.proofs.Common.{◌≡◌, ◌⊎◌, inl, inr, ⊎_elim, ℕ, ◌+◌, ◌-◌, ◌<◌, Bool, true, false, List, [], ◌∷◌, ◌++◌, length, refl, sym, ◌∙◌, ap, subst, arith, length-append}
+use Rattle.std.specs.Prelude.{Contains, slice_index, nat_lt, if◌then◌else◌}
 use Rattle.std.specs.List.Sorted.{IsStrictlyIncreasing}
-use Rattle.std.proofs.lemmas.Bool.{cases_eq, cases_lt}
+use Rattle.std.proofs.lemmas.Bool.{cases_lt}
 use Rattle.std.proofs.lemmas.List.{get_or_append_left, get_or-append_right, get_or_default, append_assoc}
 use Rattle.std.proofs.lemmas.Bool.Decides.{nat_tests}
-use Rattle.std.proofs.lemmas.List.Elements.{All-contains, Contains-append_cases, Contains-append_left, Contains-append_right, Contains-get_or}
+use Rattle.std.proofs.lemmas.List.Elements.{All-contains, Contains-append_cases, Contains-append_left, Contains-append_right}
 use Rattle.std.proofs.lemmas.List.Kept.{AllPairs-from_increasing}
 use Rattle.page_alloc.specs.Free.{FreePages, IsInOrder, with_page, Takes, GivesBack}
 use Rattle.page_alloc.proofs.FreeLaws.{Contains-here, Contains-cons_cases, IsStrictlyIncreasing-cons, IsStrictlyIncreasing-tail, below_rest}
-use Rattle.file_write.specs.Take.{TakesFirst, TakesForWrite, ReturnsSpare}
+use Rattle.file_write.specs.Take.{TakesFirst}
 
 pub none_in : (q : ℕ) → Contains [] q → ⊥
 none_in q c = omega (arith, c.1)
@@ -139,44 +112,6 @@ module _ (old new : FreePages) (fresh spare blocks : List ℕ) (in_order : IsInO
   log-blocks : (p : ℕ) → Contains (fresh ++ spare) p → Contains blocks p → ⊥
   log-blocks = parts-apart (fresh ++ spare) blocks taken-rising
 
-  two : 2 ≤ length new.free → (p : ℕ) × (q : ℕ) × (p ≢ q) × Contains new.free p × Contains new.free q
-  two enough = (
-    slice_index new.free 0,
-    slice_index new.free 1,
-    (λ e. let same = rising-apart new.free (rising-behind taken new.free all_rising) 0 1 (omega (arith, enough)) (omega (arith, enough)) e in
-        omega (arith, same)),
-    Contains-get_or new.free 0 0 (omega (arith, enough)),
-    Contains-get_or new.free 1 0 (omega (arith, enough)),
-  )
-
-  pub takes-for_write : 2 ≤ length new.free → TakesForWrite old new fresh spare blocks
-  takes-for_write enough = record {
-    same = takes.same;
-    rest = λ p. (
-      (λ there. (
-        left-free p there,
-        (λ c. taken-left p (fresh-in p c) there),
-        (λ c. taken-left p (spare-in p c) there),
-        (λ c. taken-left p (blocks-in p c) there),
-      )),
-      (λ kept. ⊎_elim (λ (was : Contains taken p). absurd (out p kept.1 kept.2 kept.3 was)) (λ (n : Contains new.free p). n)
-          (taken-or_left p kept.0)),
-    );
-    fresh_free = λ p c. taken-free p (fresh-in p c);
-    spare_free = λ p c. taken-free p (spare-in p c);
-    blocks_free = λ p c. taken-free p (blocks-in p c);
-    fresh_apart = left-apart fresh spare log_rising;
-    blocks_apart = right-apart (fresh ++ spare) blocks taken-rising;
-    between = λ p b f. log-blocks p (Contains-append_left fresh spare p f) b;
-    beside = λ p c. ((λ f. parts-apart fresh spare log_rising p f c), (λ b. log-blocks p (Contains-append_right fresh spare p c) b));
-    left = two enough;
-  }
-    where
-      out : (p : ℕ) → (Contains fresh p → ⊥) → (Contains spare p → ⊥) → (Contains blocks p → ⊥) → Contains taken p → ⊥
-      out p no_fresh no_spare no_block c = ⊎_elim
-          (λ (log : Contains (fresh ++ spare) p). ⊎_elim no_fresh no_spare (Contains-append_cases fresh spare p log))
-          no_block (Contains-append_cases (fresh ++ spare) blocks p c)
-
 pub took-none : (set : FreePages) → TakesFirst set set []
 took-none set = record { same = refl; split = refl }
 
@@ -224,39 +159,6 @@ module _ (set now : FreePages) (left rest : List ℕ) (page : ℕ) (in_order : I
 -- all are put back
 pub untaken-all : (set now : FreePages) (left : List ℕ) → TakesFirst set now left → left ≡ [] → now ≡ set
 untaken-all set now left takes none = (λ i. record { pages = takes.same i; free = sym (takes.split ∙ ap (λ xs. xs ++ now.free) none) i })
-
--- a page that is given back, where it was the only one of these
-pub returned-spare : (old new : FreePages) (spare : List ℕ) (page : ℕ) → length spare ≤ 1 → slice_get spare 0 ≡ Some page → GivesBack page old new
-    → ReturnsSpare old new spare
-returned-spare old new [] page few is gives = absurd (cc)
-returned-spare old new (x ∷ y ∷ more) page few is gives = absurd (omega (arith, few))
-returned-spare old new (x ∷ []) page few is gives = record {
-  same = gives.pages;
-  free = λ p. (
-    (λ there. ⊎_elim (λ (e : p ≡ page). inr (subst (Contains (x ∷ [])) (same ∙ sym e) (Contains-here x [])))
-        (λ (ne : p ≢ page). inl ((gives.others p ne).0 there)) (cases_eq p page)),
-    (λ either. ⊎_elim
-        (λ (was : Contains old.free p). ⊎_elim (λ (e : p ≡ page). subst (Contains new.free) (sym e) gives.there)
-        (λ (ne : p ≢ page). (gives.others p ne).1 was) (cases_eq p page))
-        (λ (f : Contains (x ∷ []) p). subst (Contains new.free) (sym same ∙ only_one x p f) gives.there)
-        either),
-  );
-}
-  where
-    same : x ≡ page
-    same = cc
-
-pub returned-none : (set : FreePages) (spare : List ℕ) → slice_get spare 0 ≡ None → ReturnsSpare set set spare
-returned-none set [] is = record {
-  same = refl;
-  free = λ p.
-      ((λ there. inl there), (λ either. ⊎_elim (λ (was : Contains set.free p). was) (λ (c : Contains [] p). absurd (none_in p c)) either));
-}
-returned-none set (x ∷ xs) is = absurd (cc)
-
-pub first-in : (xs : List ℕ) (x : ℕ) → slice_get xs 0 ≡ Some x → Contains xs x
-first-in [] x is = absurd (cc)
-first-in (y ∷ ys) x is = let same : y ≡ x = cc in subst (Contains (y ∷ ys)) same (Contains-here y ys)
 
 pub none-left : (xs : List ℕ) → (0 < length xs → false ≡ true) → xs ≡ []
 none-left [] none = refl

@@ -4,7 +4,7 @@ ghost use Rattle.pm_layout.specs.declared.Geometry.{Geometry};
 ghost use Rattle.page_alloc.specs.Free.{FreePages, IsInOrder, Takes};
 ghost use Rattle.dn_model.specs.Log.{Log, IsPaged, count, tail_at};
 ghost use Rattle.dn_model.specs.History.{room, touched};
-ghost use Rattle.file_write.specs.Take.{TakesFirst, ReturnsSpare};
+ghost use Rattle.file_write.specs.Take.{TakesFirst};
 
 use crate::NoMemory;
 use page_alloc::FreeSet;
@@ -69,17 +69,5 @@ pub fn untake_pages(free: &mut FreeSet, pages: Vec<u64>)
     let mut left = pages;
     'pages: while let Some(page) = left.pop() {
         free.give_back(page);
-    }
-}
-
-/// Gives the page that was taken for a log and isn't used back, if there is one.
-pub fn give_back_spare(free: &mut FreeSet, spare: &[u64])
-    requires few { length spare.now ≤ 1 }
-    requires below { All (λ page. page < free.old.pages) spare.now }
-    requires taken { (page : ℕ) → Contains spare.now page → Contains free.old.free page → ⊥ }
-    ensures { ReturnsSpare free.old free.new spare.now }
-{
-    if let Some(page) = spare.first() {
-        free.give_back(*page);
     }
 }

@@ -1,17 +1,17 @@
-use Rattle.denova_calls.proofs.Completes.{runs, makes, refuses, finds, faults}
+use Rattle.denova_calls.proofs.Completes.{serves, shows, lacks, makes, refuses}
 use Rattle.denova_calls.proofs.laws.calls_are_completed.Goals as goal
 
-pub returns-clause-runs : goal.returns-clause-runs
-returns-clause-runs c = runs
+pub returns-clause-serves : goal.returns-clause-serves
+returns-clause-serves c = serves
+
+pub returns-clause-shows : goal.returns-clause-shows
+returns-clause-shows c = shows
+
+pub returns-clause-lacks : goal.returns-clause-lacks
+returns-clause-lacks c = lacks
 
 pub returns-clause-makes : goal.returns-clause-makes
 returns-clause-makes c = makes
 
 pub returns-clause-refuses : goal.returns-clause-refuses
 returns-clause-refuses c = refuses
-
-pub returns-clause-finds : goal.returns-clause-finds
-returns-clause-finds c = finds
-
-pub returns-clause-faults : goal.returns-clause-faults
-returns-clause-faults c = faults

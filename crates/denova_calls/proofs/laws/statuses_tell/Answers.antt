@@ -1,4 +1,4 @@
-use Rattle.denova_calls.proofs.Statuses.{at_0, at_1, at_2, at_3, at_4, at_5, at_6, at_7, at_8, at_11, known}
+use Rattle.denova_calls.proofs.Statuses.{at_0, at_1, at_2, at_3, at_4, at_5, at_6, at_7, at_8, at_9, at_11, known}
 use Rattle.denova_calls.proofs.laws.statuses_tell.Goals as goal
 
 pub returns-clause-done : goal.returns-clause-done
@@ -10,8 +10,8 @@ returns-clause-usage c = at_1
 pub returns-clause-bad_job : goal.returns-clause-bad_job
 returns-clause-bad_job c = at_2
 
-pub returns-clause-refused_image : goal.returns-clause-refused_image
-returns-clause-refused_image c = at_3
+pub returns-clause-faulty : goal.returns-clause-faulty
+returns-clause-faulty c = at_3
 
 pub returns-clause-stopped : goal.returns-clause-stopped
 returns-clause-stopped c = at_4
@@ -27,6 +27,9 @@ returns-clause-no_memory c = at_7
 
 pub returns-clause-too_long : goal.returns-clause-too_long
 returns-clause-too_long c = at_8
+
+pub returns-clause-bad_turn : goal.returns-clause-bad_turn
+returns-clause-bad_turn c = at_9
 
 pub returns-clause-refused : goal.returns-clause-refused
 returns-clause-refused c = at_11
