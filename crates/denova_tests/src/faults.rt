@@ -127,6 +127,39 @@ fn a_making_stops_and_its_text_fails(rt: HostRuntime) -> Result<(), Fail> {
     Ok(())
 }
 
+// How many fences a job's only operation makes, of nine at most: where one of them fails, nothing is answered.
+fn fences_of(rt: &(impl Abort + AllocGlobal), image: &[u64], job: &str) -> Result<u64, AllocError> {
+    for number in 1..10u64 {
+        let image = Vec::from_slice(rt.alloc(), image)?;
+        let job = Vec::from_slice(rt.alloc(), job.as_bytes())?;
+        let (_, text, _) = ended(rt.alloc(), Sha1Print, image, "apply", job, (0, 0, number))?;
+        if text.as_slice() != b"stopped\n".as_slice() {
+            return Ok(number.saturating_sub(1));
+        }
+    }
+    Ok(9)
+}
+
+#[test]
+fn operations_make_few_fences(rt: HostRuntime) -> Result<(), Fail> {
+    let made = check_new(&rt, &[])?;
+    let (_, device) = text_of(&rt, &made, "apply", "create f\nwrite f 0 61\n")?;
+    let image = words_left(rt.alloc(), &device)?;
+    // the page that is written over, or cut, has a row, which is raised by a fence of its own
+    for (job, wanted) in [
+        ("write f 4096 62\n", 2),
+        ("write f 0 62\n", 3),
+        ("cut f 0\n", 3),
+        ("create g\n", 4),
+        ("remove f\n", 4),
+        ("rename f g\n", 4),
+    ] {
+        let fences = fences_of(&rt, &image, job)?;
+        assert_eq!(rt; fences, wanted, "{job:?}");
+    }
+    Ok(())
+}
+
 // The jobs that make files, and those that are tried on them.
 const TRIED: [(&str, &str); 6] = [
     ("", "create f\n"),
