@@ -1,0 +1,3 @@
+pub mod PartsLoop
+pub mod NamesBack
+pub mod Counted
