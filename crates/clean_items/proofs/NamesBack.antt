@@ -65,7 +65,8 @@ turned met (Add ino new) items adds last names =
     ∙ ap (λ (b : Bool). reverse (if b then [] else (Add ino new ∷ [])) ++ reverse adds) (names new)
     ∙ by_test (list_any (is_of_name new) items)
   where
-    by_test : (b : Bool) → reverse (if b then [] else (Add ino new ∷ [])) ++ reverse adds ≡ (if b then last_adds items else (Add ino new ∷ last_adds items))
+    by_test : (b : Bool) → reverse (if b then [] else (Add ino new ∷ [])) ++ reverse adds
+        ≡ (if b then last_adds items else (Add ino new ∷ last_adds items))
     by_test true = last
     by_test false = ap (λ (rest : List LogItem). Add ino new ∷ rest) last
 

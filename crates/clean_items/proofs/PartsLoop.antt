@@ -28,7 +28,8 @@ module _ (test : ℕ → Bool) (size first count block : ℕ) (flag : Flag) (mas
   abbrev part : ℕ → LogItem
   part from = part_of size first block flag mask from (run_len test from (first + count - from))
 
-  mapped_filter : (x : ℕ) (b : Bool) → begins_run test first x ≡ b → map part (filter (begins_run test first) (x ∷ [])) ≡ (if b then (part x ∷ []) else [])
+  mapped_filter : (x : ℕ) (b : Bool) → begins_run test first x ≡ b
+      → map part (filter (begins_run test first) (x ∷ [])) ≡ (if b then (part x ∷ []) else [])
   mapped_filter x b e = ap (λ (t : Bool). map part (cond t (x ∷ []) [])) e ∙ by_test b
     where
       by_test : (b : Bool) → map part (cond b (x ∷ []) []) ≡ (if b then (part x ∷ []) else [])
@@ -41,7 +42,8 @@ module _ (test : ℕ → Bool) (size first count block : ℕ) (flag : Flag) (mas
       ap (λ (xs : List ℕ). map part (filter (begins_run test first) xs)) (range_more first n)
       ∙ ap (map part) (filter-append (begins_run test first) (range_with_len first n) ((first + n) ∷ []))
       ∙ map-append part (filter (begins_run test first) (range_with_len first n)) (filter (begins_run test first) ((first + n) ∷ []))
-      ∙ ap (λ (xs : List LogItem). parts_to test size first count block flag mask n ++ xs) (mapped_filter (first + n) (begins_run test first (first + n)) refl)
+      ∙ ap (λ (xs : List LogItem). parts_to test size first count block flag mask n ++ xs)
+      (mapped_filter (first + n) (begins_run test first (first + n)) refl)
 
   pub parts_to-more : (from : ℕ) (old mid new : List LogItem) → first ≤ from
       → mid ≡ old ++ parts_to test size first count block flag mask (from - first)

@@ -27,7 +27,8 @@ abbrev pub maps_still : PlacesMap → ℕ → ℕ → Bool
 maps_still places slot idx = is_kept_by slot (get places idx)
 
 -- the part of a Write for the run that begins at a place, if one does
-abbrev pub part_at : (ℕ → Bool) → (size first count block : ℕ) → Flag → (mask from : ℕ) → List LogItem
+abbrev pub part_at : (ℕ → Bool) → (size first count block : ℕ) → Flag → (mask from : ℕ)
+    → List LogItem
 part_at test size first count block flag mask from =
     if begins_run test first from then
     (part_of size first block flag mask from (run_len test from (first + count - from)) ∷ [])

@@ -52,7 +52,8 @@ module _ (name : List ℕ) where
   by_add : (ino : ℕ) (new : List ℕ) (found : Option ℕ) (items : List LogItem) (t r : Bool) → same_name new name ≡ t → again items ≡ r
       → (t || r) ≡ true → (r ≡ true → (o : Option ℕ) → named_after name o items ≡ named_after name None (last_adds items))
       → (b : Bool) → list_any (is_of_name new) items ≡ b
-      → named_after name (if t then Some ino else found) items ≡ named_after name None (if b then last_adds items else (Add ino new ∷ last_adds items))
+      → named_after name (if t then Some ino else found) items
+      ≡ named_after name None (if b then last_adds items else (Add ino new ∷ last_adds items))
   by_add ino new found items t true is more some rest true same = rest refl (if t then Some ino else found)
   by_add ino new found items true true is more some rest false same =
       let clash : true ≡ false = sym more ∙ ap (λ (n : List ℕ). list_any (is_of_name n) items) (sym (same_name-true new name is)) ∙ same in cc

@@ -189,8 +189,8 @@ module _ (log : Log) where
       fit : (idx : ℕ) (m : Mapping) → part.from ≤ idx → idx < part.from + n → mapping log idx ≡ Some m → Maps part.by idx m
           → Fits log idx part.from (part.block + (part.from - part.first)) part.flag mask
       fit idx m low high e maps =
-          let same : Write part.first part.count part.block part.was part.flag part.mask ≡ Write maps.first maps.count maps.block maps.size m.flag m.mask
-          = sym part.item_is ∙ maps.item_is in
+          let same : Write part.first part.count part.block part.was part.flag part.mask
+          ≡ Write maps.first maps.count maps.block maps.size m.flag m.mask = sym part.item_is ∙ maps.item_is in
           let first : part.first ≡ maps.first = cc in
           let block : part.block ≡ maps.block = cc in
           let flag : part.flag ≡ m.flag = cc in

@@ -1,0 +1,15 @@
+pub mod Hands
+pub mod Past
+pub mod Going
+pub mod Quiet
+pub mod Keeping
+pub mod Stepped
+pub mod Giving
+pub mod Telling
+pub mod Marked
+pub mod Turned
+pub mod Rowed
+pub mod Opened
+pub mod Closed
+pub mod Leaving
+pub mod Calling

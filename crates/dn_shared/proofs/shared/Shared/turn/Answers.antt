@@ -1,0 +1,30 @@
+use Rattle.std.proofs.Common.{length, refl, ap}
+use Rattle.dn_shared.proofs.Turned.{holds_then, longer, ready, turned}
+use Rattle.dn_shared.proofs.shared.Shared.turn.Goals as goal
+
+pub step-outcome-requires : goal.step-outcome-requires
+step-outcome-requires g c = record {
+  agrees = (holds_then g.D.Pm.state g.F.Fingerprint.print _ _ c.args.pass.now c.take_turn-site.new.pass c.take_turn-site.result c.requires.own
+      c.take_turn-site.ensures).agrees;
+}
+
+pub pass_turn-requires-clause-inside : goal.pass_turn-requires-clause-inside
+pass_turn-requires-clause-inside g c = let is = c.count_event-events.ensures in
+    longer g.D.Pm.state g.F.Fingerprint.print _ _ c.args.pass.now c.take_turn-site.new.pass c.take_turn-site.result c.requires.own
+    c.take_turn-site.ensures c.count_event-events.new.self c.step-outcome.new.v (ap (λ s. s.volume) is) (ap (λ s. s.gone.items) is)
+    (ap (λ s. s.opening.items) is) c.step-outcome.ensures.agrees c.step-outcome.ensures.sound c.args.event c.step-outcome.result c.requires.may
+    c.step-outcome.ensures.event _ (ap length c.trace-from.ensures)
+
+pub pass_turn-requires-clause-ready : goal.pass_turn-requires-clause-ready
+pass_turn-requires-clause-ready g c = let is = c.count_event-events.ensures in
+    ready g.D.Pm.state g.F.Fingerprint.print _ _ c.args.pass.now c.take_turn-site.new.pass c.take_turn-site.result c.requires.own
+    c.take_turn-site.ensures c.count_event-events.new.self c.step-outcome.new.v (ap (λ s. s.volume) is) (ap (λ s. s.gone.items) is)
+    (ap (λ s. s.opening.items) is) c.step-outcome.ensures.agrees c.step-outcome.ensures.sound c.args.event c.step-outcome.result c.requires.may
+    c.step-outcome.ensures.event _ _ (ap length c.trace-from.ensures) c.args.self.now.counted
+
+pub returns-clause-tells : goal.returns-clause-tells
+returns-clause-tells g c = let is = c.count_event-events.ensures in
+    turned g.D.Pm.state g.F.Fingerprint.print _ _ c.args.pass.now c.take_turn-site.new.pass c.take_turn-site.result c.requires.own
+    c.take_turn-site.ensures c.count_event-events.new.self c.step-outcome.new.v (ap (λ s. s.volume) is) (ap (λ s. s.gone.items) is)
+    (ap (λ s. s.opening.items) is) c.step-outcome.ensures.agrees c.step-outcome.ensures.sound c.args.event c.step-outcome.result c.requires.may
+    c.step-outcome.ensures.event c.pass_turn.new.pass c.pass_turn.ensures _ refl c.is_deserted-deserted.ensures
