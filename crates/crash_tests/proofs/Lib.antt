@@ -1,0 +1,2 @@
+mod NewStill
+mod Opened
