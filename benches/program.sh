@@ -54,6 +54,8 @@ files() {
     "$1" "$folder/files.img" format "$2" "$3" >/dev/null
     files_job "$4" "$5" >"$folder/job"
     timed "$1" "apply, $4 files of $5 pages, $2 pages" "$folder/files.img" apply
+    echo bad >"$folder/job"
+    timed "$1" "  open: apply of a bad line" "$folder/files.img" apply
     : >"$folder/job"
     timed "$1" "  mount: apply of nothing" "$folder/files.img" apply
     timed "$1" "  list" "$folder/files.img" list
