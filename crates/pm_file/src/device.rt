@@ -12,7 +12,8 @@ use pm_layout::{MOST_PAGES, PAGE_BYTES};
 use std::alloc::AllocError;
 use std::fs::{File, Files, OpenFile, OpenOptions};
 use std::io;
-use std::io::{Read, Seek, Write};
+use std::io::Read;
+use std::os::unix::fs::FileExt;
 
 #[cfg(test)]
 mod tests;
@@ -40,8 +41,8 @@ pub struct FilePm<F = File> {
 }
 
 // Writes the lines that this actor flushed, and syncs the file.
-fn write_flushed<F: Write + Seek + OpenFile>(
-    file: &mut F,
+fn write_flushed<F: FileExt + OpenFile>(
+    file: &F,
     words: &[u64],
     flushed: &[Flushed],
     who: u32,
@@ -106,7 +107,7 @@ fn make_file<R: Files>(rt: &R, path: &str, bytes: u64) -> io::Result<R::File> {
     Ok(file)
 }
 
-impl<F: Read + Write + Seek + OpenFile + Drop> FilePm<F> {
+impl<F: Read + FileExt + OpenFile + Drop> FilePm<F> {
     ghost use Rattle.std.specs.Prelude.{◌≡◌, ℕ, ◌*◌, ◌^◌, ◌-◌, ◌<◌, min, true, false, replicate, Some, Err, IfOk};
     ghost use Rattle.pm_file.specs.Length.{is_length};
     ghost use Rattle.pm_file.specs.Image.{IsOpened};
@@ -180,7 +181,7 @@ impl<F: Read + Write + Seek + OpenFile + Drop> FilePm<F> {
     }
 }
 
-impl<F: Write + Seek + OpenFile> Pm for FilePm<F> {
+impl<F: FileExt + OpenFile> Pm for FilePm<F> {
     ghost use Rattle.std.specs.Prelude.{◌≡◌, ◌+◌, ◌-◌, ◌*◌, ◌<◌, ◌≤◌, is_ok, OnOk, OnErr, None, [], ◌∷◌, ◌++◌, length, vec_len, vec_capacity};
     ghost use Rattle.pm_device.specs.State.{IsSame, Stores, Flushes, Fences, Keeps};
     ghost use Rattle.pm_file.specs.Pending.{pending, without};
@@ -269,7 +270,7 @@ impl<F: Write + Seek + OpenFile> Pm for FilePm<F> {
             (⟦<FilePm<F> as Pm>⟧.may self.old) (⟦<FilePm<F> as Pm>⟧.may self.new) }
         ensures pending { pending self.new ≡ without who (pending self.old) }
     {
-        let written = write_flushed(&mut self.file, &self.words, &self.flushed, who);
+        let written = write_flushed(&self.file, &self.words, &self.flushed, who);
         forget(&mut self.flushed, who);
         match written {
             Ok(()) => Ok(()),

@@ -6,7 +6,8 @@ ghost use Rattle.byteorder.specs.Endian.{IsRead, little_bytes, little_number};
 use byteorder::{ByteOrder, LittleEndian};
 use pm_layout::PAGE_BYTES;
 use std::io;
-use std::io::{Read, Seek, SeekFrom, Write};
+use std::io::Read;
+use std::os::unix::fs::FileExt;
 
 // The words of a page, as many as are transferred at once.
 const PAGE_WORDS: usize = pm_layout::PAGE_WORDS as usize;
@@ -41,15 +42,16 @@ pub(crate) fn read_words<F: Read>(file: &mut F, words: &mut Vec<u64>) -> io::Res
 }
 
 // Writes these words to the file, where its word `at` stands.
-pub(crate) fn write_words<F: Write + Seek>(file: &mut F, at: u64, words: &[u64]) -> io::Result<()>
+pub(crate) fn write_words<F: FileExt>(file: &F, at: u64, words: &[u64]) -> io::Result<()>
     requires { at ≤ 33554432 }
 {
-    file.seek(SeekFrom::Start(8 * at))?;
+    let mut offset = 8 * at;
     let mut piece = [0u8; PAGE_BYTES as usize];
     for page in words.chunks(PAGE_WORDS) {
         let bytes = &mut piece[..8 * page.len()];
         encode(page, bytes);
-        file.write_all(bytes)?;
+        file.write_all_at(bytes, offset)?;
+        offset = offset.saturating_add(PAGE_BYTES);
     }
     Ok(())
 }

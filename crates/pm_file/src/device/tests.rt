@@ -5,7 +5,7 @@ use super::FilePm;
 use crate::OpenFault;
 use pm_device::{Failed, Pm};
 use std::fs::{Metadata, OpenFile};
-use std::io::{Seek, SeekFrom, Write};
+use std::os::unix::fs::FileExt;
 use std::test::Fail;
 use std::{fs, io};
 
@@ -83,18 +83,12 @@ fn fault<T>() -> io::Result<T>
     Err(io::Error::from(io::ErrorKind::Other))
 }
 
-impl Write for Broken {
-    fn write(&mut self, _buf: &[u8]) -> io::Result<usize> {
+impl FileExt for Broken {
+    fn read_at(&self, _buf: &mut [u8], _offset: u64) -> io::Result<usize> {
         fault()
     }
 
-    fn flush(&mut self) -> io::Result<()> {
-        fault()
-    }
-}
-
-impl Seek for Broken {
-    fn seek(&mut self, _to: SeekFrom) -> io::Result<u64> {
+    fn write_at(&self, _buf: &[u8], _offset: u64) -> io::Result<usize> {
         fault()
     }
 }
