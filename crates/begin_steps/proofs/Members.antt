@@ -1,4 +1,4 @@
--- What stands in a list, and what is left of free pages.
+-- What is left of free pages.
 use Rattle.std.proofs.Common.{◌≡◌, ◌⊎◌, inl, inr, ⊎_elim, ℕ, ◌<◌, List, [], ◌∷◌, ◌++◌, sym, subst}
 use Rattle.std.specs.Prelude.{Contains, All}
 use Rattle.std.proofs.lemmas.Bool.{cases_eq}
@@ -8,15 +8,6 @@ use Rattle.page_alloc.specs.Free.{FreePages, IsInOrder}
 use Rattle.law_unique.proofs.Listings.{none_listed, here, later, cons_cases}
 use Rattle.file_write.specs.Take.{TakesFirst}
 use Rattle.file_write.proofs.Taking.{rising-behind}
-
-pub contains_or_not : (x : ℕ) (xs : List ℕ) → Contains xs x ⊎ (Contains xs x → ⊥)
-contains_or_not x [] = inr (λ has. none_listed x has)
-contains_or_not x (y ∷ xs) = by (cases_eq y x) (contains_or_not x xs)
-  where
-    by : ((y ≡ x) ⊎ (y ≡ x → ⊥)) → (Contains xs x ⊎ (Contains xs x → ⊥)) → Contains (y ∷ xs) x ⊎ (Contains (y ∷ xs) x → ⊥)
-    by (inl same) rest = inl (subst (Contains (y ∷ xs)) same (here y xs))
-    by (inr other) (inl has) = inl (later y x xs has)
-    by (inr other) (inr none) = inr (λ has. ⊎_elim other none (cons_cases y x xs has))
 
 all_behind : (P : ℕ → Type 0) (xs ys : List ℕ) → All P (xs ++ ys) → All P ys
 all_behind P [] ys all = all

@@ -1,5 +1,5 @@
 -- An operation has begun: room was made, its pages were taken, and it is in flight.
-use Rattle.std.proofs.Common.{◌≡◌, ◌⊎◌, inl, inr, ⊎_elim, ℕ, ◌+◌, ◌-◌, ◌<◌, ◌≤◌, List, length, sym, ◌∙◌, ap, subst, arith, Some}
+use Rattle.std.proofs.Common.{◌≡◌, ◌⊎◌, inl, inr, ⊎_elim, ℕ, ◌+◌, ◌-◌, ◌<◌, ◌≤◌, List, length, sym, ◌∙◌, ap, subst, arith, Some, None}
 use Rattle.std.specs.Prelude.{Contains, slice_get, vec_len, vec_capacity}
 use Rattle.std.specs.VecDeque.{deque_len, deque_capacity}
 use Rattle.pm_device.specs.State.{State, IsSame, Agree}
@@ -14,6 +14,7 @@ use Rattle.dn_volume.specs.declared.volume.Parts.{Parts}
 use Rattle.dn_volume.specs.declared.volume.Volume.{Volume}
 use Rattle.dn_volume.specs.Parties.{flight_at, taken_by, blocks_of}
 use Rattle.dn_volume.specs.Flights.{left_of}
+use Rattle.dn_volume.specs.Replaces.{Replaces}
 use Rattle.dn_volume.specs.Kept.{OfInodes, IsSameInode, IsHeldInode, SameWork, SameButBegun}
 use Rattle.dn_volume.specs.Agrees.{IsVolume}
 use Rattle.dn_volume.specs.Begins.{HasAll, IsFreshChange, HasBegun}
@@ -197,11 +198,16 @@ module _ {D F : Type 0} (state : D → State) (who : ℕ) (op : Op) (left : ℕ)
               either),
         ));
     inodes = begun_inodes;
-    others = record {
-      flights = λ q some other. starts.others (q - 1) (λ e. other (let one = may.begins.some in omega (arith, some, one, e)))
-          ∙ ap (λ fs. flight_at fs (q - 1)) keeps.same.flights;
-      sharing = λ other. ap (λ (p : Parts). p.sharing) starts.parts ∙ keeps.same.work.sharing;
-    };
+  }
+
+  replaces : Replaces (who - 1) None (Some f) v.parts v'.parts
+  replaces = record {
+    place = let some = may.begins.some in let few = may.begins.few in omega (arith, some, few);
+    clients = starts.clients ∙ ap length keeps.same.flights;
+    was = ap (λ fs. flight_at fs (who - 1)) (sym keeps.same.flights) ∙ may.begins.idle;
+    now = starts.flight;
+    others = λ k other. starts.others k other ∙ ap (λ fs. flight_at fs k) keeps.same.flights;
+    sharing = ap (λ (p : Parts). p.sharing) starts.parts ∙ keeps.same.work.sharing;
   }
 
   pub begun : HasAll d v.parts op → f.op ≡ op → left ≡ left_of f → IsFreshChange f.change
@@ -209,13 +215,13 @@ module _ {D F : Type 0} (state : D → State) (who : ℕ) (op : Op) (left : ℕ)
       → HasBegun state who op left v v' d
   begun has op_is left_is fresh least = record {
     has = has;
-    idle = ap (λ fs. flight_at fs (who - 1)) (sym keeps.same.flights) ∙ may.begins.idle;
     volume = subst (λ (x : D). IsVolume d v'.parts (state x)) (sym same)
         (started d who f free' v1.parts v'.parts (state v1.device) volume1 agree1 may starts);
     device = subst (λ (x : D). IsSame (state v.device) (state x)) (sym same) device;
     flight = f;
     opens = record {
-      flies = record { client = may.begins.some; is = starts.flight };
+      client = may.begins.some;
+      replaces = replaces;
       op_is = op_is;
       left_is = left_is;
       unraised = may.unraised;

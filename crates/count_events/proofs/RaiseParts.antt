@@ -32,7 +32,9 @@ use Rattle.dn_volume.specs.Agrees.{IsVolume}
 use Rattle.dn_volume.specs.Rely.{LeavesRest}
 use Rattle.dn_volume.proofs.FlightsStay.{flights_stay}
 use Rattle.dn_volume.proofs.Tables.{is_table}
+use Rattle.dn_volume.specs.Replaces.{Replaces, MovesOwed, IsFurther}
 use Rattle.dn_volume.proofs.Raises.{RaisesRow, raised_more}
+use Rattle.dn_volume.proofs.Replaced.{others_same, ops_on, held_was, holds_on, took_was, takes_on, each_room, owed_moved, owes}
 use Rattle.count_events.specs.Released.{IsWordAfter}
 use Rattle.count_events.specs.Raised.{IsToRaise, RaisesOne}
 use Rattle.dn_volume.proofs.CountsMoved.{MovesCounts}
@@ -121,52 +123,19 @@ module _ (d : Disk) (b b' : Parts) (s u : State) (v : IsVolume d b s) (who slot 
   flies_after : Flies b' who (one_more f)
   flies_after = record { client = to.flies.client; is = change.flight f to.flies }
 
-  apart : (q : ℕ) → 1 ≤ q → q ≢ who → q - 1 ≢ who - 1
-  apart q some ne e = ne (omega (arith, some, to.flies.client, e))
+  -- the operation goes on
+  replaces : Replaces (who - 1) (Some f) (Some (one_more f)) b b'
+  replaces = record {
+    place = client;
+    clients = change.clients;
+    was = to.flies.is;
+    now = flies_after.is;
+    others = change.others;
+    sharing = change.sharing;
+  }
 
-  other_still : (q : ℕ) (g : Flight) → q ≢ who → Flies b q g → Flies b' q g
-  other_still q g ne flies = record { client = flies.client; is = change.others (q - 1) (apart q flies.client ne) ∙ flies.is }
-
-  other_before : (q : ℕ) (g : Flight) → q ≢ who → Flies b' q g → Flies b q g
-  other_before q g ne flies = record { client = flies.client; is = sym (change.others (q - 1) (apart q flies.client ne)) ∙ flies.is }
-
-  own_before : (q : ℕ) (g : Flight) → q ≡ who → Flies b q g → g ≡ f
-  own_before q g me flies = same_flight b who g f (subst (λ (x : ℕ). Flies b x g) me flies) to.flies
-
-  own_after : (q : ℕ) (g : Flight) → q ≡ who → Flies b' q g → g ≡ one_more f
-  own_after q g me flies = same_flight b' who g (one_more f) (subst (λ (x : ℕ). Flies b' x g) me flies) flies_after
-
-  -- what is read of an operation beside how many rows it has raised
-  module _ (P : Flight → Type 0) (same : (g : Flight) → P g → P (one_more g)) (back : (g : Flight) → P (one_more g) → P g) where
-    still : (q : ℕ) (g : Flight) → Flies b q g → P g → (h : Flight) × (Flies b' q h × P h)
-    still q g flies has = elim (cases_eq q who) [
-      | inl me ↦ (one_more f, (subst (λ (x : ℕ). Flies b' x (one_more f)) (sym me) flies_after, same f (subst P (own_before q g me flies) has)))
-      | inr ne ↦ (g, (other_still q g ne flies, has))
-    ]
-
-    before : (q : ℕ) (g : Flight) → Flies b' q g → P g → (h : Flight) × (Flies b q h × P h)
-    before q g flies has = elim (cases_eq q who) [
-      | inl me ↦ (f, (subst (λ (x : ℕ). Flies b x f) (sym me) to.flies, back f (subst P (own_after q g me flies) has)))
-      | inr ne ↦ (g, (other_before q g ne flies, has))
-    ]
-
-  holds_still : (q ino : ℕ) → Holds b q ino → Holds b' q ino
-  holds_still q ino (by_client g flies has) = let found = still (λ (h : Flight). Contains h.held.items ino) (λ h is. is) (λ h is. is) q g flies has in
-      by_client found.0 found.1.0 found.1.1
-  holds_still q ino (by_daemon item him is same) = by_daemon item him (change.sharing ∙ is) same
-
-  holds_before : (q ino : ℕ) → Holds b' q ino → Holds b q ino
-  holds_before q ino (by_client g flies has) = let found = before (λ (h : Flight). Contains h.held.items ino) (λ h is. is) (λ h is. is) q g flies
-      has in by_client found.0 found.1.0 found.1.1
-  holds_before q ino (by_daemon item him is same) = by_daemon item him (sym change.sharing ∙ is) same
-
-  takes_still : (q page : ℕ) → Takes b q page → Takes b' q page
-  takes_still q page (for_client g flies has) = let found = still (λ (h : Flight). Contains (taken_by h) page) (λ h is. is) (λ h is. is) q g flies
-      has in for_client found.0 found.1.0 found.1.1
-
-  takes_before : (q page : ℕ) → Takes b' q page → Takes b q page
-  takes_before q page (for_client g flies has) = let found = before (λ (h : Flight). Contains (taken_by h) page) (λ h is. is) (λ h is. is) q g flies
-      has in for_client found.0 found.1.0 found.1.1
+  further : IsFurther f (one_more f)
+  further = record { op = refl; held = refl; taken = refl }
 
   waits_still : (ino at : ℕ) → IsWaiting b ino at → IsWaiting b' ino at
   waits_still ino at (in_queue work n has of_ino of_slot is round) =
@@ -175,24 +144,27 @@ module _ (d : Disk) (b b' : Parts) (s u : State) (v : IsVolume d b s) (who slot 
   waits_still ino at (is_begun item is of_ino of_slot) = is_begun item (change.sharing ∙ is) of_ino of_slot
 
   hands : SameHands b b'
-  hands = record { holds = holds_still; held = holds_before; takes = takes_still; taken = takes_before; waits = waits_still }
+  hands = record {
+    holds = holds_on who to.flies.client f (one_more f) b b' replaces further;
+    held = held_was who to.flies.client f (one_more f) b b' replaces further;
+    takes = takes_on who to.flies.client f (one_more f) b b' replaces further;
+    taken = took_was who to.flies.client f (one_more f) b b' replaces further;
+    waits = waits_still;
+  }
 
   -- what is under way
-  raises : RaisesRow b b' (who - 1) f (one_more f)
+  raises : RaisesRow b b' who f (one_more f)
   raises = record {
-    client = client;
-    was = to.flies.is;
-    is = flies_after.is;
-    others = change.others;
+    client = to.flies.client;
+    replaces = replaces;
     some = to.some;
     rows_same = refl;
     one_more = omega arith;
-    sharing = change.sharing;
     dying = change.raised;
   }
 
   raised_now : (x : ℕ) → raised b' x ≡ raised b x + times x (slot ∷ [])
-  raised_now x = raised_more b b' (who - 1) f (one_more f) raises x ∙ ap (λ (n : ℕ). raised b x + times x (n ∷ [])) (sym slot_is)
+  raised_now x = raised_more b b' who f (one_more f) raises x ∙ ap (λ (n : ℕ). raised b x + times x (n ∷ [])) (sym slot_is)
 
   added_still : (x : ℕ) → added b' x ≡ added b x
   added_still x = ap (λ (r : Option Sharing). times x (added_to_share r)) change.sharing
@@ -219,22 +191,6 @@ module _ (d : Disk) (b b' : Parts) (s u : State) (v : IsVolume d b s) (who slot 
       }
 
   -- the room
-  owed_moves : (kind : Room → ℕ) → owed_sum b' kind + kind (owed_to (Some f)) ≡ owed_sum b kind + kind (owed_to (Some (one_more f)))
-  owed_moves kind =
-      let moved = total-change (λ k. kind (owed_to (flight_at b.flights.items k))) (λ k. kind (owed_to (flight_at b'.flights.items k))) 14 (who - 1)
-      client (λ j ne. ap (λ (r : Option Flight). kind (owed_to r)) (change.others j ne)) in
-      let was : kind (owed_to (flight_at b.flights.items (who - 1))) ≡ kind (owed_to (Some f)) = ap (λ (r : Option Flight). kind (owed_to r))
-      to.flies.is in
-      let is : kind (owed_to (flight_at b'.flights.items (who - 1))) ≡ kind (owed_to (Some (one_more f))) = ap
-      (λ (r : Option Flight). kind (owed_to r)) flies_after.is in
-      omega (arith, moved, was, is)
-
-  units_still : units_to_share b'.sharing ≡ units_to_share b.sharing
-  units_still = ap (λ (x : Option Sharing). units_to_share x) change.sharing
-
-  changes_still : changes_to_share b'.sharing ≡ changes_to_share b.sharing
-  changes_still = ap (λ (x : Option Sharing). changes_to_share x) change.sharing
-
   one_raised : one_if b'.reclaiming.raised ≡ one_if b.reclaiming.raised
   one_raised = ap (λ (x : Option DyingPlace). one_if x) change.raised
 
@@ -255,7 +211,13 @@ module _ (d : Disk) (b b' : Parts) (s u : State) (v : IsVolume d b s) (who slot 
     };
     zero = λ none no_update. absurd (omega (arith, no_update));
     zero_kept = λ x ne checked. change.zero_check ∙ checked;
-    few = omega (arith, v.counts.few, long_still, owed_moves (λ room. room.releases), one_raised);
+    few = omega (
+      arith,
+      v.counts.few,
+      long_still,
+      owed_moved who to.flies.client (Some f) (Some (one_more f)) b b' replaces (λ room. room.releases),
+      one_raised,
+    );
   }
 
   owed_units : b'.owed.units ≡ b.owed.units - 3
@@ -273,26 +235,35 @@ module _ (d : Disk) (b b' : Parts) (s u : State) (v : IsVolume d b s) (who slot 
   owed_releases : b'.owed.releases ≡ b.owed.releases
   owed_releases = ap (λ (r : Room). r.releases) change.owed
 
-  owes : Owes b'
-  owes = record {
-    units = omega (arith, v.room.owes.units, owed_moves (λ room. room.units), units_fall, units_still, one_raised, one_zero, owed_units);
-    trace = omega (arith, v.room.owes.trace, owed_moves (λ room. room.trace), to.some, changes_still, owed_trace);
-    history = omega (arith, v.room.owes.history, owed_moves (λ room. room.history), owed_history);
-    queue = omega (arith, v.room.owes.queue, owed_moves (λ room. room.queue), owed_queue);
-    releases = omega (arith, v.room.owes.releases, owed_moves (λ room. room.releases), one_raised, owed_releases);
+  moves_owed : MovesOwed (Some f) (Some (one_more f)) b b'
+  moves_owed = record {
+    units = omega (arith, units_fall, owed_units, owes_units);
+    trace = omega (arith, to.some, owed_trace, owes_trace);
+    history = omega (arith, owed_history);
+    queue = omega (arith, owed_queue);
+    releases = omega (arith, owed_releases);
   }
 
   places_still : (q : ℕ) (g : Flight) (c : DataChange) (n : InodeState) → Flies b' q g → g.change ≡ Data c → slice_get b'.inodes.items g.ino ≡ Some n
       → length c.blocks.items ≤ n.map.room
-  places_still q g c n flies is at =
-      let found = before (λ (h : Flight). (h.change ≡ Data c) × (slice_get b.inodes.items h.ino ≡ Some n)) (λ h has. has) (λ h has. has) q g flies
-      (is, ap (λ (ns : List InodeState). slice_get ns g.ino) (sym change.kept.inodes) ∙ at) in
-      v.room.places q found.0 c n found.1.0 found.1.1.0 found.1.1.1
+  places_still = each_room who to.flies.client (Some f) (Some (one_more f)) b b' replaces
+      (λ g c n is kind at. own_room g c n (is_it g is) kind (there g n at)) (λ q g n other flies at. (n, there g n at, omega arith)) v.room.places
+    where
+      there : (g : Flight) (n : InodeState) → slice_get b'.inodes.items g.ino ≡ Some n → slice_get b.inodes.items g.ino ≡ Some n
+      there g n at = ap (λ (ns : List InodeState). slice_get ns g.ino) (sym change.kept.inodes) ∙ at
+
+      is_it : (g : Flight) → Some (one_more f) ≡ Some g → one_more f ≡ g
+      is_it g is = cc
+
+      own_room : (g : Flight) (c : DataChange) (n : InodeState) → one_more f ≡ g → g.change ≡ Data c → slice_get b.inodes.items g.ino ≡ Some n
+          → length c.blocks.items ≤ n.map.room
+      own_room g c n one kind at = v.room.places who f c n to.flies (ap (λ (h : Flight). h.change) one ∙ kind)
+          (subst (λ (h : Flight). slice_get b.inodes.items h.ino ≡ Some n) (sym one) at)
 
   module _ (spare : s.spare ≤ u.spare + 3) where
     room : HasRoom b' u
     room = record {
-      owes = owes;
+      owes = owes who to.flies.client (Some f) (Some (one_more f)) b b' replaces moves_owed change.raised change.zero_check v.room.owes;
       units = omega (arith, v.room.units, owed_units, spare, owes_units);
       trace = omega (arith, v.room.trace, change.trace_len, change.trace_capacity, owed_trace, owes_trace);
       history = omega (arith, v.room.history, change.kept.history_len, change.kept.history_capacity, owed_history);
@@ -334,7 +305,7 @@ module _ (d : Disk) (b b' : Parts) (s u : State) (v : IsVolume d b s) (who slot 
           (λ i held has. absurd (omega (arith, has.1))) (λ page taken has. absurd (omega (arith, has.1))) taken_unused (v.flights.each who f to.flies)
 
       mine : (g : Flight) → Flies b' who g → IsFlight e who g u
-      mine g flies = subst (λ (h : Flight). IsFlight e who h u) (sym (own_after who g refl flies)) (flight_more e who f to.data_change u to.is_data
+      mine g flies = subst (λ (h : Flight). IsFlight e who h u) (sym (same_flight b' who g (one_more f) flies flies_after)) (flight_more e who f to.data_change u to.is_data
           to.filled to.some flight_still)
 
       pub raise_event : CountEvent raised_row who d b b' s u slot word row
@@ -343,13 +314,8 @@ module _ (d : Disk) (b b' : Parts) (s u : State) (v : IsVolume d b s) (who slot 
         moves = moves;
         kept = change.kept;
         hands = hands;
-        same = record { flights = λ q some ne. change.others (q - 1) (apart q some ne); sharing = λ ne. change.sharing };
-        ops = record {
-          kept = λ q g flies. let found = still (λ (h : Flight). h.op ≡ g.op) (λ h is. is) (λ h is. is) q g flies refl in
-              (found.0, found.1.0, found.1.1);
-          only = λ q g flies. let found = before (λ (h : Flight). h.op ≡ g.op) (λ h is. is) (λ h is. is) q g flies refl in
-              (found.0, found.1.0, sym found.1.1);
-        };
+        same = others_same who to.flies.client (Some f) (Some (one_more f)) b b' replaces;
+        ops = ops_on who f (one_more f) b b' to.flies.client replaces refl;
         running = change.stopped;
         clients = change.clients;
         mine = mine;

@@ -70,6 +70,13 @@ impl WorkQueue {
         self.items.front().copied()
     }
 
+    /// The work that waits at a place, from 0 for the work that waits longest.
+    pub fn get(&self, place: u64) -> Option<Work>
+        ensures { result ≡ slice_get self.now.items place }
+    {
+        self.items.get(place as usize).copied()
+    }
+
     /// Takes out the work that waits longest. The rest stays where it is.
     pub fn pop(&mut self) -> Option<Work>
         ensures none { IsNone result ↔ (self.old.items ≡ []) }

@@ -18,6 +18,10 @@ fn gives_the_oldest_first(rt: HostRuntime) -> Result<(), AllocError> {
     queue.push(first);
     queue.push(second);
     assert_eq!(rt;
+        (queue.get(0), queue.get(1), queue.get(2)),
+        (Some(first), Some(second), None)
+    );
+    assert_eq!(rt;
         (queue.front(), queue.pop(), queue.len()),
         (Some(first), Some(first), 1)
     );

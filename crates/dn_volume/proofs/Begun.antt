@@ -61,7 +61,7 @@ use Rattle.dn_volume.specs.declared.outcome.Outcome.TheVariants as out
 use Rattle.dn_model.specs.declared.op.CountChange.{CountChange}
 use Rattle.dn_volume.specs.declared.volume.Parts.{Parts}
 use Rattle.dn_volume.specs.declared.volume.Volume.{Volume}
-use Rattle.dn_volume.specs.Parties.{Flies, KeepsOps, flight_at}
+use Rattle.dn_volume.specs.Parties.{Flies, flight_at}
 use Rattle.dn_volume.specs.Agrees.{IsVolume}
 use Rattle.dn_volume.specs.Begins.{
   IsAtOnce,
@@ -75,7 +75,7 @@ use Rattle.dn_volume.specs.Begins.{
   AnswersAtOnce,
   Begins,
 }
-use Rattle.dn_volume.specs.Events.{InFlight, word_at, word_after}
+use Rattle.dn_volume.specs.Events.{word_at, word_after}
 use Rattle.dn_volume.specs.Sound.{WasLeft, IsLater, AreLater, AreShort, IsSound, Sound, is_sound}
 use Rattle.dn_volume.specs.Laws.{WantsAreShort, InodesAreShort, BeginsStaySound}
 use Rattle.dn_volume.proofs.Kept.{ops_same}
@@ -245,10 +245,7 @@ module _ {D F : Type 0} (state : D → State) (print : Print) (base : Base) (v v
   begun : (who : ℕ) (op : Op) (left : ℕ) → 1 ≤ who → HasBegun state who op left v v' d → IsSound print base d v'.parts (state v'.device)
   begun who op left some h =
       same_history h.history (λ short. begins_short base v.parts v'.parts (state v.device) (state v'.device) extends short who op some h.history
-      (λ k few. begun_later v.parts v'.parts k who left op h.history h.idle flies h.opens.same.others))
-    where
-      flies : InFlight v'.parts who op left
-      flies = record { flight = h.flight; flies = h.opens.flies; op_is = h.opens.op_is; left_is = h.opens.left_is }
+      (λ k few. begun_later v.parts v'.parts k who op h.history h.flight h.opens.op_is some h.opens.replaces))
 
   module _ (who : ℕ) (op : Op) (reply : Reply) (some : 1 ≤ who) (agree : Agree (state v.device).now (state v.device).past) (wants : WantsAreShort)
       (inodes : InodesAreShort)

@@ -23,6 +23,7 @@ pub mod Heads
 pub mod Within
 pub mod SameRoom
 pub mod Replaced
+pub mod Taken
 pub mod Stepped
 pub mod Wants
 pub mod FlightsGranted

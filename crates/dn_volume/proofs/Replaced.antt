@@ -5,14 +5,21 @@ use Rattle.std.specs.Prelude.{Contains, slice_get}
 use Rattle.std.proofs.lemmas.Bool.{cases_eq}
 use Rattle.std.proofs.lemmas.Option.{slice_get_within}
 use Rattle.law_write.proofs.Counting.{total-change}
+use Rattle.pm_device.specs.State.{State}
+use Rattle.dn_model.specs.Disk.{Disk}
 use Rattle.dn_volume.specs.declared.flight.Flight.{Flight}
+use Rattle.dn_volume.specs.declared.flight.Change.TheVariants.{Data}
+use Rattle.dn_volume.specs.declared.flight.DataChange.{DataChange}
+use Rattle.dn_volume.specs.declared.volume.InodeState.{InodeState}
 use Rattle.dn_volume.specs.declared.volume.Parts.{Parts}
 use Rattle.dn_volume.specs.declared.volume.Room.{Room}
 use Rattle.dn_volume.specs.Parties.{Flies, Holds, by_client, by_daemon, Takes, for_client}
-use Rattle.dn_volume.specs.Parties.{SameOthers, KeepsOps, flight_at, opened, taken_by}
+use Rattle.dn_volume.specs.Parties.{SameOthers, KeepsOps, flight_at, opened}
 use Rattle.dn_volume.specs.Balance.{raised, raised_by, raised_to_share, raised_to_die, times}
-use Rattle.dn_volume.specs.Reserve.{owed_sum, owed_to}
-use Rattle.dn_volume.specs.Replaces.{Replaces, held_of, taken_of}
+use Rattle.dn_volume.specs.Flights.{IsFlight}
+use Rattle.dn_volume.specs.Reclaims.{one_if}
+use Rattle.dn_volume.specs.Reserve.{owed_sum, owed_to, units_to_share, changes_to_share, Owes}
+use Rattle.dn_volume.specs.Replaces.{Replaces, MovesOwed, IsFurther, held_of, taken_of}
 
 -- an operation stands at its place
 pub opened_is : (r : Option (Option Flight)) (f : Flight) → opened r ≡ Some f → r ≡ Some (Some f)
@@ -26,6 +33,20 @@ flight_within flights k f is = slice_get_within flights k (Some f) (opened_is (s
 pub client_few : (b : Parts) (who : ℕ) (f : Flight) → length b.flights.items ≡ 14 → Flies b who f → who ≤ 14
 client_few b who f all flies =
     let lt = flight_within b.flights.items (who - 1) f flies.is in omega (arith, lt, all)
+
+-- the end of an operation, of its parts
+pub ends_at : (b b' : Parts) (who : ℕ) (f : Flight) → length b.flights.items ≡ 14 → length b'.flights.items ≡ length b.flights.items
+    → flight_at b.flights.items (who - 1) ≡ Some f → flight_at b'.flights.items (who - 1) ≡ None
+    → ((k : ℕ) → k ≢ who - 1 → flight_at b'.flights.items k ≡ flight_at b.flights.items k) → b'.sharing ≡ b.sharing
+    → Replaces (who - 1) (Some f) None b b'
+ends_at b b' who f all clients was now others sharing = record {
+  place = let lt = flight_within b.flights.items (who - 1) f was in omega (arith, lt, all);
+  clients = clients;
+  was = was;
+  now = now;
+  others = others;
+  sharing = sharing;
+}
 
 module _ (who : ℕ) (client : 1 ≤ who) (old new : Option Flight) (b b' : Parts)
     (r : Replaces (who - 1) old new b b') where
@@ -67,6 +88,42 @@ module _ (who : ℕ) (client : 1 ≤ who) (old new : Option Flight) (b b' : Part
 
   pub flies_old : (g : Flight) → old ≡ Some g → Flies b who g
   flies_old g is = record { client = client; is = r.was ∙ is }
+
+  -- who had none in flight has only the new one, and the others fly on
+  pub flies_on : old ≡ None → (q : ℕ) (g : Flight) → Flies b q g → Flies b' q g
+  flies_on none q g flies = ⊎_elim (λ mine. (let clash : None ≡ Some g = sym none ∙ mine.1 in cc clash)) (λ other. other.1) (was_whose q g flies)
+
+  pub flies_other : new ≡ None → (q : ℕ) (g : Flight) → Flies b' q g → (q ≢ who) × Flies b q g
+  flies_other none q g flies = by (whose q g flies)
+    where
+      by : Whose q g → (q ≢ who) × Flies b q g
+      by (its_own same is) = let clash : None ≡ Some g = sym none ∙ is in cc clash
+      by (another other was) = (other, was)
+
+  -- each operation in flight is as it was planned, where the new one is and those of others are
+  pub each_flight : (e : Disk) (t : State) → ((g : Flight) → new ≡ Some g → IsFlight e who g t)
+      → ((q : ℕ) (g : Flight) → q ≢ who → Flies b' q g → IsFlight e q g t) → (q : ℕ) (g : Flight) → Flies b' q g → IsFlight e q g t
+  each_flight e t own others q g flies = by (whose q g flies)
+    where
+      by : Whose q g → IsFlight e q g t
+      by (its_own same is) = subst (λ (n : ℕ). IsFlight e n g t) (sym same) (own g is)
+      by (another other was) = others q g other flies
+
+  -- the map of its file has room for the places of each, where that of the new one has, and others' maps have what they had
+  pub each_room : ((g : Flight) (c : DataChange) (n : InodeState) → new ≡ Some g → g.change ≡ Data c → slice_get b'.inodes.items g.ino ≡ Some n
+      → length c.blocks.items ≤ n.map.room)
+      → ((q : ℕ) (g : Flight) (n : InodeState) → q ≢ who → Flies b q g → slice_get b'.inodes.items g.ino ≡ Some n
+      → (m : InodeState) × (slice_get b.inodes.items g.ino ≡ Some m) × (m.map.room ≤ n.map.room))
+      → ((q : ℕ) (g : Flight) (c : DataChange) (n : InodeState) → Flies b q g → g.change ≡ Data c → slice_get b.inodes.items g.ino ≡ Some n
+      → length c.blocks.items ≤ n.map.room)
+      → (q : ℕ) (g : Flight) (c : DataChange) (n : InodeState) → Flies b' q g → g.change ≡ Data c → slice_get b'.inodes.items g.ino ≡ Some n
+      → length c.blocks.items ≤ n.map.room
+  each_room own others were q g c n flies is at = by (whose q g flies)
+    where
+      by : Whose q g → length c.blocks.items ≤ n.map.room
+      by (its_own same new_is) = own g c n new_is is at
+      by (another other was) =
+          let had = others q g n other was at in let few = were q g c had.0 was is had.1 in let more = had.2 in omega (arith, few, more)
 
   -- who holds what
   pub held_then : (q ino : ℕ) → Holds b' q ino
@@ -147,6 +204,27 @@ module _ (who : ℕ) (client : 1 ≤ who) (old new : Option Flight) (b b' : Part
       let after = ap (λ o. kind (owed_to o)) r.now in
       omega (arith, moved, before, after)
 
+  -- so the room that is owed covers what is owed still
+  pub owes : MovesOwed old new b b' → b'.reclaiming.raised ≡ b.reclaiming.raised → b'.reclaiming.zero_check ≡ b.reclaiming.zero_check
+      → Owes b → Owes b'
+  owes moves raised_same zero_same was =
+      let units_shared = ap (λ o. units_to_share o) r.sharing in
+      let changes_shared = ap (λ o. changes_to_share o) r.sharing in
+      let up = ap (λ o. one_if o) raised_same in
+      let zero = ap (λ o. one_if o) zero_same in
+      let units = owed_moved (λ room. room.units) in
+      let trace = owed_moved (λ room. room.trace) in
+      let history = owed_moved (λ room. room.history) in
+      let queue = owed_moved (λ room. room.queue) in
+      let releases = owed_moved (λ room. room.releases) in
+      record {
+        units = omega (arith, units, moves.units, units_shared, up, zero, was.units);
+        trace = omega (arith, trace, moves.trace, changes_shared, was.trace);
+        history = omega (arith, history, moves.history, was.history);
+        queue = omega (arith, queue, moves.queue, was.queue);
+        releases = omega (arith, releases, moves.releases, up, was.releases);
+      }
+
   pub raised_moved : b'.reclaiming.raised ≡ b.reclaiming.raised → (slot : ℕ)
       → raised b' slot + times slot (raised_by old) ≡ raised b slot + times slot (raised_by new)
   raised_moved up slot =
@@ -158,6 +236,33 @@ module _ (who : ℕ) (client : 1 ≤ who) (old new : Option Flight) (b b' : Part
       let shared = ap (λ o. times slot (raised_to_share o)) r.sharing in
       let died = ap (λ o. times slot (raised_to_die o)) up in
       omega (arith, moved, before, after, shared, died)
+
+-- an operation that goes on: everybody holds and has taken what he had
+module _ (who : ℕ) (client : 1 ≤ who) (f f' : Flight) (b b' : Parts) (r : Replaces (who - 1) (Some f) (Some f') b b')
+    (further : IsFurther f f') where
+  pub held_was : (q ino : ℕ) → Holds b' q ino → Holds b q ino
+  held_was q ino holds = ⊎_elim
+      (λ mine. subst (λ (n : ℕ). Holds b n ino) (sym mine.0) (holds_old who client (Some f) (Some f') b b' r ino
+      (subst (λ (xs : List ℕ). Contains xs ino) further.held mine.1)))
+      (λ other. other.1) (held_then who client (Some f) (Some f') b b' r q ino holds)
+
+  pub holds_on : (q ino : ℕ) → Holds b q ino → Holds b' q ino
+  holds_on q ino holds = ⊎_elim
+      (λ mine. subst (λ (n : ℕ). Holds b' n ino) (sym mine.0) (holds_new who client (Some f) (Some f') b b' r ino
+      (subst (λ (xs : List ℕ). Contains xs ino) (sym further.held) mine.1)))
+      (λ other. other.1) (held_before who client (Some f) (Some f') b b' r q ino holds)
+
+  pub took_was : (q page : ℕ) → Takes b' q page → Takes b q page
+  took_was q page takes = ⊎_elim
+      (λ mine. subst (λ (n : ℕ). Takes b n page) (sym mine.0) (takes_old who client (Some f) (Some f') b b' r page
+      (subst (λ (xs : List ℕ). Contains xs page) further.taken mine.1)))
+      (λ other. other.1) (taken_then who client (Some f) (Some f') b b' r q page takes)
+
+  pub takes_on : (q page : ℕ) → Takes b q page → Takes b' q page
+  takes_on q page takes = ⊎_elim
+      (λ mine. subst (λ (n : ℕ). Takes b' n page) (sym mine.0) (takes_new who client (Some f) (Some f') b b' r page
+      (subst (λ (xs : List ℕ). Contains xs page) (sym further.taken) mine.1)))
+      (λ other. other.1) (taken_before who client (Some f) (Some f') b b' r q page takes)
 
 -- an operation that goes on is the same operation
 pub ops_on : (who : ℕ) (f f' : Flight) (b b' : Parts) → 1 ≤ who

@@ -1,31 +1,23 @@
 -- What stands on the device once no operation is in flight, the daemon has begun nothing and nothing waits for reclaim.
-use Rattle.std.proofs.Common.{◌≡◌, ◌≢◌, ◌⊎◌, inl, inr, ⊎_elim, ℕ, zero, suc, ◌+◌, ◌-◌, ◌*◌, ◌<◌, ◌≤◌, Bool, true, false, List, [], ◌∷◌, length, take, get_or, refl, sym, ◌∙◌, ap, subst, arith}
-use Rattle.std.specs.Prelude.{Option, Some, None, IsSome, IsNone, Contains, All, slice_index, slice_get, if◌then◌else◌, is_some, ◌↔◌}
-use Rattle.std.proofs.lemmas.Bool.{cases_eq, cases_lt}
+use Rattle.std.proofs.Common.{◌≡◌, ◌≢◌, inl, inr, ℕ, ◌+◌, List, [], ◌∷◌, length, get_or, refl, sym, ◌∙◌, ap, subst, arith}
+use Rattle.std.specs.Prelude.{Option, Some, None, IsSome, IsNone, Contains, All, slice_index, ◌↔◌}
+use Rattle.std.proofs.lemmas.Bool.{cases_eq}
 use Rattle.pm_device.specs.State.{State}
-use Rattle.pm_device.specs.Settled.{Still}
 use Rattle.pm_layout.specs.Geometry.{gate_word}
-use Rattle.dn_model.specs.Maps.{Mapping}
 use Rattle.dn_model.specs.Table.{Row, row_of}
-use Rattle.dn_model.specs.Disk.{Disk, Dying, rows, DiskSays, of_head, at_gate}
-use Rattle.dn_model.specs.Counts.{total, mappings, Exact, IsFree}
-use Rattle.dn_model.specs.Own.{Print, IsOwn, Settled, LivePlace, IsAlone, HasRow, page_bytes}
-use Rattle.log_entry.specs.declared.item.Flag.{Flag}
-use Rattle.log_entry.specs.declared.item.Flag.TheVariants.{Needed, InProcess, Complete}
-use Rattle.fact_scan.proofs.Listed.{place_of, listed, get_at}
+use Rattle.dn_model.specs.Disk.{Disk, rows, of_head, at_gate}
+use Rattle.dn_model.specs.Counts.{mappings, Exact, IsFree}
+use Rattle.fact_scan.proofs.Listed.{listed, get_at}
 use Rattle.law_write.proofs.Counting.{total-zero}
-use Rattle.law_write.specs.Events.{IsUnused}
-use Rattle.law_table.proofs.Rows.{row_listed, row_found, none_listed, none_found}
+use Rattle.law_table.proofs.Rows.{row_listed}
 use Rattle.law_table_on_disk.specs.BalanceLaws.{IsBalanced}
 use Rattle.dn_volume.specs.declared.background.Sharing.{Sharing}
 use Rattle.dn_volume.specs.declared.flight.Flight.{Flight}
 use Rattle.dn_volume.specs.declared.volume.Parts.{Parts}
-use Rattle.dn_volume.specs.declared.volume.Volume.{Volume}
-use Rattle.dn_volume.specs.Parties.{Flies, Takes, for_client, flight_at}
-use Rattle.dn_volume.specs.Agrees.{IsVolume, HasNoStale}
+use Rattle.dn_volume.specs.Parties.{Takes, for_client, flight_at}
+use Rattle.dn_volume.specs.Agrees.{IsVolume}
 use Rattle.dn_volume.specs.Balance.{raised, added, dropped, times, raised_by, raised_to_share, raised_to_die, added_to_share}
 use Rattle.dn_volume.specs.Reclaims.{one_if}
-use Rattle.dn_volume.specs.Shares.{IsWaiting, in_queue, is_begun}
 use Rattle.dn_volume.proofs.Stills.{still_without}
 use Rattle.dn_volume.proofs.SoundStays.{stands_now}
 use Rattle.dn_volume.proofs.Wants.{none_raised, none_dying, none_released}

@@ -1,10 +1,10 @@
 -- What differs in nothing but room, over two events.
-use Rattle.std.proofs.Common.{◌≡◌, ⊎_elim, ℕ, ◌<◌, List, length, refl, sym, ◌∙◌, ap, arith, Option}
-use Rattle.std.specs.Prelude.{slice_get, Some, None}
+use Rattle.std.proofs.Common.{◌≡◌, ⊎_elim, ℕ, List, refl, sym, ◌∙◌, ap, arith, Option}
+use Rattle.std.specs.Prelude.{slice_get, Some}
 use Rattle.std.proofs.lemmas.Option.{slice_get_cases, slice_get_within}
 use Rattle.dn_volume.specs.declared.volume.InodeState.{InodeState}
 use Rattle.dn_volume.specs.declared.volume.Parts.{Parts}
-use Rattle.dn_volume.specs.Kept.{SameInode, OfInodes, IsSameInode, SameWork, SameButRoom}
+use Rattle.dn_volume.specs.Kept.{OfInodes, IsSameInode, SameWork, SameButRoom}
 
 one_inode : (o : Option InodeState) (n n' : InodeState) → o ≡ Some n → o ≡ Some n' → n ≡ n'
 one_inode o n n' at at' = cc

@@ -46,10 +46,11 @@ use Rattle.dn_model.specs.declared.op.Refusal.TheVariants.{NoInode, NoSpace}
 use Rattle.law_unique.proofs.Listings.{here, later, none_listed, cons_cases}
 use Rattle.dn_volume.specs.declared.flight.Flight.{Flight}
 use Rattle.dn_volume.specs.declared.volume.Parts.{Parts}
-use Rattle.dn_volume.specs.Parties.{Flies, KeepsOps, SameOthers, flight_at}
-use Rattle.dn_volume.specs.Events.{InFlight}
+use Rattle.dn_volume.specs.Parties.{Flies, KeepsOps, flight_at}
+use Rattle.dn_volume.specs.Replaces.{Replaces}
 use Rattle.dn_volume.specs.Sound.{WasLeft, IsLater, AreLater, AreShort}
 use Rattle.dn_volume.proofs.LeftLater.{left_later, moment_later}
+use Rattle.dn_volume.proofs.Replaced.{Whose, whose, its_own, another, was_whose, flies_new, flies_old, flies_on, flies_other}
 use Rattle.dn_volume.proofs.Needs.{AreGrown, put_op, put_grown, put_length, put_other, put_here, same_grown, still_short}
 
 pub was_left : (base : Base) (s t : State) (e : Disk) → Extends s.past t.past → WasLeft base s e → WasLeft base t e
@@ -185,29 +186,22 @@ module _ (b b' : Parts) (k who : ℕ) (entry : Entry) (few : k ≤ length b.hist
       (subst (λ (h : List Entry). Contains h e) (drop-append-le k b.history.items (entry ∷ []) few) (subst (λ (h : List Entry). Contains (drop k h) e)
       more has)))
 
-  pub answered_later : (left : ℕ) (op : Op) → entry.op ≡ op → InFlight b who op left → SameOthers who b b'
-      → flight_at b'.flights.items (who - 1) ≡ None → SameLater b b' k
-  answered_later left op entry_op flew others landed q o = (
-    λ is. ⊎_elim (λ e. entry_later b' k q o e.0 (in_old e.0 e.1) e.2 e.3) (λ f. by_client f.0 f.1 f.2 (cases_eq q who)) is.why,
+  pub answered_later : (op : Op) → entry.op ≡ op → (f : Flight) → f.op ≡ op → 1 ≤ who → Replaces (who - 1) (Some f) None b b' → SameLater b b' k
+  answered_later op entry_op f f_op client r q o = (
+    λ is. ⊎_elim (λ e. entry_later b' k q o e.0 (in_old e.0 e.1) e.2 e.3)
+        (λ g. ⊎_elim (λ mine. by_entry g.0 mine.0 mine.1 g.2) (λ other. flight_later b' k q o g.0 other.1 g.2)
+        (was_whose who client (Some f) None b b' r q g.0 g.1)) is.why,
     λ is. ⊎_elim (λ e. ⊎_elim (λ old. entry_later b k q o e.0 old e.2 e.3)
-        (λ same. flight_later b k q o flew.flight
-        (subst (λ (n : ℕ). Flies b n flew.flight) (sym entry_who ∙ ap (λ (x : Entry). x.who) same ∙ e.2) flew.flies)
-        (flew.op_is ∙ sym entry_op ∙ ap (λ (x : Entry). x.op) same ∙ e.3))
+        (λ same. flight_later b k q o f
+        (subst (λ (n : ℕ). Flies b n f) (sym entry_who ∙ ap (λ (x : Entry). x.who) same ∙ e.2) (flies_old who client (Some f) None b b' r f refl))
+        (f_op ∙ sym entry_op ∙ ap (λ (x : Entry). x.op) same ∙ e.3))
         (either e.0 e.1))
-        (λ f. flight_later b k q o f.0 (record { client = f.1.client; is = sym (others.flights q f.1.client (not_who f.0 f.1)) ∙ f.1.is }) f.2)
-        is.why,
+        (λ g. flight_later b k q o g.0 (flies_other who client (Some f) None b b' r refl q g.0 g.1).1 g.2) is.why,
   )
     where
-      not_who : (f : Flight) → Flies b' q f → q ≡ who → ⊥
-      not_who f flies same = let clash : None ≡ Some f = sym landed ∙ ap (λ n. flight_at b'.flights.items (n - 1)) (sym same) ∙ flies.is in cc clash
-
-      by_client : (f : Flight) → Flies b q f → f.op ≡ o → ((q ≡ who) ⊎ (q ≡ who → ⊥)) → IsLater b' k q o
-      by_client f flies is (inl same) =
-          entry_later b' k q o entry in_new (entry_who ∙ sym same)
-          (entry_op ∙ sym flew.op_is ∙ ap (λ (g : Flight). g.op)
-          (one_flight b who flew.flight f flew.flies (subst (λ (n : ℕ). Flies b n f) same flies)) ∙ is)
-      by_client f flies is (inr other) = flight_later b' k q o f
-          (record { client = flies.client; is = others.flights q flies.client other ∙ flies.is }) is
+      by_entry : (g : Flight) → q ≡ who → Some f ≡ Some g → g.op ≡ o → IsLater b' k q o
+      by_entry g same is g_op = let one : f ≡ g = cc is in
+          entry_later b' k q o entry in_new (entry_who ∙ sym same) (entry_op ∙ sym f_op ∙ ap (λ (h : Flight). h.op) one ∙ g_op)
 
   -- an operation is answered at once
   pub at_once_later : (op : Op) → entry.op ≡ op → b'.flights.items ≡ b.flights.items → OneLater b b' k who op
@@ -227,28 +221,20 @@ module _ (b b' : Parts) (k who : ℕ) (entry : Entry) (few : k ≤ length b.hist
       back f flies = record { client = flies.client; is = ap (λ fs. flight_at fs (q - 1)) (sym same) ∙ flies.is }
 
 -- an operation begins
-pub begun_later : (b b' : Parts) (k who left : ℕ) (op : Op) → b'.history.items ≡ b.history.items → flight_at b.flights.items (who - 1) ≡ None
-    → InFlight b' who op left → SameOthers who b b' → OneLater b b' k who op
-begun_later b b' k who left op same idle flew others q o = (
+pub begun_later : (b b' : Parts) (k who : ℕ) (op : Op) → b'.history.items ≡ b.history.items → (f : Flight) → f.op ≡ op → 1 ≤ who
+    → Replaces (who - 1) None (Some f) b b' → OneLater b b' k who op
+begun_later b b' k who op same f f_op client r q o = (
   λ is. ⊎_elim (λ was. ⊎_elim (λ e. entry_later b' k q o e.0 (subst (λ (h : List Entry). Contains (drop k h) e.0) (sym same) e.1) e.2 e.3)
-      (λ f. flight_later b' k q o f.0 (record { client = f.1.client; is = others.flights q f.1.client (not_who f.0 f.1) ∙ f.1.is }) f.2) was.why)
-      (λ new. flight_later b' k q o flew.flight (subst (λ (n : ℕ). Flies b' n flew.flight) (sym new.0) flew.flies) (flew.op_is ∙ sym new.1)) is,
+      (λ g. flight_later b' k q o g.0 (flies_on who client None (Some f) b b' r refl q g.0 g.1) g.2) was.why)
+      (λ new. flight_later b' k q o f (subst (λ (n : ℕ). Flies b' n f) (sym new.0) (flies_new who client None (Some f) b b' r f refl))
+      (f_op ∙ sym new.1)) is,
   λ is. ⊎_elim (λ e. inl (entry_later b k q o e.0 (subst (λ (h : List Entry). Contains (drop k h) e.0) same e.1) e.2 e.3))
-      (λ f. by_client f.0 f.1 f.2 (cases_eq q who)) is.why,
+      (λ g. by_whose g.0 (whose who client None (Some f) b b' r q g.0 g.1) g.2) is.why,
 )
   where
-    not_who : (f : Flight) → Flies b q f → q ≡ who → ⊥
-    not_who f flies is = let clash : None ≡ Some f = sym idle ∙ ap (λ n. flight_at b.flights.items (n - 1)) (sym is) ∙ flies.is in cc clash
-
-    by_client : (f : Flight) → Flies b' q f → f.op ≡ o → ((q ≡ who) ⊎ (q ≡ who → ⊥)) → IsLater b k q o ⊎ ((q ≡ who) × (o ≡ op))
-    by_client f flies is (inl at) =
-        inr (
-          at,
-          sym is ∙ sym (ap (λ (g : Flight). g.op) (one_flight b' who flew.flight f flew.flies (subst (λ (n : ℕ). Flies b' n f) at flies))) ∙
-              flew.op_is,
-        )
-    by_client f flies is (inr other) = inl
-        (flight_later b k q o f (record { client = flies.client; is = sym (others.flights q flies.client other) ∙ flies.is }) is)
+    by_whose : (g : Flight) → Whose who client None (Some f) b b' r q g → g.op ≡ o → IsLater b k q o ⊎ ((q ≡ who) × (o ≡ op))
+    by_whose g (its_own at is) g_op = let one : f ≡ g = cc is in inr (at, sym g_op ∙ sym (ap (λ (h : Flight). h.op) one) ∙ f_op)
+    by_whose g (another other was) g_op = inl (flight_later b k q o g was g_op)
 
 -- So wants stay accounted for: those of the history so far.
 module _ (base : Base) (b b' : Parts) (s t : State) (on : Extends s.past t.past) (short : AreShort base b s) where

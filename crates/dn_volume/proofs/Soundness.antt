@@ -100,7 +100,8 @@ answers_stay_sound state agree print base who op reply v v' running sound answer
     (told_short base v.parts v'.parts (state v.device) (state v'.device) a.moves.images.extends was.2.short
     (λ short. more_short base v.parts v'.parts (state v.device) (state v'.device) a.moves.images.extends short a.entry a.history
     (λ why is. not_refused a.entry.reply why (a.reply_is ∙ a.done) is)
-    (λ k few. answered_later v.parts v'.parts k who a.entry few a.history a.who_is 1 op a.op_is a.flew a.moves.others a.landed))))
+    (λ k few. answered_later v.parts v'.parts k who a.entry few a.history a.who_is op a.op_is a.flew.flight a.flew.op_is a.flew.flies.client
+    a.replaces))))
 
 pub breaks_stay_sound : {D F : Type 0} (state : D → State) → BreaksStaySound D F state
 breaks_stay_sound state print base who answers v v' running sound breaks =

@@ -1,25 +1,21 @@
 -- What an operation in flight leaves alone as it goes on, group by group.
-use Rattle.std.proofs.Common.{◌≡◌, ◌≢◌, ◌⊎◌, inl, inr, ⊎_elim, ℕ, ◌-◌, ◌≤◌, List, length, refl, sym, ◌∙◌, ap, subst, arith, Option, Some, None}
-use Rattle.std.specs.Prelude.{◌↔◌, Contains, get_or, take, slice_get}
-use Rattle.std.proofs.lemmas.Bool.{cases_eq, cases_lt}
-use Rattle.std.proofs.lemmas.Option.{slice_get_cases}
+use Rattle.std.proofs.Common.{◌≡◌, ℕ, ◌≤◌, length, sym, ◌∙◌, ap, subst, arith, Option, Some}
+use Rattle.std.specs.Prelude.{◌↔◌, Contains, get_or, slice_get}
 use Rattle.dn_model.specs.Disk.{Disk, rows}
-use Rattle.law_write.proofs.Counting.{total-change}
 use Rattle.dn_volume.specs.declared.flight.Flight.{Flight}
 use Rattle.dn_volume.specs.declared.volume.Parts.{Parts}
-use Rattle.dn_volume.specs.Parties.{Flies, Holds, by_client, by_daemon, Takes, for_client, SameOthers, KeepsOps, flight_at, opened, taken_by}
+use Rattle.dn_volume.specs.Parties.{SameOthers, KeepsOps}
 use Rattle.dn_volume.specs.Inodes.{AreHolders}
 use Rattle.page_alloc.specs.Free.{IsInOrder}
 use Rattle.law_write.specs.Events.{IsUnused}
 use Rattle.dn_volume.specs.Space.{HasSpace}
-use Rattle.dn_volume.specs.Balance.{raised, added, dropped, raised_by, times, raised_to_share, added_to_share, raised_to_die, AreCounted}
+use Rattle.dn_volume.specs.Balance.{raised, added, dropped, raised_by, times, added_to_share, AreCounted}
 use Rattle.dn_volume.specs.Shares.{IsWaiting, in_queue, is_begun, IsQueued}
 use Rattle.dn_volume.specs.Reclaims.{one_if}
-use Rattle.dn_volume.specs.Reserve.{owed_sum}
+use Rattle.dn_volume.specs.Reserve.{owed_sum, Owes}
 use Rattle.dn_volume.specs.Replaces.{RaisesNone}
 use Rattle.dn_volume.specs.Steps.{StepsOn}
-use Rattle.dn_volume.proofs.Replaced.{others_same as same_others, ops_on, held_then, held_before, holds_new, holds_old}
-use Rattle.dn_volume.proofs.Replaced.{taken_then, taken_before, takes_new, takes_old, raised_moved}
+use Rattle.dn_volume.proofs.Replaced.{others_same as same_others, ops_on, held_was, holds_on, took_was, takes_on, raised_moved, owes}
 
 module _ (who : ℕ) (f f' : Flight) (b b' : Parts) (steps : StepsOn who f f' b b') where
   abbrev old : Option Flight
@@ -34,40 +30,14 @@ module _ (who : ℕ) (f f' : Flight) (b b' : Parts) (steps : StepsOn who f f' b 
   pub ops_kept : KeepsOps b b'
   ops_kept = ops_on who f f' b b' steps.client steps.replaces steps.further.op
 
-  held_was : (q ino : ℕ) → Holds b' q ino → Holds b q ino
-  held_was q ino holds = ⊎_elim
-      (λ mine. subst (λ (n : ℕ). Holds b n ino) (sym mine.0) (holds_old who steps.client old new b b' steps.replaces ino
-      (subst (λ (xs : List ℕ). Contains xs ino) steps.further.held mine.1)))
-      (λ other. other.1)
-      (held_then who steps.client old new b b' steps.replaces q ino holds)
-
-  holds_on : (q ino : ℕ) → Holds b q ino → Holds b' q ino
-  holds_on q ino holds = ⊎_elim
-      (λ mine. subst (λ (n : ℕ). Holds b' n ino) (sym mine.0) (holds_new who steps.client old new b b' steps.replaces ino
-      (subst (λ (xs : List ℕ). Contains xs ino) (sym steps.further.held) mine.1)))
-      (λ other. other.1)
-      (held_before who steps.client old new b b' steps.replaces q ino holds)
-
   pub same_holders : (d : Disk) → AreHolders d b → AreHolders d b'
   same_holders d are = record {
-    told = λ ino q n is. let told = are.told ino q n (subst (λ xs. slice_get xs.items ino ≡ Some n) steps.inodes is) in
-        ((λ holder. holds_on q ino (told.0 holder)), (λ holds. told.1 (held_was q ino holds)));
-    in_table = λ ino q holds. are.in_table ino q (held_was q ino holds);
+    told = λ ino q n is. let told = are.told ino q n (subst (λ xs. slice_get xs.items ino ≡ Some n) steps.inodes is) in (
+      (λ holder. holds_on who steps.client f f' b b' steps.replaces steps.further q ino (told.0 holder)),
+      (λ holds. told.1 (held_was who steps.client f f' b b' steps.replaces steps.further q ino holds)),
+    );
+    in_table = λ ino q holds. are.in_table ino q (held_was who steps.client f f' b b' steps.replaces steps.further q ino holds);
   }
-
-  took_was : (q page : ℕ) → Takes b' q page → Takes b q page
-  took_was q page takes = ⊎_elim
-      (λ mine. subst (λ (n : ℕ). Takes b n page) (sym mine.0) (takes_old who steps.client old new b b' steps.replaces page
-      (subst (λ (xs : List ℕ). Contains xs page) steps.further.taken mine.1)))
-      (λ other. other.1)
-      (taken_then who steps.client old new b b' steps.replaces q page takes)
-
-  takes_on : (q page : ℕ) → Takes b q page → Takes b' q page
-  takes_on q page takes = ⊎_elim
-      (λ mine. subst (λ (n : ℕ). Takes b' n page) (sym mine.0) (takes_new who steps.client old new b b' steps.replaces page
-      (subst (λ (xs : List ℕ). Contains xs page) (sym steps.further.taken) mine.1)))
-      (λ other. other.1)
-      (taken_before who steps.client old new b b' steps.replaces q page takes)
 
   pub same_space : (d : Disk) → HasSpace d b → HasSpace d b'
   same_space d has = record {
@@ -75,11 +45,15 @@ module _ (who : ℕ) (f f' : Flight) (b b' : Parts) (steps : StepsOn who f f' b 
     in_order = subst (λ x. IsInOrder x) (sym steps.free) has.in_order;
     taker = has.taker;
     free = λ page. subst (λ x. Contains x.free page ↔ (IsUnused d page × (has.taker page ≡ 0))) (sym steps.free) (has.free page);
-    takes = λ q page takes. has.takes q page (took_was q page takes);
-    taken = λ page some. takes_on (has.taker page) page (has.taken page some);
+    takes = λ q page takes. has.takes q page (took_was who steps.client f f' b b' steps.replaces steps.further q page takes);
+    taken = λ page some. takes_on who steps.client f f' b b' steps.replaces steps.further (has.taker page) page (has.taken page some);
     unused = has.unused;
     left = subst (λ x. 2 ≤ length x.free) (sym steps.free) has.left;
   }
+
+  pub owes_on : Owes b → Owes b'
+  owes_on = owes who steps.client old new b b' steps.replaces steps.owed (ap (λ r. r.raised) steps.reclaiming)
+      (ap (λ r. r.zero_check) steps.reclaiming)
 
   pub same_raised : RaisesNone f f' → (slot : ℕ) → raised b' slot ≡ raised b slot
   same_raised none slot =

@@ -1,7 +1,7 @@
 -- What a valid disk says lies within its pages.
-use Rattle.std.proofs.Common.{◌≡◌, ⊎_elim, inl, inr, ℕ, ◌+◌, ◌*◌, ◌/◌, ◌<◌, ◌≤◌, arith}
+use Rattle.std.proofs.Common.{◌≡◌, inl, inr, ℕ, ◌+◌, ◌*◌, ◌/◌, ◌<◌, arith}
 use Rattle.pm_layout.specs.declared.Geometry.{Geometry}
-use Rattle.pm_layout.specs.Geometry.{IsAccepted, InData, first_data, inode_word}
+use Rattle.pm_layout.specs.Geometry.{InData, first_data, inode_word}
 use Rattle.dn_model.specs.Log.{at_tail, at_head, at_footer, at_slot, LogSays}
 use Rattle.dn_model.specs.Disk.{Disk, TableSays, DiskSays, of_head, of_inodes, of_logs, of_chains, of_pointers, of_pages}
 use Rattle.dn_model.specs.Disk.{HeadSays, at_magic, at_version, at_pages, at_inodes, at_gate, InodesSay, at_state, at_cut}

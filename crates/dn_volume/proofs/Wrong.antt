@@ -1,27 +1,22 @@
 -- Each group of the invariant refuses something.
-use Rattle.std.proofs.Common.{◌≡◌, ◌≢◌, ⊎_elim, ℕ, zero, suc, ◌+◌, ◌-◌, ◌<◌, ◌≤◌, Bool, true, false, List, [], ◌∷◌, length, refl, sym, ◌∙◌, ap, subst, arith, Option, Some, None}
-use Rattle.std.specs.Prelude.{All, Contains, slice_get, if◌then◌else◌}
+use Rattle.std.proofs.Common.{◌≡◌, ⊎_elim, ℕ, zero, suc, ◌+◌, ◌-◌, ◌<◌, ◌≤◌, Bool, true, false, List, [], ◌∷◌, length, refl, ◌∙◌, ap, subst, arith, Option, Some, None}
+use Rattle.std.specs.Prelude.{All, Contains, if◌then◌else◌}
 use Rattle.law_table.proofs.Rows.{same_test}
 use Rattle.std.specs.FinMap.{get}
 use Rattle.pm_device.specs.State.{State}
 use Rattle.pm_layout.specs.declared.Geometry.{Geometry}
 use Rattle.pm_layout.specs.Geometry.{slots}
 use Rattle.dedupe_queue.specs.declared.Work.{Work}
-use Rattle.dn_model.specs.Table.{Row}
 use Rattle.dn_model.specs.Disk.{Disk, Use, Free, Live, rows}
-use Rattle.dn_model.specs.Files.{named}
 use Rattle.dn_model.specs.Empty.{empty_inode, empty_disk}
-use Rattle.dn_volume.specs.declared.flight.Flight.{Flight}
 use Rattle.dn_volume.specs.declared.background.DyingPlace.{DyingPlace}
-use Rattle.dn_volume.specs.declared.background.Sharing.{Sharing}
 use Rattle.dn_model.specs.declared.op.CountChange.{CountChange}
-use Rattle.dn_volume.specs.declared.volume.InodeState.{InodeState}
 use Rattle.dn_volume.specs.declared.volume.Parts.{Parts}
-use Rattle.dn_volume.specs.Parties.{Flies, Holds, by_client, by_daemon, flight_at}
-use Rattle.dn_volume.specs.Balance.{raised, added, dropped, times}
+use Rattle.dn_volume.specs.Parties.{Holds, by_client, by_daemon, flight_at}
+use Rattle.dn_volume.specs.Balance.{dropped, times}
 use Rattle.dn_volume.specs.Reclaims.{dying_units, one_if}
 use Rattle.dn_volume.specs.Shares.{IsWaiting, in_queue, is_begun}
-use Rattle.dn_volume.specs.Agrees.{StandsFast, IsVolume}
+use Rattle.dn_volume.specs.Agrees.{StandsFast}
 use Rattle.dn_volume.specs.Stills.{IsAwaited}
 use Rattle.dn_volume.specs.Fresh.{IsFresh}
 use Rattle.dn_volume.specs.Wrong.{RefusesWrong, WrongPartsAreRefused, LeftOutPlacesAreRefused, StalePointersAreRefused}

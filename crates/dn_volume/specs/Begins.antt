@@ -3,7 +3,7 @@
 -- are not there: first those that the files tell, then that an inode is held, then that an inode,
 -- space or room for
 -- releases is wanting, then want of memory.
-use Rattle.std.specs.Prelude.{◌≡◌, ◌≢◌, ◌⊎◌, ◌↔◌, ℕ, ◌+◌, ◌-◌, ◌*◌, ◌/◌, ◌<◌, ◌≤◌, false}
+use Rattle.std.specs.Prelude.{◌≡◌, ◌≢◌, ◌⊎◌, ◌↔◌, ℕ, ◌+◌, ◌-◌, ◌/◌, ◌<◌, ◌≤◌, false}
 use Rattle.std.specs.Prelude.{if◌then◌else◌, ◌==◌, List, [], ◌∷◌, ◌++◌, length, slice_get}
 use Rattle.std.specs.Prelude.{Some, None, Contains}
 use Rattle.pm_device.specs.State.{State, IsSame}
@@ -31,6 +31,7 @@ use Rattle.dn_volume.specs.Planned.{row_slots}
 use Rattle.dn_volume.specs.PlannedNames.{inode_list}
 use Rattle.dn_volume.specs.Flights.{left_of}
 use Rattle.dn_volume.specs.Kept.{SameButRoom, SameButBegun}
+use Rattle.dn_volume.specs.Replaces.{Replaces}
 use Rattle.dn_volume.specs.Agrees.{IsVolume}
 use Rattle.dn_volume.specs.Events.{Counts}
 
@@ -168,10 +169,12 @@ abbrev pub IsFreshChange : Change → Type 0
 IsFreshChange (Data c) = c.filled ≡ 0
 IsFreshChange (Names c) = c.prepared ≡ false
 
--- it begins with so many events left; a new inode is the least that is free
+-- The client, which had none in flight, has this operation with so many events left. A new inode is
+-- the least that is free.
 pub record Opens (d : Disk) (who : ℕ) (op : Op) (left : ℕ) (f : Flight) (b b' : Parts) : Type 0
   where
-    pub flies : Flies b' who f
+    pub client : 1 ≤ who
+    pub replaces : Replaces (who - 1) None (Some f) b b'
     pub op_is : f.op ≡ op
     pub left_is : left ≡ left_of f
     pub unraised : f.raised ≡ 0
@@ -194,7 +197,6 @@ pub record IsUntouched {D F : Type 0} (state : D → State) (v v' : Volume D F) 
 pub record HasBegun {D F : Type 0} (state : D → State) (who : ℕ) (op : Op) (left : ℕ)
     (v v' : Volume D F) (d : Disk) : Type 0 where
   pub has : HasAll d v.parts op
-  pub idle : flight_at v.parts.flights.items (who - 1) ≡ None
   pub volume : IsVolume d v'.parts (state v'.device)
   pub device : IsSame (state v.device) (state v'.device)
   pub flight : Flight

@@ -46,9 +46,10 @@ use Rattle.dn_volume.specs.declared.outcome.Outcome.TheVariants.{
 }
 use Rattle.dn_volume.specs.declared.volume.Parts.{Parts}
 use Rattle.dn_volume.specs.declared.volume.Volume.{Volume}
-use Rattle.dn_volume.specs.Parties.{Flies, SameOthers, KeepsOps, flight_at}
+use Rattle.dn_volume.specs.Parties.{Flies, SameOthers, KeepsOps}
 use Rattle.dn_volume.specs.Accounts.{AccountsFor, KeepsAlone}
 use Rattle.dn_volume.specs.Flights.{left_of}
+use Rattle.dn_volume.specs.Replaces.{Replaces}
 use Rattle.dn_volume.specs.Agrees.{IsVolume, IsStopped}
 
 -- an image without a fault, with the files of the one disk or of the other; it is this program's
@@ -119,8 +120,8 @@ pub record InFlight (b : Parts) (who : ℕ) (op : Op) (left : ℕ) : Type 0 wher
   pub op_is : flight.op ≡ op
   pub left_is : left ≡ left_of flight
 
--- The operation in flight is answered: it goes over into the history, and the files are those after
--- it.
+-- The operation in flight is answered: it goes over into the history, so that its client has none in
+-- flight, and the files are those after it.
 pub record Answers {D F : Type 0} (state : D → State) (print : Print) (who : ℕ) (op : Op)
     (reply : Reply) (v v' : Volume D F) (d : Disk) : Type 0 where
   pub after : Disk
@@ -135,7 +136,7 @@ pub record Answers {D F : Type 0} (state : D → State) (print : Print) (who : �
   pub grants : Grants (files d) op reply
   pub files_after : IsOwn print d → IsSameFiles (files after) (after_op (files d) op)
   pub flew : InFlight v.parts who op 1
-  pub landed : flight_at v'.parts.flights.items (who - 1) ≡ None
+  pub replaces : Replaces (who - 1) (Some flew.flight) None v.parts v'.parts
 
 -- A fence failed: the images on the way hold the files of before, or those after the operation if
 -- this event was to

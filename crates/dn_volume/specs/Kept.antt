@@ -5,7 +5,7 @@ use Rattle.std.specs.Prelude.{◌≡◌, ◌⊎◌, ◌↔◌, ℕ, List, length
 use Rattle.dn_volume.specs.declared.flight.Flight.{Flight}
 use Rattle.dn_volume.specs.declared.volume.InodeState.{InodeState}
 use Rattle.dn_volume.specs.declared.volume.Parts.{Parts}
-use Rattle.dn_volume.specs.Parties.{SameOthers, taken_by}
+use Rattle.dn_volume.specs.Parties.{taken_by}
 
 -- an inode's use, size, places and round; not who holds it
 pub record SameInode (n n' : InodeState) : Type 0 where
@@ -58,10 +58,9 @@ pub record SameButRoom (b b' : Parts) : Type 0 where
   pub inodes : OfInodes IsSameInode b.inodes.items b'.inodes.items
   pub flights : b'.flights.items ≡ b.flights.items
 
--- And this operation is in flight: it has taken its pages from the free ones, and holds its inodes.
+-- And this operation has taken its pages from the free ones, and holds its inodes.
 pub record SameButBegun (who : ℕ) (f : Flight) (b b' : Parts) : Type 0 where
   pub work : SameWork b b'
   pub free : (page : ℕ) → Contains b.free.free page
       ↔ (Contains b'.free.free page ⊎ Contains (taken_by f) page)
   pub inodes : OfInodes (IsHeldInode who f) b.inodes.items b'.inodes.items
-  pub others : SameOthers who b b'

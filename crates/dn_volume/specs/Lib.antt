@@ -1,4 +1,5 @@
 pub mod Parties
+pub mod Batches
 pub mod Inodes
 pub mod Space
 pub mod Balance

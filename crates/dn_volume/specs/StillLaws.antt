@@ -1,5 +1,5 @@
 -- How a device stays still, but for what operations in flight await.
-use Rattle.std.specs.Prelude.{◌≡◌, ◌⊎◌, ℕ, ◌<◌, length}
+use Rattle.std.specs.Prelude.{ℕ}
 use Rattle.pm_device.specs.State.{State}
 use Rattle.pm_device.specs.Settled.{FlushesAll, SettlesAll, Still}
 use Rattle.dn_volume.specs.declared.flight.Flight.{Flight}

@@ -1,5 +1,5 @@
 -- Each group of the invariant refuses something: a volume without files in which one part is wrong.
-use Rattle.std.specs.Prelude.{◌≡◌, ◌≢◌, ℕ, ◌+◌, ◌<◌, ◌≤◌, true, List, [], ◌∷◌, length, slice_get, Some, None}
+use Rattle.std.specs.Prelude.{◌≡◌, ℕ, ◌+◌, ◌<◌, ◌≤◌, true, List, [], ◌∷◌, length, slice_get, Some, None}
 use Rattle.std.specs.FinMap.{get}
 use Rattle.pm_device.specs.State.{State}
 use Rattle.pm_device.specs.Settled.{IsSettled}
@@ -11,7 +11,6 @@ use Rattle.dn_model.specs.Disk.{Disk}
 use Rattle.dn_model.specs.Own.{LivePlace}
 use Rattle.dn_model.specs.Empty.{empty_disk}
 use Rattle.dn_volume.specs.declared.background.Sharing.{Sharing}
-use Rattle.dn_model.specs.declared.op.CountChange.{CountChange}
 use Rattle.dn_volume.specs.declared.volume.InodeState.{InodeState}
 use Rattle.dn_volume.specs.declared.volume.Parts.{Parts}
 use Rattle.dn_volume.specs.Shares.{IsQueued}

@@ -5,6 +5,7 @@
 #![tactic(auto)]
 
 pub mod background;
+pub mod batch;
 pub mod flight;
 pub mod kind;
 pub mod laws;
@@ -14,6 +15,7 @@ pub mod units;
 pub mod volume;
 
 pub use background::{DyingPlace, Reclaiming, Sharing, SharingStep};
+pub use batch::{Batch, BatchPage};
 pub use dn_model::{CLIENTS, DAEMON, MOST_RELEASES, RECLAIM};
 pub use flight::{Change, DataChange, Flight, NameChange, Turn};
 pub use kind::FlightKind;

@@ -9,6 +9,7 @@ ghost use Rattle.dn_volume.specs.Parties.{flight_of};
 ghost use Rattle.dn_volume.specs.Agrees.{Agrees, IsVolume};
 
 use crate::background::{Reclaiming, Sharing};
+use crate::batch::Batch;
 use crate::flight::Flight;
 use crate::outcome::CountChange;
 use dedupe_queue::WorkQueue;
@@ -28,6 +29,8 @@ pub struct Volume<D: Pm, F: Fingerprint> {
     pub device: D,
     /// The fingerprint of pages.
     pub print: F,
+    /// Copies of pages, with prints that were taken before.
+    pub kept: Batch<F>,
     /// What is kept in memory.
     pub parts: Parts,
 }
@@ -175,6 +178,17 @@ impl<D: Pm, F: Fingerprint> Volume<D, F> {
             ((d : Disk) → IsVolume d self.now.parts (D.state self.now.device) → HasNoneAt d slot) }
     {
         self.parts.fact.row_at(&self.device, slot)
+    }
+
+    /// The print of a page's bytes: that of a kept copy of this page with the same bytes, where there is one with a
+    /// print, and else it is taken.
+    pub fn print(&self, page: u64, bytes: &[u8]) -> [u8; 20]
+        ensures { result ≡ F.print bytes.now }
+    {
+        match self.kept.print_of(page, bytes) {
+            Some(print) => print,
+            None => self.print.of(bytes),
+        }
     }
 
     /// The units of reclaim's work that are left.

@@ -1,6 +1,6 @@
 -- The volume, once a write or a cut is ended.
 use Rattle.std.proofs.Common.{◌≡◌, ◌≢◌, inl, ℕ, ◌+◌, ◌*◌, ◌<◌, ◌≤◌, List, [], ◌∷◌, length, refl, sym, ◌∙◌, ap, subst, arith}
-use Rattle.std.specs.Prelude.{Contains, All}
+use Rattle.std.specs.Prelude.{Some, None, Contains, All}
 use Rattle.std.specs.FinMap.{get}
 use Rattle.pm_device.specs.State.{State}
 use Rattle.pm_device.specs.Settled.{SettlesAll}
@@ -27,7 +27,8 @@ use Rattle.dn_volume.proofs.Heads.{none_stale_kept}
 use Rattle.dn_volume.proofs.OthersStay.{others_stay}
 use Rattle.dn_volume.proofs.Stills.{still_settles}
 use Rattle.file_ops.specs.Ends.{ChangesData, Ends}
-use Rattle.file_ops.proofs.Basics.{held_is, same_others, a_client, flies_before, other_flies}
+use Rattle.dn_volume.proofs.Replaced.{few, others_same, flies_other}
+use Rattle.file_ops.proofs.Basics.{held_is}
 use Rattle.file_ops.proofs.Freed.{rows_same}
 use Rattle.file_ops.proofs.Frame.{leaves_rest}
 use Rattle.file_ops.proofs.Space.{space_after}
@@ -60,16 +61,16 @@ module _ (d e : Disk) (b b' : Parts) (s t : State) (who : ℕ) (f : Flight) (c :
   pub others_after : ((q : ℕ) (g : Flight) → q ≢ who → Flies b' q g → IsFlight e q g t) × StayInHand who e b'
   others_after = others_stay who (f.ino ∷ []) (taken_by f) d e b b' s t v fast_after
       (record { inode = λ i has. inl (mine i has); page = λ page has. inl (for_client f flies has) })
-      (leaves_rest d e f c from n kind disk who s t appends) (same_others b b' who f flies ends.keeps ends.flight) (λ ne. ends.keeps.raised)
+      (leaves_rest d e f c from n kind disk who s t appends) (others_same who flies.client (Some f) None b b' ends.flight) (λ ne. ends.keeps.raised)
 
   client : who ≤ 14
-  client = a_client b b' who f flies ends.keeps ends.flight v.flights.clients
+  client = few who flies.client (Some f) None b b' ends.flight
 
   -- a flight of another actor is not for this inode
   other_file : (q : ℕ) (g : Flight) → Flies b' q g → g.ino ≢ f.ino
   other_file q g g_flies same =
-      let before = flies_before b b' who f flies ends.keeps ends.flight q g g_flies in
-      let_go d e b b' f c from n v.inodes disk ends.inode who v.holders flies v.flights.clients held ends.keeps ends.flight q
+      let before = (flies_other who flies.client (Some f) None b b' ends.flight refl q g g_flies).1 in
+      let_go d e b b' f c from n v.inodes disk ends.inode who v.holders flies.client held ends.flight q
       (by_client g g_flies (subst (Contains g.held.items) same (by_change g.change (v.flights.each q g before)).holds))
     where
       by_change : (x : Change) → IsFlightOf d q g s x → GrowsBy d g
@@ -108,24 +109,23 @@ module _ (d e : Disk) (b b' : Parts) (s t : State) (who : ℕ) (f : Flight) (c :
           (named_same f.ino d e disk.event disk.well name);
     };
     inodes = inodes_after d e b b' f c from n v.inodes disk ends.inode;
-    holders = holders_after d e b b' f c from n v.inodes disk ends.inode who v.holders flies v.flights.clients held ends.keeps ends.flight;
-    space = space_after d e b b' who f c from n v.space flies kind is.grows.apart disk ends.keeps ends.flight ends.pages;
+    holders = holders_after d e b b' f c from n v.inodes disk ends.inode who v.holders flies.client held ends.flight;
+    space = space_after d e b b' who f c from n v.space flies kind is.grows.apart disk ends.flight ends.pages;
     table = table_after;
-    counts = counted_after d e b b' who f c from n v.fast.valid v.counts flies v.flights.clients all_raised disk ends.keeps ends.flight ends.releases
-        ends.owed;
+    counts = counted_after d e b b' who f c from n v.fast.valid v.counts flies all_raised disk ends.keeps ends.flight ends.releases;
     flights = record {
       clients = ends.flight.clients ∙ v.flights.clients;
-      each = λ q g g_flies. others_after.0 q g (other_flies b b' who f flies ends.keeps ends.flight q g g_flies) g_flies;
+      each = λ q g g_flies. others_after.0 q g (flies_other who flies.client (Some f) None b b' ends.flight refl q g g_flies).0 g_flies;
     };
-    queue = queued_after d e b b' f c from n (length c.runs.items) v.inodes disk ends.keeps ends.inode ends.queue v.queue;
+    queue = queued_after d e b b' f c from n (length c.runs.items) v.inodes disk ends.keeps ends.flight.sharing ends.inode ends.queue v.queue;
     sharing = others_after.1.sharing (λ him. omega (arith, him, client));
-    reclaiming = reclaiming_after d e b b' f c from n (length c.runs.items) v.inodes disk ends.keeps ends.inode ends.releases
+    reclaiming = reclaiming_after d e b b' f c from n (length c.runs.items) v.inodes disk ends.keeps ends.flight.sharing ends.inode ends.releases
         (others_after.1.raised (λ him. omega (arith, him, client))) v.reclaiming;
     pointers = none_stale_kept d e disk.event.relogs.geometry disk.event.relogs.pointer
         (λ row has. record { row = row; there = subst (λ (rs : List Row). Contains rs row) (sym rows_still) has; page_is = refl }) v.pointers;
-    room = room_after b b' who f flies v.flights.clients ends.keeps ends.flight ends.owed e c s t kind ends.history.0 from n ends.inode ends.releases
+    room = room_after b b' who f flies.client ends.keeps ends.flight ends.owed e c s t kind ends.history.0 from n ends.inode ends.releases
         ends.queue ends.history.1 units other_file v.room;
     trace = trace_after;
     still = still_settles who b b' s t (record { words = settles.words; kept = settles.kept; own = settles.own })
-        (same_others b b' who f flies ends.keeps ends.flight) v.still;
+        (others_same who flies.client (Some f) None b b' ends.flight) v.still;
   }

@@ -2,7 +2,7 @@
 use Rattle.std.proofs.Common.{◌≡◌, ◌≢◌, ⊎_elim, ℕ, ◌+◌, ◌-◌, ◌*◌, ◌<◌, ◌≤◌, true, List, [], ◌∷◌, ◌++◌, length, refl, sym, ◌∙◌, ap, subst, arith}
 use Rattle.std.proofs.lemmas.Bool.{cases_eq}
 use Rattle.std.proofs.lemmas.List.{append-nil}
-use Rattle.std.specs.Prelude.{slice_get, Some, All, Contains}
+use Rattle.std.specs.Prelude.{slice_get, Some, None, All, Contains}
 use Rattle.pm_device.specs.State.{State, Rose}
 use Rattle.pm_device.specs.Settled.{LeavesOnly, SettlesAll}
 use Rattle.pm_layout.specs.declared.Geometry.{Geometry}
@@ -30,7 +30,9 @@ use Rattle.dn_volume.specs.Flights.{IsDataFlight, left_by, left_of}
 use Rattle.dn_volume.specs.Events.{IsBetween, word_in, Counts, Answers, Breaks}
 use Rattle.dn_volume.specs.Agrees.{IsVolume, HasHead}
 use Rattle.file_commit.specs.Append.{AppendsBetween, AppendsNew, AppendsThere, IsReadyToAppend}
-use Rattle.file_ops.specs.Ends.{ChangesInode, EndsFlight, Ends}
+use Rattle.dn_volume.specs.Replaces.{Replaces}
+use Rattle.dn_volume.proofs.Replaced.{others_same}
+use Rattle.file_ops.specs.Ends.{ChangesInode, Ends}
 use Rattle.file_ops.specs.Giving.{Gives, IsUnsharedAmong}
 use Rattle.file_ops.specs.Ending.{MapsAt, FinishesBy, FinishesParts}
 use Rattle.law_write.specs.Events.{IsUnused}
@@ -38,7 +40,6 @@ use Rattle.dn_volume.proofs.Heads.{head_after}
 use Rattle.file_ops.proofs.Frame.{leaves_rest}
 use Rattle.dn_volume.proofs.Kept.{ops_at}
 use Rattle.dn_volume.proofs.Between.{old_or_new}
-use Rattle.file_ops.proofs.Basics.{same_others}
 use Rattle.file_ops.proofs.Accounted.{write_accounts, alone_was}
 use Rattle.file_ops.proofs.After.{volume_after}
 use Rattle.file_ops.proofs.DiskAfter.{after}
@@ -127,7 +128,7 @@ module _ {D F : Type 0} (state : D → State) (print : Print) (v v' : Volume D F
       * (length f.slots.items + length f.fresh.items) + 4)
       (node : InodeState) (node_is : slice_get v.parts.inodes.items f.ino ≡ Some node)
       (mid : Parts) (tail : ℕ) (tail_is : tail ≡ tail_at (d.inode f.ino).log.pages (count (d.inode f.ino).log)) (out : IsOut v.parts mid)
-      (ended : EndsFlight who v.parts mid)
+      (ended : Replaces (who - 1) (Some f) None v.parts mid)
       (gives : Gives (IsUnsharedAmong d node.map.map from n) v.parts.free mid.free)
       (inodes_end : List InodeState → List InodeState → Type 0) (finish : FinishesBy inodes_end who tail f c mid v'.parts)
       (inode : ChangesInode e f.ino c.size mid v'.parts) where
@@ -157,7 +158,7 @@ module _ {D F : Type 0} (state : D → State) (print : Print) (v v' : Volume D F
           trace = ap (λ tr. tr.items) ends.keeps.trace ∙ sym (append-nil v.parts.trace.items);
           words = λ slot. ap (λ (rs : List Row). word_in rs slot) rows_same;
         };
-        others = same_others v.parts v'.parts who f flies ends.keeps ends.flight;
+        others = others_same who flies.client (Some f) None v.parts v'.parts ends.flight;
         counts = counts;
         geometry = ends.keeps.geometry;
         faults = faults;
@@ -172,7 +173,7 @@ module _ {D F : Type 0} (state : D → State) (print : Print) (v v' : Volume D F
       grants = subst (λ (o : Op). Grants (files d) o Done) same decides.grants;
       files_after = λ own. subst (λ (x : Op). IsSameFiles (files e) (after_op (files d) x)) same (decides.files_after print own);
       flew = record { flight = f; flies = flies; op_is = same; left_is = last_left };
-      landed = ends.flight.landed;
+      replaces = ends.flight;
     }
 
 -- the last event of a write
@@ -202,7 +203,7 @@ module _ {D F : Type 0} (state : D → State) (print : Print) (v v' : Volume D F
       * (length f.slots.items + length f.fresh.items) + 4)
       (node : InodeState) (node_is : slice_get v.parts.inodes.items f.ino ≡ Some node)
       (mid : Parts) (tail : ℕ) (tail_is : tail ≡ tail_at (d.inode f.ino).log.pages (count (d.inode f.ino).log)) (out : IsOut v.parts mid)
-      (ended : EndsFlight who v.parts mid)
+      (ended : Replaces (who - 1) (Some f) None v.parts mid)
       (gives : Gives (IsUnsharedAmong d node.map.map c.first (length c.blocks.items)) v.parts.free mid.free)
       (finish : FinishesParts who tail f c mid v'.parts) where
     abbrev inodes_end : List InodeState → List InodeState → Type 0

@@ -1,31 +1,31 @@
 -- The counts of rows, once a flight is ended: what it raised has dropped mappings.
 use Rattle.std.proofs.Common.{◌≡◌, ℕ, zero, suc, ◌+◌, ◌-◌, ◌≤◌, List, length, length-append, refl, sym, ◌∙◌, ap, subst, arith}
-use Rattle.std.specs.Prelude.{Option, IsSome, Contains}
+use Rattle.std.specs.Prelude.{Option, Some, None, IsSome, Contains}
 use Rattle.std.proofs.lemmas.List.{take_all}
 use Rattle.dn_model.specs.Table.{Row, row_of}
 use Rattle.dn_model.specs.Disk.{Disk, maps, rows}
 use Rattle.dn_model.specs.Counts.{total, hit, mappings}
 use Rattle.dn_model.specs.Valid.{IsValid}
-use Rattle.law_write.proofs.Counting.{total-same, total-change}
+use Rattle.law_write.proofs.Counting.{total-same}
 use Rattle.law_table.proofs.Rows.{row_found, none_or_some}
 use Rattle.law_cut.specs.DropLaws.{dropped_from}
 use Rattle.law_cut.proofs.Dropped.{drop_mappings}
 use Rattle.dn_volume.specs.declared.flight.Flight.{Flight}
 use Rattle.dn_volume.specs.declared.flight.DataChange.{DataChange}
 use Rattle.dn_volume.specs.declared.volume.Parts.{Parts}
-use Rattle.dn_volume.specs.Parties.{Flies, flight_at}
+use Rattle.dn_volume.specs.Parties.{Flies}
 use Rattle.dn_volume.specs.Planned.{slot_of, row_slots}
-use Rattle.dn_volume.specs.Balance.{times, raised_by, raised_to_share, added_to_share, raised_to_die, raised, added, dropped, AreCounted}
+use Rattle.dn_volume.specs.Balance.{times, raised_by, added_to_share, raised, added, dropped, AreCounted}
 use Rattle.dn_volume.proofs.Raises.{times-append}
 use Rattle.dn_volume.proofs.PlacesLost.{slot_hits}
 use Rattle.dn_volume.proofs.MappingsMoved.{mappings_counted}
-use Rattle.file_ops.specs.Ends.{ChangesData, KeepsParts, EndsFlight, Releases, Repays}
+use Rattle.dn_volume.specs.Replaces.{Replaces}
+use Rattle.dn_volume.proofs.Replaced.{owed_moved, raised_moved}
+use Rattle.file_ops.specs.Ends.{ChangesData, KeepsParts, Releases}
 use Rattle.file_ops.proofs.Freed.{rows_same}
 use Rattle.dn_volume.specs.declared.background.DyingPlace.{DyingPlace}
 use Rattle.dn_volume.specs.Reclaims.{one_if}
 use Rattle.dn_volume.specs.Reserve.{owed_sum}
-use Rattle.file_ops.proofs.Basics.{flight_within}
-use Rattle.file_ops.proofs.Owed.{sum_less}
 
 total-front : (g : ℕ → ℕ) (n : ℕ) → total (suc n) g ≡ g 0 + total n (λ i. g (suc i))
 unfolding total
@@ -52,29 +52,19 @@ module _ (d : Disk) (valid : IsValid d) (row : Row) (has : Contains (rows d) row
       joined all head tail a b whole h0 r e1 e2 e3 e4 e5 e6 = omega arith
 
 module _ (d e : Disk) (b b' : Parts) (who : ℕ) (f : Flight) (c : DataChange) (from n : ℕ) (valid : IsValid d) (counts : AreCounted d b)
-    (flies : Flies b who f) (clients : length b.flights.items ≡ 14)
-    (all_raised : f.raised ≡ length f.rows.items) (disk : ChangesData d e f c from n) (keeps : KeepsParts b b') (ended : EndsFlight who b b')
-    (releases : Releases f b b') (owed : Repays f b b') where
+    (flies : Flies b who f)
+    (all_raised : f.raised ≡ length f.rows.items) (disk : ChangesData d e f c from n) (keeps : KeepsParts b b')
+    (ended : Replaces (who - 1) (Some f) None b b') (releases : Releases f b b') where
   -- its raises are those of nobody
   pub raised_less : (slot : ℕ) → raised b' slot + times slot f.rows.items ≡ raised b slot
   raised_less slot =
-      let moved = total-change (λ j. times slot (raised_by (flight_at b.flights.items j)))
-      (λ j. times slot (raised_by (flight_at b'.flights.items j))) 14 (who - 1)
-      (omega (arith, clients, flight_within b.flights.items (who - 1) f flies.is)) (λ j ne. ap (λ (r : Option Flight). times slot (raised_by r))
-      (ended.others j ne)) in
-      let before : times slot (raised_by (flight_at b.flights.items (who - 1))) ≡ times slot f.rows.items =
-      ap (λ (r : Option Flight). times slot (raised_by r)) flies.is ∙ ap (λ (xs : List ℕ). times slot xs)
+      let moved = raised_moved who flies.client (Some f) None b b' ended keeps.raised slot in
+      let all : times slot (raised_by (Some f)) ≡ times slot f.rows.items = ap (λ (xs : List ℕ). times slot xs)
       (take_all f.raised f.rows.items (omega (arith, all_raised))) in
-      let after : times slot (raised_by (flight_at b'.flights.items (who - 1))) ≡ 0 = ap (λ (r : Option Flight). times slot (raised_by r))
-      ended.landed in
-      let shared : times slot (raised_to_share b'.sharing) ≡ times slot (raised_to_share b.sharing) = ap (λ r. times slot (raised_to_share r))
-      keeps.sharing in
-      let died : times slot (raised_to_die b'.reclaiming.raised) ≡ times slot (raised_to_die b.reclaiming.raised) = ap
-      (λ r. times slot (raised_to_die r)) keeps.raised in
-      omega (arith, moved, before, after, shared, died)
+      omega (arith, moved, all)
 
   pub added_same : (slot : ℕ) → added b' slot ≡ added b slot
-  added_same slot = ap (λ r. times slot (added_to_share r)) keeps.sharing
+  added_same slot = ap (λ r. times slot (added_to_share r)) ended.sharing
 
   -- they have dropped mappings
   pub dropped_more : (slot : ℕ) → dropped b' slot ≡ dropped b slot + times slot f.rows.items
@@ -103,6 +93,6 @@ module _ (d e : Disk) (b b' : Parts) (who : ℕ) (f : Flight) (c : DataChange) (
     where
       few : length b'.reclaiming.releases.items + owed_sum b' (λ room. room.releases) + one_if b'.reclaiming.raised ≤ 1105920
       few =
-          let sum = sum_less b b' who f flies clients keeps ended owed (λ room. room.releases) refl in
+          let sum = owed_moved who flies.client (Some f) None b b' ended (λ room. room.releases) in
           let up : one_if b'.reclaiming.raised ≡ one_if b.reclaiming.raised = ap (λ (r : Option DyingPlace). one_if r) keeps.raised in
           omega (arith, counts.few, sum, up, ap length releases.items, length-append b.reclaiming.releases.items f.rows.items)

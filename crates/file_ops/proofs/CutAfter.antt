@@ -82,7 +82,7 @@ use Rattle.dn_volume.specs.Balance.{times, raised_by, raised, added, dropped}
 use Rattle.dn_volume.specs.Flights.{IsDataFlight}
 use Rattle.dn_volume.specs.Agrees.{IsVolume}
 use Rattle.file_ops.specs.Ends.{ChangesData}
-use Rattle.file_ops.proofs.Basics.{flight_within}
+use Rattle.dn_volume.proofs.Replaced.{flight_within}
 use Rattle.file_ops.proofs.Counts.{times-slots}
 use Rattle.file_ops.proofs.DiskAfter.{words_now, words-here, words-keep}
 use Rattle.file_ops.proofs.Taken.{fresh_taken, block_taken, fresh_apart, fresh_no_block}

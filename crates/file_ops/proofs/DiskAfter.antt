@@ -80,7 +80,7 @@ use Rattle.dn_volume.specs.Agrees.{IsVolume}
 use Rattle.law_write.proofs.Counting.{term-le}
 use Rattle.file_commit.specs.Append.{IsReadyToAppend}
 use Rattle.file_ops.specs.Ends.{ChangesData}
-use Rattle.file_ops.proofs.Basics.{flight_within}
+use Rattle.dn_volume.proofs.Replaced.{flight_within}
 use Rattle.file_ops.proofs.Counts.{times-slots}
 use Rattle.file_ops.proofs.Taken.{fresh_taken, block_taken, fresh_apart, blocks_apart, fresh_no_block}
 

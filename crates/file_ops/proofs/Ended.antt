@@ -1,6 +1,6 @@
 -- What the last event of a write or a cut makes of the parts.
 use Rattle.std.proofs.Common.{◌≡◌, inl, inr, ⊎_elim, ℕ, ◌+◌, ◌-◌, ◌*◌, ◌<◌, ◌≤◌, List, [], ◌∷◌, ◌++◌, length, refl, sym, ◌∙◌, ap, subst, arith}
-use Rattle.std.specs.Prelude.{slice_get, Option, Some, Contains, vec_len, vec_capacity}
+use Rattle.std.specs.Prelude.{slice_get, Option, Some, None, Contains, vec_len, vec_capacity}
 use Rattle.std.specs.VecDeque.{deque_len, deque_capacity}
 use Rattle.std.proofs.lemmas.List.{length-map}
 use Rattle.pm_device.specs.State.{State}
@@ -25,7 +25,8 @@ use Rattle.dn_volume.specs.Flights.{IsDataFlight}
 use Rattle.dn_volume.specs.Reserve.{units_by, runs_by}
 use Rattle.dn_volume.specs.Agrees.{IsVolume}
 use Rattle.file_commit.specs.Append.{IsReadyToAppend}
-use Rattle.file_ops.specs.Ends.{ChangesData, ChangesInode, Ends, EndsFlight, GivesPages}
+use Rattle.dn_volume.specs.Replaces.{Replaces}
+use Rattle.file_ops.specs.Ends.{ChangesData, ChangesInode, Ends, GivesPages}
 use Rattle.file_ops.specs.Giving.{Gives, IsUnsharedAmong}
 use Rattle.file_ops.specs.Ending.{MapsAt, FinishesBy}
 use Rattle.file_ops.proofs.DiskAfter.{after, may, changes, ready, old_fits, own_after, files_after, granted}
@@ -41,7 +42,6 @@ pub record IsOut (b mid : Parts) : Type 0 where
   pub names : mid.names ≡ b.names
   pub fact : mid.fact ≡ b.fact
   pub trace : mid.trace ≡ b.trace
-  pub sharing : mid.sharing ≡ b.sharing
   pub stopped : mid.stopped ≡ b.stopped
   pub inodes : mid.inodes ≡ b.inodes
   pub queue : mid.queue ≡ b.queue
@@ -67,7 +67,7 @@ module _ (d : Disk) (b : Parts) (s : State) (who : ℕ) (f : Flight) (c : DataCh
     (kind : f.change ≡ Data c) (is : IsDataFlight d who f c s) (e : Disk) (from n : ℕ) (decides : Decides d s who f c e from n)
     (node : InodeState) (node_is : slice_get b.inodes.items f.ino ≡ Some node)
     (mid b' : Parts) (tail : ℕ) (tail_is : tail ≡ tail_at (d.inode f.ino).log.pages (count (d.inode f.ino).log)) (out : IsOut b mid)
-    (ended : EndsFlight who b mid)
+    (ended : Replaces (who - 1) (Some f) None b mid)
     (gives : Gives (IsUnsharedAmong d node.map.map from n) b.free mid.free) (inodes_end : List InodeState → List InodeState → Type 0)
     (finish : FinishesBy inodes_end who tail f c mid b') (inode : ChangesInode e f.ino c.size mid b')
   where
@@ -104,15 +104,17 @@ module _ (d : Disk) (b : Parts) (s : State) (who : ℕ) (f : Flight) (c : DataCh
             names = finish.names ∙ out.names;
             fact = finish.fact ∙ out.fact;
             trace = finish.trace ∙ out.trace;
-            sharing = finish.sharing ∙ out.sharing;
             stopped = finish.stopped ∙ out.stopped;
             raised = finish.raised ∙ ap (λ (r : _). r.raised) out.reclaiming;
             zero_check = finish.zero_check ∙ ap (λ (r : _). r.zero_check) out.reclaiming;
           };
           flight = record {
+            place = ended.place;
             clients = ap (λ (fs : _). length fs.items) finish.flights ∙ ended.clients;
-            landed = ap (λ (fs : _). flight_at fs.items (who - 1)) finish.flights ∙ ended.landed;
+            was = ended.was;
+            now = ap (λ (fs : _). flight_at fs.items (who - 1)) finish.flights ∙ ended.now;
             others = λ k ne. ap (λ (fs : _). flight_at fs.items k) finish.flights ∙ ended.others k ne;
+            sharing = finish.sharing ∙ ended.sharing;
           };
           inode = record {
             all = inode.all ∙ ap (λ (ns : _). length ns.items) out.inodes;
@@ -146,12 +148,12 @@ module _ (d : Disk) (b : Parts) (s : State) (who : ℕ) (f : Flight) (c : DataCh
             },
           );
           owed = record {
-            units = ap (λ (x : Change). b'.owed.units + units_by f x) kind ∙ let same = finish.units ∙ ap (λ (o : _). o.units) out.owed in
-                omega (arith, same, decides.all_filled, decides.all_raised);
+            units = let spent = ap (units_by f) kind in let same = finish.units ∙ ap (λ (o : _). o.units) out.owed in
+                omega (arith, spent, same, decides.all_filled, decides.all_raised);
             trace = let same = finish.owed_trace ∙ ap (λ (o : _). o.trace) out.owed in omega (arith, same, decides.all_raised);
-            history = finish.owed_history ∙ ap (λ (o : _). o.history) out.owed;
-            queue = ap (λ (x : Change). b'.owed.queue + runs_by x) kind ∙ finish.owed_queue ∙ ap (λ (o : _). o.queue) out.owed;
-            releases = finish.owed_releases ∙ ap (λ (o : _). o.releases) out.owed;
+            history = let same = finish.owed_history ∙ ap (λ (o : _). o.history) out.owed in omega (arith, same);
+            queue = let runs = ap runs_by kind in let same = finish.owed_queue ∙ ap (λ (o : _). o.queue) out.owed in omega (arith, runs, same);
+            releases = let same = finish.owed_releases ∙ ap (λ (o : _). o.releases) out.owed in omega (arith, same);
           };
         }
 

@@ -31,20 +31,19 @@ use Rattle.law_write.proofs.WriteEvent.{length-left, stands_for_read}
 use Rattle.file_content.specs.Content.{IsFilledBy}
 use Rattle.file_content.specs.Pages.{AreApart}
 use Rattle.file_content.proofs.FillSteps.{filled-stores}
-use Rattle.dn_volume.specs.declared.units.TheConstants.{FILL_UNITS, FALL_UNITS, ZERO_CHECK_UNITS}
+use Rattle.dn_volume.specs.declared.units.TheConstants.{FILL_UNITS}
 use Rattle.dn_volume.specs.declared.flight.Flight.{Flight}
 use Rattle.dn_volume.specs.declared.flight.Change.{Change}
 use Rattle.dn_volume.specs.declared.flight.Change.TheVariants.{Data}
 use Rattle.dn_volume.specs.declared.flight.DataChange.{DataChange}
 use Rattle.dn_volume.specs.declared.volume.InodeState.{InodeState}
 use Rattle.dn_volume.specs.declared.volume.Parts.{Parts}
-use Rattle.dn_volume.specs.declared.volume.Room.{Room}
 use Rattle.dn_volume.specs.Parties.{Flies, for_client, SameOthers, taken_by, blocks_of}
 use Rattle.dn_volume.specs.Inodes.{AreNamesOf, AreInodesOf}
 use Rattle.dn_volume.specs.Space.{AreSlotsOf}
 use Rattle.dn_volume.specs.Planned.{PlansData, new_byte}
 use Rattle.dn_volume.specs.Flights.{IsFlight, IsFlightOf, IsDataFlight, GrowsBy}
-use Rattle.dn_volume.specs.Reserve.{HasRoom, owed_sum, owed_to, units_by, runs_by, units_to_share, changes_to_share}
+use Rattle.dn_volume.specs.Reserve.{HasRoom, owed_to, units_by, runs_by}
 use Rattle.dn_volume.specs.Reclaims.{one_if, dying_units}
 use Rattle.dn_volume.specs.Agrees.{StandsFast, IsVolume}
 use Rattle.dn_volume.specs.Rely.{IsWordOf, of_page, LeavesRest, KeepsRest, StayInHand}
@@ -53,8 +52,8 @@ use Rattle.dn_volume.specs.Steps.{StepsOn}
 use Rattle.dn_volume.proofs.Kept.{quiet_alone, quiet_accounts}
 use Rattle.dn_volume.proofs.OthersStay.{others_stay}
 use Rattle.dn_volume.proofs.Stills.{still_flushes}
-use Rattle.dn_volume.proofs.Stepped.{others_same, ops_kept, same_holders, same_space, same_counts, same_queue}
-use Rattle.dn_volume.proofs.Replaced.{few, flies_new, Whose, whose, its_own, another, owed_moved as moved_room}
+use Rattle.dn_volume.proofs.Stepped.{others_same, ops_kept, same_holders, same_space, owes_on, same_counts, same_queue}
+use Rattle.dn_volume.proofs.Replaced.{few, flies_new, each_flight, each_room, owed_moved}
 use Rattle.file_ops.specs.Filling.{next_block, one_filled, StoresFill, Fills, FillsMove}
 use Rattle.file_ops.proofs.Taken.{block_taken, right_apart}
 
@@ -227,82 +226,53 @@ module _ (d : Disk) (b b' : Parts) (s t : State) (who : ℕ) (f : Flight) (c : D
       })
       leaves same (λ other. ap (λ r. r.raised) st.reclaiming)
 
+  is_it : (g : Flight) → Some f' ≡ Some g → f' ≡ g
+  is_it g is = cc
+
   each : (q : ℕ) (g : Flight) → Flies b' q g → IsFlight d q g t
-  each q g there = by (whose who st.client (Some f) (Some f') b b' st.replaces q g there)
-    where
-      by : Whose who st.client (Some f) (Some f') b b' st.replaces q g → IsFlight d q g t
-      by (its_own same' is) =
-          let one : f' ≡ g = cc is in
-          subst (λ (n : ℕ). IsFlight d n g t) (sym same') (subst (λ (h : Flight). IsFlight d who h t) one own_flight)
-      by (another other was) = stay.0 q g other there
+  each = each_flight who st.client (Some f) (Some f') b b' st.replaces d t
+      (λ g is. subst (λ (h : Flight). IsFlight d who h t) (is_it g is) own_flight) stay.0
 
   -- room
-  owed_moved : (kind : Room → ℕ) → owed_sum b' kind + kind (owed_to (Some f)) ≡ owed_sum b kind + kind (owed_to (Some f'))
-  owed_moved = moved_room who st.client (Some f) (Some f') b b' st.replaces
-
   units_was : (owed_to (Some f)).units ≡ (owed_to (Some f')).units + FILL_UNITS
   units_was = ap (units_by f) kind ∙ omega (arith, some)
-
-  queue_was : (owed_to (Some f)).queue ≡ (owed_to (Some f')).queue
-  queue_was = ap runs_by kind
 
   room : HasRoom b' t
   room =
       let was = volume.room in
-      let m_units = owed_moved (λ r. r.units) in
-      let m_trace = owed_moved (λ r. r.trace) in
-      let m_history = owed_moved (λ r. r.history) in
-      let m_queue = owed_moved (λ r. r.queue) in
-      let m_releases = owed_moved (λ r. r.releases) in
-      let o_units = fills.owed_units in
-      let o_trace = fills.owed_trace in
-      let o_history = fills.owed_history in
-      let o_queue = fills.owed_queue in
-      let o_releases = fills.owed_releases in
-      let w_units = was.owes.units in
-      let w_trace = was.owes.trace in
-      let w_history = was.owes.history in
-      let w_queue = was.owes.queue in
-      let w_releases = was.owes.releases in
+      let o_units = st.owed.units in
+      let o_trace = st.owed.trace in
+      let o_history = st.owed.history in
+      let o_queue = st.owed.queue in
+      let runs = ap runs_by kind in
+      let o_releases = st.owed.releases in
       let spare = stores.spare in
       record {
-        owes = record {
-          units = subst (λ x. owed_sum b' (λ r. r.units) + units_to_share x
-              + (FALL_UNITS * one_if b'.reclaiming.raised + ZERO_CHECK_UNITS * one_if b'.reclaiming.zero_check) ≤ b'.owed.units)
-              (sym st.replaces.sharing)
-              (subst (λ x. owed_sum b' (λ r. r.units) + units_to_share b.sharing
-              + (FALL_UNITS * one_if x.raised + ZERO_CHECK_UNITS * one_if x.zero_check) ≤ b'.owed.units)
-              (sym st.reclaiming) (omega (arith, m_units, o_units, w_units, units_was)));
-          trace = subst (λ x. owed_sum b' (λ r. r.trace) + changes_to_share x ≤ b'.owed.trace) (sym st.replaces.sharing)
-              (omega (arith, m_trace, o_trace, w_trace));
-          history = omega (arith, m_history, o_history, w_history);
-          queue = omega (arith, m_queue, o_queue, w_queue, queue_was);
-          releases = subst (λ x. owed_sum b' (λ r. r.releases) + one_if x.raised ≤ b'.owed.releases) (sym st.reclaiming)
-              (omega (arith, m_releases, o_releases, w_releases));
-        };
-        units = let there = was.units in omega (arith, there, o_units, spare);
+        owes = owes_on who f f' b b' st was.owes;
+        units = let there = was.units in omega (arith, there, o_units, units_was, spare);
         trace = subst (λ x. vec_len x + b'.owed.trace ≤ vec_capacity x) (sym fills.trace) (let there = was.trace in omega (arith, there, o_trace));
         history = subst (λ x. vec_len x + b'.owed.history ≤ vec_capacity x) (sym fills.history)
             (let there = was.history in omega (arith, there, o_history));
-        queue = subst (λ x. b'.owed.queue ≤ x.room) (sym st.queue) (let there = was.queue in omega (arith, there, o_queue));
+        queue = subst (λ x. b'.owed.queue ≤ x.room) (sym st.queue) (let there = was.queue in omega (arith, there, o_queue, runs));
         releases = subst (λ x. deque_len x.releases + b'.owed.releases ≤ deque_capacity x.releases) (sym st.reclaiming)
             (let there = was.releases in omega (arith, there, o_releases));
         names = subst (λ x. b'.owed.history ≤ x.room) (sym st.names) (let there = was.names in omega (arith, there, o_history));
-        places = λ q g x n there is at. places_on q g x n (whose who st.client (Some f) (Some f') b b' st.replaces q g there) is
-            (subst (λ xs. slice_get xs.items g.ino ≡ Some n) st.inodes at);
+        places = each_room who st.client (Some f) (Some f') b b' st.replaces (λ g x n is kind_is at. own_room g x n (is_it g is) kind_is (there g n at))
+            (λ q g n other g_flies at. (n, there g n at, omega arith)) volume.room.places;
       }
     where
+      there : (g : Flight) (n : InodeState) → slice_get b'.inodes.items g.ino ≡ Some n → slice_get b.inodes.items g.ino ≡ Some n
+      there g n at = subst (λ xs. slice_get xs.items g.ino ≡ Some n) st.inodes at
+
       data_is : (x y : DataChange) → Data x ≡ Data y → x ≡ y
       data_is x y e = cc
 
-      places_on : (q : ℕ) (g : Flight) (x : DataChange) (n : InodeState) → Whose who st.client (Some f) (Some f') b b' st.replaces q g
-          → g.change ≡ Data x → slice_get b.inodes.items g.ino ≡ Some n → length x.blocks.items ≤ n.map.room
-      places_on q g x n (its_own same' is) kind_is at =
-          let one : f' ≡ g = cc is in
+      own_room : (g : Flight) (x : DataChange) (n : InodeState) → f' ≡ g → g.change ≡ Data x → slice_get b.inodes.items g.ino ≡ Some n
+          → length x.blocks.items ≤ n.map.room
+      own_room g x n one kind_is at =
           let change : c' ≡ x = data_is c' x (ap (λ (h : Flight). h.change) one ∙ kind_is) in
           subst (λ (y : DataChange). length y.blocks.items ≤ n.map.room) change
           (volume.room.places who f c n flies kind (subst (λ (h : Flight). slice_get b.inodes.items h.ino ≡ Some n) (sym one) at))
-      places_on q g x n (another other was) kind_is at = volume.room.places q g x n was kind_is at
 
   pub filled_volume : IsVolume d b' t
   filled_volume = record {
@@ -314,7 +284,7 @@ module _ (d : Disk) (b b' : Parts) (s t : State) (who : ℕ) (f : Flight) (c : D
     space = same_space who f f' b b' st d volume.space;
     table = subst (AreSlotsOf d) (sym st.fact) volume.table;
     counts = same_counts who f f' b b' st (record { raised = refl })
-        (let same' = owed_moved (λ r. r.releases) in omega (arith, same')) d volume.counts;
+        (let same' = owed_moved who st.client (Some f) (Some f') b b' st.replaces (λ r. r.releases) in omega (arith, same')) d volume.counts;
     flights = record { clients = st.replaces.clients ∙ volume.flights.clients; each = each };
     queue = same_queue who f f' b b' st d volume.queue;
     sharing = stay.1.sharing (λ same'. let small = few who st.client (Some f) (Some f') b b' st.replaces in omega (arith, small, same'));

@@ -1,5 +1,5 @@
 -- What is kept of inodes, and who holds them, once a flight is ended.
-use Rattle.std.proofs.Common.{◌≡◌, ◌≢◌, inl, inr, ⊎_elim, ℕ, ◌<◌, ◌≤◌, List, [], ◌∷◌, length, refl, sym, ◌∙◌, ap, subst, arith}
+use Rattle.std.proofs.Common.{◌≡◌, ◌≢◌, inl, inr, ⊎_elim, ℕ, ◌-◌, ◌<◌, ◌≤◌, List, [], ◌∷◌, length, refl, sym, ◌∙◌, ap, subst, arith}
 use Rattle.std.specs.Prelude.{◌↔◌, slice_get, Option, Some, None, Contains}
 use Rattle.std.specs.Option.{option_map}
 use Rattle.std.proofs.lemmas.Bool.{cases_eq}
@@ -14,10 +14,12 @@ use Rattle.dn_volume.specs.declared.flight.Flight.{Flight}
 use Rattle.dn_volume.specs.declared.flight.DataChange.{DataChange}
 use Rattle.dn_volume.specs.declared.volume.InodeState.{InodeState}
 use Rattle.dn_volume.specs.declared.volume.Parts.{Parts}
-use Rattle.dn_volume.specs.Parties.{Flies, Holds, by_client}
+use Rattle.dn_volume.specs.Parties.{Holds}
 use Rattle.dn_volume.specs.Inodes.{as_use, IsInodeOf, AreInodesOf, AreHolders}
-use Rattle.file_ops.specs.Ends.{ChangesData, KeepsParts, EndsFlight, ChangesInode}
-use Rattle.file_ops.proofs.Basics.{only_one, holds_before, holds_after, holds_not, held_by_flight}
+use Rattle.dn_volume.specs.Replaces.{Replaces}
+use Rattle.dn_volume.proofs.Taken.{MovesHolder, holders_moved}
+use Rattle.file_ops.specs.Ends.{ChangesData, ChangesInode}
+use Rattle.file_ops.proofs.Basics.{only_one}
 
 -- the element at a place
 module _ {X : Type 0} where
@@ -31,9 +33,6 @@ module _ {X : Type 0} where
       by_it None is = absurd (⊎_elim (λ found. not_both (slice_get xs k) found.0 is found.2) (λ past. omega (arith, lt, past.0))
           (slice_get_cases xs k).1)
       by_it (Some x) is = (x, is)
-
-some_same : (h : Option ℕ) (p q : ℕ) → h ≡ Some p → h ≡ Some q → p ≡ q
-some_same h p q there here = cc
 
 none_not : (h : Option ℕ) (q : ℕ) → h ≡ None → h ≡ Some q → ⊥
 none_not h q gone there = cc
@@ -80,42 +79,43 @@ module _ (d e : Disk) (b b' : Parts) (f : Flight) (c : DataChange) (from n : ℕ
     ];
   }
 
-  module _ (who : ℕ) (holders : AreHolders d b) (flies : Flies b who f) (clients : length b.flights.items ≡ 14) (held : f.held.items ≡ f.ino ∷ [])
-      (keeps : KeepsParts b b') (ended : EndsFlight who b b') where
-    mine : Holds b who f.ino
-    mine = by_client f flies (subst (λ (xs : List ℕ). Contains xs f.ino) (sym held) (0, omega arith, refl))
+  module _ (who : ℕ) (holders : AreHolders d b) (client : 1 ≤ who) (held : f.held.items ≡ f.ino ∷ [])
+      (ended : Replaces (who - 1) (Some f) None b b') where
+    no_inode : (ino : ℕ) → Contains [] ino → ⊥
+    no_inode ino none = omega (arith, none.1)
 
-    -- what he held is the inode alone
-    pub holds_one : (i : ℕ) → Holds b who i → i ≡ f.ino
-    holds_one i holds = only_one f.ino i (subst (λ (xs : List ℕ). Contains xs i) held (held_by_flight b b' who f flies keeps ended clients i holds))
-
-    -- nobody holds it afterwards
-    pub let_go : (q : ℕ) → Holds b' q f.ino → ⊥
-    let_go q holds =
-        let was = holds_before b b' who f flies keeps ended q f.ino holds in
-        let same = some_same old_state.0.holder q who ((holders.told f.ino q old_state.0 old_state.1).1 was)
-        ((holders.told f.ino who old_state.0 old_state.1).1 mine) in
-        holds_not b b' who f flies keeps ended clients f.ino (subst (λ (p : ℕ). Holds b' p f.ino) same holds)
-
-    same_holder : (ino q : ℕ) (x : InodeState) → ino ≡ f.ino → slice_get b'.inodes.items ino ≡ Some x → (x.holder ≡ Some q) ↔ Holds b' q ino
-    same_holder ino q x same is =
-        let ends = change.here old_state.0 x old_state.1 (subst (λ (i : ℕ). slice_get b'.inodes.items i ≡ Some x) same is) in
-        ((λ told. absurd (none_not x.holder q ends.holder told)), (λ holds. absurd (let_go q (subst (Holds b' q) same holds))))
-
-    other_holder : (ino q : ℕ) (x : InodeState) → ino ≢ f.ino → slice_get b.inodes.items ino ≡ Some x → (x.holder ≡ Some q) ↔ Holds b' q ino
-    other_holder ino q x ne is = (
-      (λ told.
-          let holds = (holders.told ino q x is).0 told in
-          holds_after b b' who f flies keeps ended q ino (λ same. ne (holds_one ino (subst (λ (p : ℕ). Holds b p ino) same holds))) holds),
-      (λ holds. (holders.told ino q x is).1 (holds_before b b' who f flies keeps ended q ino holds)),
-    )
+    -- its inode is held by nobody afterwards
+    moves_holder : (ino : ℕ) (x : InodeState) → slice_get b'.inodes.items ino ≡ Some x
+        → (n : InodeState) × (slice_get b.inodes.items ino ≡ Some n) × MovesHolder who (Some f) None ino n x
+    moves_holder ino x is = elim (cases_eq ino f.ino) [
+      | inl same ↦
+          let here = subst (λ (i : ℕ). slice_get b'.inodes.items i ≡ Some x) same is in
+          let ends = change.here old_state.0 x old_state.1 here in (
+            old_state.0,
+            subst (λ (i : ℕ). slice_get b.inodes.items i ≡ Some old_state.0) (sym same) old_state.1,
+            record {
+              loose = λ has. absurd (no_inode ino has);
+              mine = λ has. absurd (no_inode ino has);
+              freed = λ had out. ends.holder;
+              kept = λ none out. absurd (none (subst (λ (xs : List ℕ). Contains xs ino) (sym held) (0, omega arith, sym same)));
+            },
+          )
+      | inr ne ↦ (
+        x,
+        sym (change.others ino ne) ∙ is,
+        record {
+          loose = λ has. absurd (no_inode ino has);
+          mine = λ has. absurd (no_inode ino has);
+          freed = λ had out. absurd (ne (only_one f.ino ino (subst (λ (xs : List ℕ). Contains xs ino) held had)));
+          kept = λ none out. refl;
+        },
+      )
+    ]
 
     pub holders_after : AreHolders e b'
-    holders_after = record {
-      told = λ ino q x is. elim (cases_eq ino f.ino) [
-        | inl same ↦ same_holder ino q x same is
-        | inr ne ↦ other_holder ino q x ne (sym (change.others ino ne) ∙ is)
-      ];
-      in_table = λ ino q holds. subst (λ (k : ℕ). ino < k) (sym (ap (λ g. g.inodes) disk.event.relogs.geometry))
-          (holders.in_table ino q (holds_before b b' who f flies keeps ended q ino holds));
-    }
+    holders_after = holders_moved who client (Some f) None b b' ended d e (ap (λ g. g.inodes) disk.event.relogs.geometry) holders moves_holder
+        (λ ino has. absurd (no_inode ino has))
+
+    pub let_go : (q : ℕ) → Holds b' q f.ino → ⊥
+    let_go q holds = none_not new_state.0.holder q (change.here old_state.0 new_state.0 old_state.1 new_state.1).holder
+        ((holders_after.told f.ino q new_state.0 new_state.1).1 holds)

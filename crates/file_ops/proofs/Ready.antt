@@ -73,7 +73,7 @@ use Rattle.dn_volume.proofs.Tables.{is_table}
 use Rattle.file_ops.specs.Ends.{IsFreed}
 use Rattle.file_ops.specs.Giving.{Gives, IsUnshared, IsUnsharedAmong, CanGive}
 use Rattle.file_ops.specs.Ending.{CanFinish}
-use Rattle.file_ops.proofs.Basics.{flight_within}
+use Rattle.dn_volume.proofs.Replaced.{flight_within}
 use Rattle.file_ops.proofs.DiskAfter.{may}
 use Rattle.file_ops.proofs.Taken.{block_taken, fresh_taken, spare_taken, left_apart, right_apart}
 

@@ -1,27 +1,27 @@
 -- The free pages, and those that are taken, once a flight is ended.
-use Rattle.std.proofs.Common.{◌≡◌, ◌≢◌, inl, inr, ⊎_elim, ℕ, ◌<◌, Bool, List, sym, ◌∙◌, ap, subst, arith}
-use Rattle.std.specs.Prelude.{if◌then◌else◌, ◌==◌, Contains}
+use Rattle.std.proofs.Common.{◌≡◌, inl, inr, ⊎_elim, ℕ, ◌-◌, ◌<◌, List, [], sym, ◌∙◌, ap, subst, arith, Some, None}
+use Rattle.std.specs.Prelude.{Contains}
 use Rattle.std.proofs.lemmas.Bool.{cases_eq}
 use Rattle.std.proofs.lemmas.List.{get_or_default}
 use Rattle.std.proofs.lemmas.List.Elements.{Contains-get_or}
 use Rattle.dn_model.specs.Disk.{Disk}
 use Rattle.law_write.specs.Events.{IsUnused}
-use Rattle.law_table.proofs.Rows.{same_test, other_test}
 use Rattle.file_content.specs.Pages.{AreApart}
 use Rattle.dn_volume.specs.declared.flight.Flight.{Flight}
 use Rattle.dn_volume.specs.declared.flight.Change.TheVariants.{Data}
 use Rattle.dn_volume.specs.declared.flight.DataChange.{DataChange}
 use Rattle.dn_volume.specs.declared.volume.Parts.{Parts}
-use Rattle.dn_volume.specs.Parties.{Flies, Takes, for_client, taken_by}
+use Rattle.dn_volume.specs.Parties.{Flies, for_client, taken_by}
 use Rattle.dn_volume.specs.Space.{HasSpace}
-use Rattle.file_ops.specs.Ends.{ChangesData, IsFreed, KeepsParts, EndsFlight, GivesPages}
-use Rattle.file_ops.proofs.Basics.{takes_before, takes_after, takes_not, taken_by_flight}
+use Rattle.dn_volume.specs.Replaces.{Replaces}
+use Rattle.dn_volume.proofs.Taken.{contains_or_not, taker_then, taker_gone, taker_kept, space_moved}
+use Rattle.file_ops.specs.Ends.{ChangesData, IsFreed, GivesPages}
 use Rattle.file_ops.proofs.Freed.{unused_kept, unused_only, freed_unused, freed_mapped, block_used, fresh_used}
 use Rattle.file_ops.proofs.Taken.{fresh_taken, spare_taken, block_taken, taken_cases, fresh_not_spare, spare_no_block}
 
 module _ (d e : Disk) (b b' : Parts) (who : ℕ) (f : Flight) (c : DataChange) (from n : ℕ) (space : HasSpace d b) (flies : Flies b who f)
     (kind : f.change ≡ Data c) (apart : AreApart (taken_by f))
-    (disk : ChangesData d e f c from n) (keeps : KeepsParts b b') (ended : EndsFlight who b b') (gives : GivesPages d f from n b b') where
+    (disk : ChangesData d e f c from n) (ended : Replaces (who - 1) (Some f) None b b') (gives : GivesPages d f from n b b') where
   -- the event's pages are the flight's
   pub block_listed : (i : ℕ) → i < disk.event.n → Contains c.blocks.items (disk.event.blocks i)
   block_listed i lt = subst (Contains c.blocks.items) (sym (disk.blocks i lt)) (Contains-get_or c.blocks.items i 0 (omega (arith, lt, disk.places)))
@@ -43,45 +43,45 @@ module _ (d e : Disk) (b b' : Parts) (who : ℕ) (f : Flight) (c : DataChange) (
       (λ i lt same. no_block (subst (Contains c.blocks.items) same (block_listed i lt)))
       (λ fresh. not_fresh (subst (λ (ps : List ℕ). Contains ps page) disk.takes fresh))
 
-  others_stay : (page : ℕ) → IsUnused d page → space.taker page ≢ who → IsUnused e page
-  others_stay page unused other = stays page unused (λ block. other (taken_his page (block_taken f c kind page block)))
-      (λ fresh. other (taken_his page (fresh_taken f c kind page fresh)))
+  -- he has taken nothing any more; another page has the taker that it had
+  no_page : (page : ℕ) → Contains [] page → ⊥
+  no_page page none = omega (arith, none.1)
 
-  taken : ℕ → ℕ
-  taken page = if space.taker page == who then 0 else space.taker page
+  abbrev taken : ℕ → ℕ
+  taken page = taker_then who flies.client (Some f) None b b' ended d space page
 
-  taken-mine : (page : ℕ) → space.taker page ≡ who → taken page ≡ 0
-  unfolding taken
-  taken-mine page his = ap (λ (t : Bool). if t then 0 else space.taker page) (same_test (space.taker page) who his)
+  taken-mine : (page : ℕ) → Contains (taken_by f) page → taken page ≡ 0
+  taken-mine page has = taker_gone who flies.client (Some f) None b b' ended d space page (no_page page) has
 
-  taken-other : (page : ℕ) → space.taker page ≢ who → taken page ≡ space.taker page
-  unfolding taken
-  taken-other page other = ap (λ (t : Bool). if t then 0 else space.taker page) (other_test (space.taker page) who other)
+  taken-other : (page : ℕ) → (Contains (taken_by f) page → ⊥) → taken page ≡ space.taker page
+  taken-other page none = taker_kept who flies.client (Some f) None b b' ended d space page (no_page page) none
 
-  not_none : (page : ℕ) → space.taker page ≡ 0 → space.taker page ≢ who
-  not_none page none his = let some = flies.client in omega (arith, none, his, some)
+  others_stay : (page : ℕ) → (Contains (taken_by f) page → ⊥) → IsUnused d page → IsUnused e page
+  others_stay page none unused = stays page unused (λ block. none (block_taken f c kind page block)) (λ fresh. none (fresh_taken f c kind page fresh))
+
+  not_mine : (page : ℕ) → space.taker page ≡ 0 → Contains (taken_by f) page → ⊥
+  not_mine page nobody has = let his = taken_his page has in let some = flies.client in omega (arith, nobody, his, some)
 
   free_then : (page : ℕ) → Contains b'.free.free page → IsUnused e page × (taken page ≡ 0)
   free_then page there = ⊎_elim
       (λ (was : Contains b.free.free page).
       let before = (space.free page).0 was in
-      let other = not_none page before.1 in (others_stay page before.0 other, taken-other page other ∙ before.1))
+      let other = not_mine page before.1 in (others_stay page other before.0, taken-other page other ∙ before.1))
       (λ came. ⊎_elim
       (λ (spare : Contains f.spare.items page).
       let his = spare_taken f c kind page spare in (
         stays page (taken_unused page his) (spare_no_block f c kind apart page spare) (λ fresh. fresh_not_spare f c kind apart page fresh spare),
-        taken-mine page (taken_his page his),
+        taken-mine page his,
       ))
       (λ (freed : IsFreed d f.ino from n page). elim (cases_eq (space.taker page) 0) [
-        | inl none ↦ (freed_unused f.ino d e disk.event disk.well from n disk.drops page freed, taken-other page (not_none page none) ∙ none)
+        | inl none ↦ (freed_unused f.ino d e disk.event disk.well from n disk.drops page freed, taken-other page (not_mine page none) ∙ none)
         | inr some ↦ absurd (freed_mapped f.ino d e disk.event disk.well from n disk.drops page freed (space.unused page some))
       ]) came)
       ((gives.free page).0 there)
 
   then_free : (page : ℕ) → IsUnused e page × (taken page ≡ 0) → Contains b'.free.free page
-  then_free page is = elim (cases_eq (space.taker page) who) [
-    | inl his ↦
-        let takes : Takes b who page = subst (λ (q : ℕ). Takes b q page) his (space.taken page (λ none. not_none page none his)) in
+  then_free page is = elim (contains_or_not page (taken_by f)) [
+    | inl has ↦
         ⊎_elim
         (λ (fresh : Contains f.fresh.items page). absurd (fresh_used f.ino d e disk.event disk.well from n disk.drops page
         (subst (λ (ps : List ℕ). Contains ps page) (sym disk.takes) fresh) is.0))
@@ -89,36 +89,15 @@ module _ (d e : Disk) (b b' : Parts) (who : ℕ) (f : Flight) (c : DataChange) (
         (λ (block : Contains c.blocks.items page).
         let by = listed_block page block in
         absurd (block_used f.ino d e disk.event disk.well from n disk.drops by.0 by.1 (subst (IsUnused e) (sym by.2) is.0))) rest)
-        (taken_cases f c kind page (taken_by_flight b b' who f flies keeps ended page takes))
-    | inr other ↦
-        let none : space.taker page ≡ 0 = sym (taken-other page other) ∙ is.1 in
-        ⊎_elim (λ (was : IsUnused d page). (gives.free page).1 (inl ((space.free page).1 (was, none))))
+        (taken_cases f c kind page has)
+    | inr none ↦
+        let nobody : space.taker page ≡ 0 = sym (taken-other page none) ∙ is.1 in
+        ⊎_elim (λ (was : IsUnused d page). (gives.free page).1 (inl ((space.free page).1 (was, nobody))))
         (λ (freed : IsFreed d f.ino from n page). (gives.free page).1 (inr (inr freed))) (unused_only f.ino d e disk.event disk.well from n disk.drops
         page is.0)
   ]
 
-  other_taken : (page : ℕ) → taken page ≢ 0 → space.taker page ≢ who
-  other_taken page some his = some (taken-mine page his)
-
-  was_taken : (page : ℕ) → taken page ≢ 0 → space.taker page ≢ 0
-  was_taken page some none = some (taken-other page (other_taken page some) ∙ none)
-
-  not_mine : (q page : ℕ) → Takes b' q page → q ≢ who
-  not_mine q page takes same = takes_not b b' who f flies keeps ended page (subst (λ (p : ℕ). Takes b' p page) same takes)
-
   pub space_after : HasSpace e b'
-  space_after = record {
-    pages = gives.pages ∙ space.pages ∙ sym (ap (λ g. g.pages) disk.event.relogs.geometry);
-    in_order = gives.in_order;
-    taker = taken;
-    free = λ page. (free_then page, then_free page);
-    takes = λ q page takes.
-        let was = space.takes q page (takes_before b b' who f flies keeps ended q page takes) in
-        taken-other page (λ his. not_mine q page takes (sym was ∙ his)) ∙ was;
-    taken = λ page some.
-        let other = other_taken page some in
-        subst (λ (q : ℕ). Takes b' q page) (sym (taken-other page other)) (takes_after b b' who f flies keeps ended (space.taker page) page other
-        (space.taken page (was_taken page some)));
-    unused = λ page some. others_stay page (space.unused page (was_taken page some)) (other_taken page some);
-    left = omega (arith, space.left, gives.no_less);
-  }
+  space_after = space_moved who flies.client (Some f) None b b' ended d space (λ page has. absurd (no_page page has)) e
+      (gives.pages ∙ space.pages ∙ sym (ap (λ g. g.pages) disk.event.relogs.geometry)) gives.in_order (omega (arith, space.left, gives.no_less))
+      (λ page. (free_then page, then_free page)) (λ page has. absurd (no_page page has)) others_stay

@@ -26,7 +26,7 @@ use Rattle.file_ops.proofs.Freed.{rows_same}
 use Rattle.file_ops.proofs.Nodes.{old_state, new_state}
 
 module _ (d e : Disk) (b b' : Parts) (f : Flight) (c : DataChange) (from n runs : ℕ) (inodes : AreInodesOf d b.inodes.items)
-    (disk : ChangesData d e f c from n) (keeps : KeepsParts b b')
+    (disk : ChangesData d e f c from n) (keeps : KeepsParts b b') (sharing_same : b'.sharing ≡ b.sharing)
     (change : ChangesInode e f.ino c.size b b') where
   new_round : (old new : InodeState) → slice_get b.inodes.items f.ino ≡ Some old → slice_get b'.inodes.items f.ino ≡ Some new → new.round ≡ old.round
   new_round old new was is = (change.here old new was is).round
@@ -47,7 +47,7 @@ module _ (d e : Disk) (b b' : Parts) (f : Flight) (c : DataChange) (from n runs 
     where
       there : Contains b'.queue.items work
       there = subst (λ (ws : List Work). Contains ws work) (sym items) (Contains-append_left b.queue.items more work has)
-  waits_still more items ino slot (is_begun sharing is ino_is slot_is) = is_begun sharing (keeps.sharing ∙ is) ino_is slot_is
+  waits_still more items ino slot (is_begun sharing is ino_is slot_is) = is_begun sharing (sharing_same ∙ is) ino_is slot_is
 
   module _ (queues : Queues e f.ino from n runs b b') where
     -- an item of the flight waits

@@ -40,9 +40,8 @@ use Rattle.dn_volume.specs.declared.flight.Flight.{Flight}
 use Rattle.dn_volume.specs.declared.flight.DataChange.{DataChange}
 use Rattle.dn_volume.specs.declared.volume.InodeState.{InodeState}
 use Rattle.dn_volume.specs.declared.volume.Parts.{Parts}
-use Rattle.dn_volume.specs.Parties.{flight_at}
 use Rattle.dn_volume.specs.Planned.{row_slots}
-use Rattle.dn_volume.specs.Reserve.{owed_to}
+use Rattle.dn_volume.specs.Replaces.{Replaces, MovesOwed}
 
 -- The disk of after: the file's places from this one on, n of them, are mapped to the pages of the
 -- flight or go.
@@ -79,16 +78,9 @@ pub record KeepsParts (b b' : Parts) : Type 0 where
   pub names : b'.names ≡ b.names
   pub fact : b'.fact ≡ b.fact
   pub trace : b'.trace ≡ b.trace
-  pub sharing : b'.sharing ≡ b.sharing
   pub stopped : b'.stopped ≡ b.stopped
   pub raised : b'.reclaiming.raised ≡ b.reclaiming.raised
   pub zero_check : b'.reclaiming.zero_check ≡ b.reclaiming.zero_check
-
--- only this client's flight is ended
-pub record EndsFlight (who : ℕ) (b b' : Parts) : Type 0 where
-  pub clients : length b'.flights.items ≡ length b.flights.items
-  pub landed : flight_at b'.flights.items (who - 1) ≡ None
-  pub others : (k : ℕ) → k ≢ who - 1 → flight_at b'.flights.items k ≡ flight_at b.flights.items k
 
 -- only this inode's state is another
 pub record ChangesInode (e : Disk) (ino size : ℕ) (b b' : Parts) : Type 0 where
@@ -128,22 +120,14 @@ pub record Enters (entry : Entry) (b b' : Parts) : Type 0 where
   pub room : vec_len b'.history ≡ vec_len b.history + 1
   pub capacity : vec_capacity b.history ≤ vec_capacity b'.history
 
--- what was owed to it is owed no more
-pub record Repays (f : Flight) (b b' : Parts) : Type 0 where
-  pub units : b'.owed.units + (owed_to (Some f)).units ≡ b.owed.units
-  pub trace : b'.owed.trace + (owed_to (Some f)).trace ≡ b.owed.trace
-  pub history : b'.owed.history + (owed_to (Some f)).history ≡ b.owed.history
-  pub queue : b'.owed.queue + (owed_to (Some f)).queue ≡ b.owed.queue
-  pub releases : b'.owed.releases + (owed_to (Some f)).releases ≡ b.owed.releases
-
--- all of it
+-- all of it: what was owed to it is owed no more
 pub record Ends (d e : Disk) (who : ℕ) (f : Flight) (c : DataChange) (from n : ℕ) (b b' : Parts) :
     Type 0 where
   pub keeps : KeepsParts b b'
-  pub flight : EndsFlight who b b'
+  pub flight : Replaces (who - 1) (Some f) None b b'
   pub inode : ChangesInode e f.ino c.size b b'
   pub pages : GivesPages d f from n b b'
   pub releases : Releases f b b'
   pub queue : Queues e f.ino from n (length c.runs.items) b b'
   pub history : (entry : Entry) × Enters entry b b'
-  pub owed : Repays f b b'
+  pub owed : MovesOwed (Some f) None b b'

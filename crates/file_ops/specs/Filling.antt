@@ -59,11 +59,6 @@ pub record Fills (who : ℕ) (f : Flight) (c : DataChange) (b b' : Parts) : Type
   pub steps : StepsOn who f (one_filled f c) b b'
   pub trace : b'.trace ≡ b.trace
   pub history : b'.history ≡ b.history
-  pub owed_units : b.owed.units ≡ b'.owed.units + FILL_UNITS
-  pub owed_trace : b'.owed.trace ≡ b.owed.trace
-  pub owed_history : b'.owed.history ≡ b.owed.history
-  pub owed_queue : b'.owed.queue ≡ b.owed.queue
-  pub owed_releases : b'.owed.releases ≡ b.owed.releases
 
 -- so the operation goes on
 abbrev pub FillsMove : (D F : Type 0) → (D → State) → Type 0

@@ -123,7 +123,7 @@ names_answer state print v v' d who f c volume agree to commit lands adds counts
       grants = grants_done d v.parts (state v.device) who f c volume to.flies to.change_is flight;
       files_after = λ own. files_then d v.parts (state v.device) who f c volume to.flies to.change_is flight;
       flew = record { flight = f; flies = to.flies; op_is = refl; left_is = one_left v.parts who f c to };
-      landed = lands.lands.lands.landed;
+      replaces = lands.lands.lands.replaces;
     }
 
 pub names_break : {D F : Type 0} (state : D → State) → NamesBreak D F state

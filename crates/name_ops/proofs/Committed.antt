@@ -60,6 +60,7 @@ use Rattle.dn_volume.specs.Reclaims.{mapped_places, units_by_use, dying_units, o
 use Rattle.dn_volume.specs.Reserve.{owed_to, prepared_units, slots_of, units_by, runs_by}
 use Rattle.dn_volume.specs.Agrees.{IsVolume}
 use Rattle.dn_volume.specs.Begins.{IsNamesOp}
+use Rattle.dn_volume.proofs.Replaced.{ends_at}
 use Rattle.pm_device.specs.State.{Rose}
 use Rattle.pm_device.specs.Settled.{LeavesOnly, StoresOnly, IsSettled}
 use Rattle.pm_layout.specs.Geometry.{gate_word}
@@ -224,18 +225,19 @@ module _ (d : Disk) (b : Parts) (s : State) (who : ℕ) (f : Flight) (c : NameCh
         lands = record {
           geometry = finish.geometry ∙ out.geometry;
           running = finish.stopped ∙ out.stopped ∙ volume.running;
-          clients = ap (λ xs. length xs.items) finish.flights ∙ clients;
-          landed = ap (λ xs. flight_at xs.items (who - 1)) finish.flights ∙ landed;
-          flights = λ k ne. ap (λ xs. flight_at xs.items k) finish.flights ∙ others k ne;
-          owed_units = let is = units_owed_are in let told = finish.units in let same = ap (λ o. o.units) out.owed in omega (arith, is, told, same);
-          owed_trace = let rows = no_rows_owed in let told = finish.owed_trace in let same = ap (λ o. o.trace) out.owed in
-              omega (arith, rows, told, same);
-          owed_history = let told = finish.owed_history in let same = ap (λ o. o.history) out.owed in omega (arith, told, same);
-          owed_queue = let none : (owed_to (Some f)).queue ≡ 0 = ap runs_by to.change_is in let told = finish.owed_queue in
-              let same = ap (λ o. o.queue)
-              out.owed in omega (arith, none, told, same);
-          owed_releases = let rows = no_rows_owed in let told = finish.owed_releases in let same = ap (λ o. o.releases) out.owed in
-              omega (arith, rows, told, same);
+          replaces = ends_at b b' who f volume.flights.clients (ap (λ xs. length xs.items) finish.flights ∙ clients) to.flies.is
+              (ap (λ xs. flight_at xs.items (who - 1)) finish.flights ∙ landed)
+              (λ k ne. ap (λ xs. flight_at xs.items k) finish.flights ∙ others k ne) (finish.sharing ∙ out.sharing);
+          owed = record {
+            units = let is = units_owed_are in let told = finish.units in let same = ap (λ o. o.units) out.owed in omega (arith, is, told, same);
+            trace = let rows = no_rows_owed in let told = finish.owed_trace in let same = ap (λ o. o.trace) out.owed in
+                omega (arith, rows, told, same);
+            history = let told = finish.owed_history in let same = ap (λ o. o.history) out.owed in omega (arith, told, same);
+            queue = let none : (owed_to (Some f)).queue ≡ 0 = ap runs_by to.change_is in let told = finish.owed_queue in
+                let same = ap (λ o. o.queue) out.owed in omega (arith, none, told, same);
+            releases = let rows = no_rows_owed in let told = finish.owed_releases in let same = ap (λ o. o.releases) out.owed in
+                omega (arith, rows, told, same);
+          };
           pages = finish.free.pages ∙ ap (λ x. x.pages) out.free;
           in_order = finish.free.in_order;
           free = λ page. subst (λ (x : _). Contains b'.free.free page ↔ (Contains x.free page ⊎ Contains f.spare.items page)) out.free
@@ -246,7 +248,6 @@ module _ (d : Disk) (b : Parts) (s : State) (who : ℕ) (f : Flight) (c : NameCh
         };
         fact = finish.fact ∙ out.fact;
         queue = finish.queue ∙ out.queue;
-        sharing = finish.sharing ∙ out.sharing;
         trace = finish.trace ∙ out.trace;
         names_room = subst (λ (x : _). x.room ≤ b'.names.room + 1) out.names finish.names_room;
         inodes = finish.all ∙ ap (λ xs. length xs.items) out.inodes;

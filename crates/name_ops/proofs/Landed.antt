@@ -71,7 +71,9 @@ use Rattle.dn_volume.specs.Agrees.{IsVolume}
 use Rattle.std.specs.VecDeque.{deque_len, deque_capacity}
 use Rattle.law_unique.proofs.Listings.{here, later, none_listed, cons_cases}
 use Rattle.dn_volume.specs.Reclaims.{one_if}
-use Rattle.dn_volume.proofs.Shorts.{one_flight}
+use Rattle.dn_volume.proofs.MappingsMoved.{mappings_counted}
+use Rattle.dn_volume.proofs.Replaced.{few, others_same, flies_other, each_room, owed_moved, owes, raised_moved}
+use Rattle.dn_volume.proofs.Taken.{contains_or_not, holders_moved, taker_then, taker_gone, taker_kept, space_moved}
 use Rattle.name_ops.specs.Landing.{Lands, LandsNames, LetsGo}
 
 -- a page of the one list is none of the other, where both together are apart
@@ -95,15 +97,6 @@ no_both xs ys page apart (i, il, is) (j, jl, js) =
     with_zero (x ∷ xs) zero page lt is = is
     with_zero (x ∷ xs) (suc i) page lt is = with_zero xs i page (omega (arith, lt)) is
 
-pub contains_or_not : (x : ℕ) (xs : List ℕ) → Contains xs x ⊎ (Contains xs x → ⊥)
-contains_or_not x [] = inr (λ has. none_listed x has)
-contains_or_not x (y ∷ xs) = by (cases_eq y x) (contains_or_not x xs)
-  where
-    by : ((y ≡ x) ⊎ (y ≡ x → ⊥)) → (Contains xs x ⊎ (Contains xs x → ⊥)) → Contains (y ∷ xs) x ⊎ (Contains (y ∷ xs) x → ⊥)
-    by (inl same) rest = inl (subst (Contains (y ∷ xs)) same (here y xs))
-    by (inr other) (inl has) = inl (later y x xs has)
-    by (inr other) (inr none) = inr (λ has. ⊎_elim other none (cons_cases y x xs has))
-
 module _ (d : Disk) (b b' : Parts) (s t : State) (who : ℕ) (f : Flight) (c : NameChange) (change : DiskChange) (volume : IsVolume d b s)
     (may : MayChange d change)
     (flies : Flies b who f) (is_names : f.change ≡ Names c) (fresh_is : change.fresh ≡ f.fresh.items) (ln : LandsNames who f b b') where
@@ -117,34 +110,17 @@ module _ (d : Disk) (b b' : Parts) (s t : State) (who : ℕ) (f : Flight) (c : N
   flight = subst (IsFlightOf d who f s) is_names (volume.flights.each who f flies)
 
   -- Who is in flight.
-  place_other : (q : ℕ) → 1 ≤ q → q ≢ who → q - 1 ≢ who - 1
-  place_other q some other same = other (let one = flies.client in omega (arith, some, one, same))
-
   pub same_others : SameOthers who b b'
-  same_others = record { flights = λ q some other. l.flights (q - 1) (place_other q some other); sharing = λ other. ln.sharing }
+  same_others = others_same who flies.client (Some f) None b b' l.replaces
 
   pub not_who : (q : ℕ) (g : Flight) → Flies b' q g → q ≢ who
-  not_who q g other same = let none = l.landed in let some = subst (λ (n : ℕ). flight_at b'.flights.items (n - 1) ≡ Some g) same other.is in cc
-
-  pub flew : (q : ℕ) (g : Flight) → Flies b' q g → Flies b q g
-  flew q g other = record { client = other.client; is = sym (l.flights (q - 1) (place_other q other.client (not_who q g other))) ∙ other.is }
-
-  pub flies_on : (q : ℕ) (g : Flight) → q ≢ who → Flies b q g → Flies b' q g
-  flies_on q g apart other = record { client = other.client; is = l.flights (q - 1) (place_other q other.client apart) ∙ other.is }
+  not_who q g other = (flies_other who flies.client (Some f) None b b' l.replaces refl q g other).0
 
   pub who_few : who ≤ 14
-  who_few = elim (cases_lt (who - 1) (length b.flights.items)) [
-    | inl lt ↦ let all = volume.flights.clients in omega (arith, lt, all)
-    | inr past ↦ absurd (nothing past)
-  ]
-    where
-      nothing : length b.flights.items ≤ who - 1 → ⊥
-      nothing past = ⊎_elim (λ found. let lt = found.1 in omega (arith, lt, past)) (λ none. gone (slice_get b.flights.items (who - 1)) none.1
-          flies.is) (slice_get_cases b.flights.items (who - 1)).1
-        where
-          gone : (r : Option (Option Flight)) → r ≡ None → opened r ≡ Some f → ⊥
-          gone None none some = cc some
-          gone (Some x) none some = cc none
+  who_few = few who flies.client (Some f) None b b' l.replaces
+
+  no_element : (x : ℕ) → Contains [] x → ⊥
+  no_element x none = omega (arith, none.1)
 
   -- Space.
   unused_kept : (page : ℕ) → (Contains f.fresh.items page → ⊥) → IsUnused d page → IsUnused e page
@@ -162,24 +138,23 @@ module _ (d : Disk) (b b' : Parts) (s t : State) (who : ℕ) (f : Flight) (c : N
   not_fresh : (page : ℕ) → IsUnused e page → Contains f.fresh.items page → ⊥
   not_fresh page unused has = fresh_taken d change may page (subst (λ (xs : List ℕ). Contains xs page) (sym fresh_is) has) unused.free
 
-  takes_fresh : (page : ℕ) → Contains f.fresh.items page → Takes b who page
-  takes_fresh page has = for_client f flies (Contains-append_left (f.fresh.items ++ f.spare.items) (blocks_of f.change) page
-      (Contains-append_left f.fresh.items f.spare.items page has))
+  its_fresh : (page : ℕ) → Contains f.fresh.items page → Contains (taken_by f) page
+  its_fresh page has = Contains-append_left (f.fresh.items ++ f.spare.items) (blocks_of f.change) page
+      (Contains-append_left f.fresh.items f.spare.items page has)
 
-  takes_spare : (page : ℕ) → Contains f.spare.items page → Takes b who page
-  takes_spare page has = for_client f flies (Contains-append_left (f.fresh.items ++ f.spare.items) (blocks_of f.change) page
-      (Contains-append_right f.fresh.items f.spare.items page has))
+  its_spare : (page : ℕ) → Contains f.spare.items page → Contains (taken_by f) page
+  its_spare page has = Contains-append_left (f.fresh.items ++ f.spare.items) (blocks_of f.change) page
+      (Contains-append_right f.fresh.items f.spare.items page has)
 
   no_blocks : (page : ℕ) (x : Change) → x ≡ Names c → Contains (blocks_of x) page → ⊥
   no_blocks page (Data y) is has = cc is
   no_blocks page (Names y) is has = omega (arith, has.1)
 
   -- the page is one of the operation's
-  fresh_or_spare : (page : ℕ) → Takes b who page → Contains f.fresh.items page ⊎ Contains f.spare.items page
-  fresh_or_spare page (for_client g other has) =
-      ⊎_elim (λ logs. Contains-append_cases f.fresh.items f.spare.items page logs) (λ data_page. absurd (no_blocks page f.change is_names data_page))
-      (Contains-append_cases (f.fresh.items ++ f.spare.items) (blocks_of f.change) page (subst (λ (h : Flight). Contains (taken_by h) page)
-      (sym (one_flight b who f g flies other)) has))
+  fresh_or_spare : (page : ℕ) → Contains (taken_by f) page → Contains f.fresh.items page ⊎ Contains f.spare.items page
+  fresh_or_spare page has = ⊎_elim (λ logs. Contains-append_cases f.fresh.items f.spare.items page logs)
+      (λ data_page. absurd (no_blocks page f.change is_names data_page))
+      (Contains-append_cases (f.fresh.items ++ f.spare.items) (blocks_of f.change) page has)
 
   spare_not_fresh : (page : ℕ) → Contains f.spare.items page → Contains f.fresh.items page → ⊥
   spare_not_fresh page spare fresh =
@@ -192,71 +167,44 @@ module _ (d : Disk) (b b' : Parts) (s t : State) (who : ℕ) (f : Flight) (c : N
       assoc (x ∷ xs) ys zs = ap (λ rest. x ∷ rest) (assoc xs ys zs)
 
   abbrev taker' : ℕ → ℕ
-  taker' page = if volume.space.taker page == who then 0 else volume.space.taker page
+  taker' page = taker_then who flies.client (Some f) None b b' l.replaces d volume.space page
 
-  taker_gone : (page : ℕ) → volume.space.taker page ≡ who → taker' page ≡ 0
-  taker_gone page is = grind (arith, nat_tests)
-
-  taker_stays : (page : ℕ) → volume.space.taker page ≢ who → taker' page ≡ volume.space.taker page
-  taker_stays page other = grind (arith, nat_tests)
+  taker_stays : (page : ℕ) → (Contains (taken_by f) page → ⊥) → taker' page ≡ volume.space.taker page
+  taker_stays page out = taker_kept who flies.client (Some f) None b b' l.replaces d volume.space page (no_element page) out
 
   -- who has taken a page
   free_page : (page : ℕ) → (Contains b'.free.free page) ↔ (IsUnused e page × (taker' page ≡ 0))
   free_page page = (
     λ has. ⊎_elim of_free of_spare ((l.free page).0 has),
-    λ is. (l.free page).1 (⊎_elim (λ his. spare_of is.0 his)
-        (λ other. inl ((volume.space.free page).1 (unused_was page is.0, sym (taker_stays page other) ∙ is.1)))
-        (cases_eq (volume.space.taker page) who)),
+    λ is. (l.free page).1 (⊎_elim (λ his. ⊎_elim (λ fresh. absurd (not_fresh page is.0 fresh)) (λ spare. inr spare) (fresh_or_spare page his))
+        (λ out. inl ((volume.space.free page).1 (unused_was page is.0, sym (taker_stays page out) ∙ is.1)))
+        (contains_or_not page (taken_by f))),
   )
     where
+      his_taker : Contains (taken_by f) page → volume.space.taker page ≡ who
+      his_taker has = volume.space.takes who page (for_client f flies has)
+
       of_free : Contains b.free.free page → IsUnused e page × (taker' page ≡ 0)
       of_free has =
           let free = (volume.space.free page).0 has in
           let none : volume.space.taker page ≡ 0 = free.1 in
           let client = flies.client in
-          let other : volume.space.taker page ≢ who = λ same. omega (arith, same, none, client) in
-          (unused_kept page (λ fresh. other (volume.space.takes who page (takes_fresh page fresh))) free.0, taker_stays page other ∙ none)
+          let out : Contains (taken_by f) page → ⊥ = λ mine. (let his = his_taker mine in omega (arith, his, none, client)) in
+          (unused_kept page (λ fresh. out (its_fresh page fresh)) free.0, taker_stays page out ∙ none)
 
       of_spare : Contains f.spare.items page → IsUnused e page × (taker' page ≡ 0)
       of_spare has =
-          let his = volume.space.takes who page (takes_spare page has) in
-          let client = flies.client in
-          (unused_kept page (spare_not_fresh page has) (volume.space.unused page (λ none. omega (arith, none, his, client))), taker_gone page his)
-
-      spare_of : IsUnused e page → volume.space.taker page ≡ who → Contains b.free.free page ⊎ Contains f.spare.items page
-      spare_of unused his =
-          let client = flies.client in
-          let taken : Takes b who page = subst (λ (q : ℕ). Takes b q page) his (volume.space.taken page (λ none. omega (arith, none, his, client))) in
-          ⊎_elim (λ fresh. absurd (not_fresh page unused fresh)) (λ spare. inr spare) (fresh_or_spare page taken)
-
-  other_taker : (page : ℕ) → taker' page ≢ 0 → volume.space.taker page ≢ who
-  other_taker page some same = some (taker_gone page same)
+          let his = his_taker (its_spare page has) in
+          let client = flies.client in (
+            unused_kept page (spare_not_fresh page has) (volume.space.unused page (λ none. omega (arith, none, his, client))),
+            taker_gone who flies.client (Some f) None b b' l.replaces d volume.space page (no_element page) (its_spare page has),
+          )
 
   pub space : HasSpace e b'
-  space = record {
-    pages = l.pages ∙ volume.space.pages ∙ sym (ap (λ (g : Geometry). g.pages) (same_geometry d change));
-    in_order = l.in_order;
-    taker = taker';
-    free = free_page;
-    takes = λ q page took. takes' q page took;
-    taken = λ page some.
-        let other = other_taker page some in
-        let stays = taker_stays page other in
-        subst (λ (q : ℕ). Takes b' q page) (sym stays) (on_taken page other (volume.space.taken page (λ none. some (stays ∙ none))));
-    unused = λ page some.
-        let other = other_taker page some in
-        unused_kept page (λ fresh. other (volume.space.takes who page (takes_fresh page fresh)))
-        (volume.space.unused page (λ none. some (taker_stays page other ∙ none)));
-    left = let was = volume.space.left in let more = l.free_more in omega (arith, was, more);
-  }
-    where
-      takes' : (q page : ℕ) → Takes b' q page → taker' page ≡ q
-      takes' q page (for_client g other has) =
-          let was = volume.space.takes q page (for_client g (flew q g other) has) in
-          taker_stays page (λ same. not_who q g other (sym was ∙ same)) ∙ was
-
-      on_taken : (page : ℕ) → volume.space.taker page ≢ who → Takes b (volume.space.taker page) page → Takes b' (volume.space.taker page) page
-      on_taken page other (for_client g was has) = for_client g (flies_on (volume.space.taker page) g other was) has
+  space = space_moved who flies.client (Some f) None b b' l.replaces d volume.space (λ page has. absurd (no_element page has)) e
+      (l.pages ∙ volume.space.pages ∙ sym (ap (λ (g : Geometry). g.pages) (same_geometry d change))) l.in_order
+      (let was = volume.space.left in let more = l.free_more in omega (arith, was, more)) free_page (λ page has. absurd (no_element page has))
+      (λ page out unused. unused_kept page (λ fresh. out (its_fresh page fresh)) unused)
 
   -- The table and its counts.
   pub has_row : (slot : ℕ) → HasRow d slot → HasRow e slot
@@ -286,61 +234,22 @@ module _ (d : Disk) (b b' : Parts) (s t : State) (who : ℕ) (f : Flight) (c : N
       none_of (suc n) [] is = refl
       none_of n (x ∷ xs) is = absurd (cc is)
 
-  -- nothing is owed to it
-  owed_same : (kind : Room → ℕ) → kind (owed_to None) ≡ 0 → owed_sum b' kind + kind (owed_to (Some f)) ≡ owed_sum b kind
-  owed_same kind none =
-      let client = flies.client in
-      let few = who_few in
-      let moved = total-change (λ k. kind (owed_to (flight_at b.flights.items k))) (λ k. kind (owed_to (flight_at b'.flights.items k))) 14 (who - 1)
-      (omega (arith, client, few))
-      (λ k other. ap (λ r. kind (owed_to r)) (l.flights k other)) in
-      let before : kind (owed_to (flight_at b.flights.items (who - 1))) ≡ kind (owed_to (Some f)) = ap (λ r. kind (owed_to r)) flies.is in
-      let after : kind (owed_to (flight_at b'.flights.items (who - 1))) ≡ 0 = ap (λ r. kind (owed_to r)) l.landed ∙ none in
-      omega (arith, moved, before, after)
-
-  module _ (dying_same : b'.reclaiming.raised ≡ b.reclaiming.raised) where
-    raised_same : (slot : ℕ) → raised b' slot ≡ raised b slot
-    raised_same slot =
-        let client = flies.client in
-        let few = who_few in
-        let moved = total-change (λ k. times slot (raised_by (flight_at b.flights.items k)))
-        (λ k. times slot (raised_by (flight_at b'.flights.items k))) 14 (who - 1) (omega (arith, client, few))
-        (λ k other. ap (λ r. times slot (raised_by r)) (l.flights k other)) in
-        let before : times slot (raised_by (flight_at b.flights.items (who - 1))) ≡ 0 = ap (λ r. times slot (raised_by r)) flies.is ∙ none_raised slot
-        in
-        let after : times slot (raised_by (flight_at b'.flights.items (who - 1))) ≡ 0 = ap (λ r. times slot (raised_by r)) l.landed in
-        let shared : times slot (raised_to_share b'.sharing) ≡ times slot (raised_to_share b.sharing) = ap (λ r. times slot (raised_to_share r))
-        ln.sharing in
-        let died : times slot (raised_to_die b'.reclaiming.raised) ≡ times slot (raised_to_die b.reclaiming.raised) = ap
-        (λ r. times slot (raised_to_die r)) dying_same in
-        omega (arith, moved, before, after, shared, died)
-
-    added_same : (slot : ℕ) → added b' slot ≡ added b slot
-    added_same slot = ap (λ (x : Option Sharing). times slot (added_to_share x)) ln.sharing
-
-    module _ (zero_same : b'.reclaiming.zero_check ≡ b.reclaiming.zero_check)
-        (releases_same : b'.reclaiming.releases.items ≡ b.reclaiming.releases.items) where
-      dropped_same : (slot : ℕ) → dropped b' slot ≡ dropped b slot
-      dropped_same slot = ap (times slot) releases_same
-
-      balanced_on : (row : Row) → IsBalanced d row (raised b row.slot) (added b row.slot) (dropped b row.slot) → IsBalanced e row (raised b' row.slot)
-          (added b' row.slot) (dropped b' row.slot)
-      balanced_on row is = record {
-        updates = omega (arith, is.updates, raised_same row.slot, added_same row.slot, dropped_same row.slot);
-        references = omega (arith, is.references, mappings_same d change may row.page, added_same row.slot, dropped_same row.slot);
-      }
-
-      pub counts : AreCounted e b'
-      counts = record {
-        balanced = subst (All (λ (row : Row). IsBalanced e row (raised b' row.slot) (added b' row.slot) (dropped b' row.slot)))
-            (sym (same_rows d change))
-            (λ k x lt. balanced_on (get_or (rows d) k x) (volume.counts.balanced k x lt));
-        there = λ slot some. has_row slot (volume.counts.there slot (omega (arith, some, raised_same slot, added_same slot, dropped_same slot)));
-        zero_checked = λ row has rfc uc. zero_same ∙ volume.counts.zero_checked row (subst (λ (rs : List Row). Contains rs row) (same_rows d change)
-            has) rfc uc;
-        few = let was = volume.counts.few in let less = owed_same (λ r. r.releases) refl in let same = ap length releases_same in
-            let up : one_if b'.reclaiming.raised ≡ one_if b.reclaiming.raised = ap (λ r. one_if r) dying_same in omega (arith, was, less, same, up);
-      }
+  module _ (dying_same : b'.reclaiming.raised ≡ b.reclaiming.raised)
+      (zero_same : b'.reclaiming.zero_check ≡ b.reclaiming.zero_check)
+      (releases_same : b'.reclaiming.releases.items ≡ b.reclaiming.releases.items) where
+    pub counts : AreCounted e b'
+    counts = mappings_counted d e b b' (λ slot. 0) (λ slot. 0) (record {
+      rows_same = same_rows d change;
+      mappings_move = λ row has. let same = mappings_same d change may row.page in omega (arith, same);
+      raised_move = λ slot. let moved = raised_moved who flies.client (Some f) None b b' l.replaces dying_same slot in let none = none_raised slot in
+          omega (arith, moved, none);
+      added_move = λ slot. let same = ap (λ (x : Option Sharing). times slot (added_to_share x)) l.replaces.sharing in omega (arith, same);
+      dropped_move = λ slot. let same = ap (times slot) releases_same in omega (arith, same);
+      zero_same = zero_same;
+      few = let was = volume.counts.few in let less = owed_moved who flies.client (Some f) None b b' l.replaces (λ r. r.releases) in
+          let same = ap length releases_same in
+          let up : one_if b'.reclaiming.raised ≡ one_if b.reclaiming.raised = ap (λ r. one_if r) dying_same in omega (arith, was, less, same, up);
+    }) volume.counts
 
   -- Room.
   enough_units : 25 ≤ (owed_to (Some f)).units
@@ -353,35 +262,13 @@ module _ (d : Disk) (b b' : Parts) (s t : State) (who : ℕ) (f : Flight) (c : N
     pub room : HasRoom b' t
     room =
         let was = volume.room in
-        let s_units = owed_same (λ r. r.units) refl in
-        let s_trace = owed_same (λ r. r.trace) refl in
-        let s_history = owed_same (λ r. r.history) refl in
-        let s_queue = owed_same (λ r. r.queue) refl in
-        let s_releases = owed_same (λ r. r.releases) refl in
-        let o_units = l.owed_units in
-        let o_trace = l.owed_trace in
-        let o_history = l.owed_history in
-        let o_queue = l.owed_queue in
-        let o_releases = l.owed_releases in
-        let w_units = was.owes.units in
-        let w_trace = was.owes.trace in
-        let w_history = was.owes.history in
-        let w_queue = was.owes.queue in
-        let w_releases = was.owes.releases in
+        let o_units = l.owed.units in
+        let o_trace = l.owed.trace in
+        let o_history = l.owed.history in
+        let o_queue = l.owed.queue in
+        let o_releases = l.owed.releases in
         record {
-          owes = record {
-            units = subst (λ x. owed_sum b' (λ r. r.units) + units_to_share x + (FALL_UNITS * one_if b'.reclaiming.raised + ZERO_CHECK_UNITS * one_if
-                b'.reclaiming.zero_check) ≤ b'.owed.units) (sym ln.sharing)
-                (let raised_as : one_if b'.reclaiming.raised ≡ one_if b.reclaiming.raised = ap (λ r. one_if r) dying_same in
-                let zero_as : one_if b'.reclaiming.zero_check ≡ one_if b.reclaiming.zero_check = ap (λ r. one_if r) zero_same in
-                omega (arith, s_units, o_units, w_units, raised_as, zero_as));
-            trace = subst (λ x. owed_sum b' (λ r. r.trace) + changes_to_share x ≤ b'.owed.trace) (sym ln.sharing)
-                (omega (arith, s_trace, o_trace, w_trace));
-            history = omega (arith, s_history, o_history, w_history);
-            queue = omega (arith, s_queue, o_queue, w_queue);
-            releases = subst (λ x. owed_sum b' (λ r. r.releases) + one_if x ≤ b'.owed.releases) (sym dying_same)
-                (omega (arith, s_releases, o_releases, w_releases));
-          };
+          owes = owes who flies.client (Some f) None b b' l.replaces l.owed dying_same zero_same was.owes;
           units = let enough = enough_units in let there = was.units in omega (arith, enough, there, o_units, units);
           trace = subst (λ x. vec_len x + b'.owed.trace ≤ vec_capacity x) (sym ln.trace) (let there = was.trace in omega (arith, there, o_trace));
           history = let there = was.history in let longer = l.history_len in let same = l.history_room in
@@ -390,15 +277,13 @@ module _ (d : Disk) (b b' : Parts) (s t : State) (who : ℕ) (f : Flight) (c : N
           releases = subst (λ x. deque_len x + b'.owed.releases ≤ deque_capacity x) (sym releases_same) (let there = was.releases in
               omega (arith, there, o_releases));
           names = let there = was.names in let one = ln.names_room in omega (arith, there, o_history, one);
-          places = λ q g x n' other is at. places_on q g x n' other is at;
+          places = each_room who flies.client (Some f) None b b' l.replaces (λ g x n is kind at. absurd (none_is g is))
+              (λ q g n' other g_flies at. let had = inodes g.ino n' at in
+              (had.0, had.1, let same = ap (λ m. m.room) had.2 in omega (arith, same))) was.places;
         }
       where
-        places_on : (q : ℕ) (g : Flight) (x : DataChange) (n' : InodeState) → Flies b' q g → g.change ≡ Data x
-            → slice_get b'.inodes.items g.ino ≡ Some n' → length x.blocks.items ≤ n'.map.room
-        places_on q g x n' other is at =
-            let had = inodes g.ino n' at in
-            let there = volume.room.places q g x had.0 (flew q g other) is had.1 in
-            subst (λ m. length x.blocks.items ≤ m.room) (sym had.2) there
+        none_is : (g : Flight) → None ≡ Some g → ⊥
+        none_is g is = cc
 
   -- Waiting items.
   inode_there : (ino : ℕ) (n : InodeState) → slice_get b.inodes.items ino ≡ Some n → (n' : InodeState) × (slice_get b'.inodes.items ino ≡ Some n')
@@ -428,55 +313,22 @@ module _ (d : Disk) (b b' : Parts) (s t : State) (who : ℕ) (f : Flight) (c : N
             let was = rounds ino there.0 there.1 in
             in_queue work there.0 (subst (λ x. Contains x.items work) (sym ln.queue) has) at_ino at_slot there.1
             (round ∙ ap (λ (x : InodeState). x.round) (some_same (slice_get b.inodes.items ino) n was.0 at was.1) ∙ sym was.2)
-        waits_on ino slot (is_begun sharing is at_ino at_slot) = is_begun sharing (ln.sharing ∙ is) at_ino at_slot
+        waits_on ino slot (is_begun sharing is at_ino at_slot) = is_begun sharing (l.replaces.sharing ∙ is) at_ino at_slot
 
   -- Holders.
   module _ (lets : (ino : ℕ) (n' : InodeState) → slice_get b'.inodes.items ino ≡ Some n' → (n : InodeState) × (slice_get b.inodes.items ino ≡ Some n)
       × LetsGo f ino n n') where
-    held_by : (ino : ℕ) → Contains f.held.items ino → Holds b who ino
-    held_by ino has = by_client f flies has
-
     pub holders : AreHolders e b'
-    holders = record {
-      told = λ ino q n' is. let was = lets ino n' is in (
-        (λ holder. told_holds ino q n' was.0 was.1 was.2 holder),
-        (λ holds. holds_told ino q n' was.0 was.1 was.2 holds),
-      );
-      in_table = λ ino q holds. subst (λ (g : Geometry). ino < g.inodes) (sym (same_geometry d change))
-          (volume.holders.in_table ino q (held_was q ino holds).0);
-    }
-      where
-        -- what another holds it held, and it isn't this actor
-        held_was : (q ino : ℕ) → Holds b' q ino → Holds b q ino × (q ≢ who)
-        held_was q ino (by_client g other has) = (by_client g (flew q g other) has, not_who q g other)
-        held_was q ino (by_daemon sharing is shares at) =
-            (by_daemon sharing is (sym ln.sharing ∙ shares) at, λ same. let few = who_few in omega (arith, few, same, is))
-
-        none_some : (x : Option ℕ) (q : ℕ) → x ≡ None → x ≡ Some q → ⊥
-        none_some x q none some = cc
-
-        one_actor : (x : Option ℕ) (p q : ℕ) → x ≡ Some p → x ≡ Some q → p ≡ q
-        one_actor x p q one other = cc
-
-        holds_told : (ino q : ℕ) (n' n : InodeState) → slice_get b.inodes.items ino ≡ Some n → LetsGo f ino n n' → Holds b' q ino → n'.holder ≡ Some q
-        holds_told ino q n' n at lets' holds =
-            let was = held_was q ino holds in
-            let told : n.holder ≡ Some q = (volume.holders.told ino q n at).1 was.0 in
-            lets'.kept (λ has. was.1 (one_actor n.holder q who told ((volume.holders.told ino who n at).1 (held_by ino has)))) ∙ told
-
-        told_holds : (ino q : ℕ) (n' n : InodeState) → slice_get b.inodes.items ino ≡ Some n → LetsGo f ino n n' → n'.holder ≡ Some q → Holds b' q ino
-        told_holds ino q n' n at lets' holder = still (holds_or_not ino)
-          where
-            holds_or_not : (i : ℕ) → Contains f.held.items i ⊎ (Contains f.held.items i → ⊥)
-            holds_or_not i = contains_or_not i f.held.items
-
-            on : (Contains f.held.items ino → ⊥) → Holds b q ino → Holds b' q ino
-            on out (by_client g other has) =
-                by_client g (flies_on q g
-                (λ same. out (subst (λ (h : Flight). Contains h.held.items ino)
-                (sym (one_flight b who f g flies (subst (λ (p : ℕ). Flies b p g) same other))) has)) other) has
-            on out (by_daemon sharing is shares same) = by_daemon sharing is (ln.sharing ∙ shares) same
-
-            still : Contains f.held.items ino ⊎ (Contains f.held.items ino → ⊥) → Holds b' q ino
-            still (inl has) = absurd (none_some n'.holder q (lets'.freed has) holder)
-            still (inr out) = on out ((volume.holders.told ino q n at).0 (sym (lets'.kept out) ∙ holder))
+    holders = holders_moved who flies.client (Some f) None b b' l.replaces d e (ap (λ (g : Geometry). g.inodes) (same_geometry d change))
+        volume.holders
+        (λ ino n' at. let was = lets ino n' at in (
+          was.0,
+          was.1,
+          record {
+            loose = λ has. absurd (no_element ino has);
+            mine = λ has. absurd (no_element ino has);
+            freed = λ had out. was.2.freed had;
+            kept = λ none out. was.2.kept none;
+          },
+        ))
+        (λ ino has. absurd (no_element ino has))

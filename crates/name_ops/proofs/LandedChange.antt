@@ -446,7 +446,7 @@ module _ (d : Disk) (b b' : Parts) (s t : State) (who : ℕ) (f : Flight) (c : N
       counts = counts d b b' s t who f c change volume can to.flies to.change_is fresh_same lands.lands lands.raised
           lands.zero_check (ap (λ r. r.items) lands.releases);
       flights = record {
-        clients = lands.lands.lands.clients ∙ volume.flights.clients;
+        clients = lands.lands.lands.replaces.clients ∙ volume.flights.clients;
         each = λ q g flies. stay.0 q g (not_who d b b' s t who f c change volume can to.flies to.change_is fresh_same lands.lands q g flies) flies;
       };
       queue = queue d b b' s t who f c change volume can to.flies to.change_is fresh_same lands.lands (λ ino n' at. let was = lands.each ino n' at in

@@ -3,7 +3,7 @@ pub mod NameFlight
 pub mod LandedChange
 pub mod Answering
 pub mod Prepared
-pub mod Begun
+pub mod NameSlots
 pub mod Aimed
 pub mod RootLog
 pub mod FoundFiles

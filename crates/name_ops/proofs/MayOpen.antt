@@ -44,7 +44,7 @@ use Rattle.begin_steps.proofs.Opened.{keeps_made_room, units_kept, begun}
 use Rattle.name_ops.specs.declared.plan.NamesPlan.{NamesPlan}
 use Rattle.name_ops.specs.Finding.{Aims, IsNewFlight, CanOpen, change_of, op_slots, owed_names}
 use Rattle.name_ops.proofs.Aimed.{IsHoldable, holdable, needs_extra, extra_few, loses_none, reserve_two}
-use Rattle.name_ops.proofs.Begun.{grown_fits, has_slots}
+use Rattle.name_ops.proofs.NameSlots.{grown_fits, has_slots}
 
 -- its pages are no part of what it does
 same_but_fresh : (op : Op) (ino : ℕ) (other : Option ℕ) (fresh : List ℕ) →

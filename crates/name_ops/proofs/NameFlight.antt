@@ -76,7 +76,7 @@ use Rattle.dn_volume.specs.declared.volume.Room.{Room}
 use Rattle.dn_volume.specs.Reserve.{slots_of, prepared_units, units_by, owed_to, owed_sum}
 use Rattle.name_ops.specs.Landing.{names_after, flight_changes}
 use Rattle.name_ops.specs.Finding.{op_slots}
-use Rattle.name_ops.proofs.Begun.{has_slots}
+use Rattle.name_ops.proofs.NameSlots.{has_slots}
 
 apart_left : (xs ys : List ℕ) → AreApart (xs ++ ys) → AreApart xs
 apart_left xs ys apart i j il jl same =

@@ -80,8 +80,8 @@ use Rattle.dn_volume.specs.Steps.{StepsOn}
 use Rattle.dn_volume.proofs.Kept.{quiet_accounts, quiet_alone}
 use Rattle.dn_volume.proofs.OthersStay.{others_stay}
 use Rattle.dn_volume.proofs.Stills.{still_flushes}
-use Rattle.dn_volume.proofs.Stepped.{others_same, ops_kept, same_holders, same_space, same_counts, same_queue}
-use Rattle.dn_volume.proofs.Replaced.{few, flies_new, Whose, whose, its_own, another, owed_moved as moved_room}
+use Rattle.dn_volume.proofs.Stepped.{others_same, ops_kept, same_holders, same_space, owes_on, same_counts, same_queue}
+use Rattle.dn_volume.proofs.Replaced.{few, flies_new, each_flight, each_room, owed_moved}
 use Rattle.name_ops.specs.Preparing.{StoresNames, with_change, prepared_change, Prepares, IsToPrepare, NamesPrepare}
 use Rattle.name_ops.proofs.NameFlight.{may, fresh_is, fresh_taken_by, holds_root, holds_ino}
 
@@ -312,76 +312,44 @@ module _ (d : Disk) (b b' : Parts) (s u t : State) (who : ℕ) (f : Flight) (c :
       })
       leaves same (λ other. ap (λ r. r.raised) st.reclaiming)
 
+  is_it : (g : Flight) → Some f' ≡ Some g → f' ≡ g
+  is_it g is = cc
+
   each : (q : ℕ) (g : Flight) → Flies b' q g → IsFlight d q g t
-  each q g flies = by (whose who st.client (Some f) (Some f') b b' st.replaces q g flies)
-    where
-      by : Whose who st.client (Some f) (Some f') b b' st.replaces q g → IsFlight d q g t
-      by (its_own same' is) =
-          let one : f' ≡ g = cc is in
-          subst (λ (n : ℕ). IsFlight d n g t) (sym same') (subst (λ (h : Flight). IsFlight d who h t) one own_flight)
-      by (another other was) = stay.0 q g other flies
+  each = each_flight who st.client (Some f) (Some f') b b' st.replaces d t
+      (λ g is. subst (λ (h : Flight). IsFlight d who h t) (is_it g is) own_flight) stay.0
 
   -- room
-  owed_moved : (kind : Room → ℕ) → owed_sum b' kind + kind (owed_to (Some f)) ≡ owed_sum b kind + kind (owed_to (Some f'))
-  owed_moved = moved_room who st.client (Some f) (Some f') b b' st.replaces
-
   units_was : (owed_to (Some f)).units ≡ (SLOT_UNITS * slots_of f + TURN_UNITS) + NAMES_UNITS
   units_was = ap (units_by f) to.change_is ∙ ap (λ (x : Bool). prepared_units x (slots_of f) + NAMES_UNITS) to.unprepared
-
-  queue_was : (owed_to (Some f)).queue ≡ 0
-  queue_was = ap runs_by to.change_is
 
   room : HasRoom b' t
   room =
       let was = volume.room in
-      let m_units = owed_moved (λ r. r.units) in
-      let m_trace = owed_moved (λ r. r.trace) in
-      let m_history = owed_moved (λ r. r.history) in
-      let m_queue = owed_moved (λ r. r.queue) in
-      let m_releases = owed_moved (λ r. r.releases) in
-      let o_units = prepares.owed_units in
-      let o_trace = prepares.owed_trace in
-      let o_history = prepares.owed_history in
-      let o_queue = prepares.owed_queue in
-      let o_releases = prepares.owed_releases in
-      let w_units = was.owes.units in
-      let w_trace = was.owes.trace in
-      let w_history = was.owes.history in
-      let w_queue = was.owes.queue in
-      let w_releases = was.owes.releases in
+      let o_units = st.owed.units in
+      let o_trace = st.owed.trace in
+      let o_history = st.owed.history in
+      let o_queue = st.owed.queue in
+      let runs = ap runs_by to.change_is in
+      let o_releases = st.owed.releases in
       let spare = stores.spare in
       record {
-        owes = record {
-          units = subst (λ x. owed_sum b' (λ r. r.units) + units_to_share x + (FALL_UNITS * one_if b'.reclaiming.raised + ZERO_CHECK_UNITS * one_if
-              b'.reclaiming.zero_check) ≤ b'.owed.units) (sym st.replaces.sharing)
-              (subst (λ x. owed_sum b' (λ r. r.units) + units_to_share b.sharing + (FALL_UNITS * one_if x.raised + ZERO_CHECK_UNITS * one_if
-              x.zero_check) ≤ b'.owed.units) (sym st.reclaiming) (omega (arith, m_units, o_units, w_units, units_was)));
-          trace = subst (λ x. owed_sum b' (λ r. r.trace) + changes_to_share x ≤ b'.owed.trace) (sym st.replaces.sharing)
-              (omega (arith, m_trace, o_trace, w_trace));
-          history = omega (arith, m_history, o_history, w_history);
-          queue = omega (arith, m_queue, o_queue, w_queue, queue_was);
-          releases = subst (λ x. owed_sum b' (λ r. r.releases) + one_if x.raised ≤ b'.owed.releases) (sym st.reclaiming)
-              (omega (arith, m_releases, o_releases, w_releases));
-        };
-        units = let there = was.units in omega (arith, there, o_units, spare);
+        owes = owes_on who f f' b b' st was.owes;
+        units = let there = was.units in omega (arith, there, o_units, units_was, spare);
         trace = subst (λ x. vec_len x + b'.owed.trace ≤ vec_capacity x) (sym prepares.trace) (let there = was.trace in omega (arith, there, o_trace));
         history = subst (λ x. vec_len x + b'.owed.history ≤ vec_capacity x) (sym prepares.history) (let there = was.history in
             omega (arith, there, o_history));
-        queue = subst (λ x. b'.owed.queue ≤ x.room) (sym st.queue) (let there = was.queue in omega (arith, there, o_queue));
+        queue = subst (λ x. b'.owed.queue ≤ x.room) (sym st.queue) (let there = was.queue in omega (arith, there, o_queue, runs));
         releases = subst (λ x. deque_len x.releases + b'.owed.releases ≤ deque_capacity x.releases) (sym st.reclaiming) (let there = was.releases in
             omega (arith, there, o_releases));
         names = subst (λ x. b'.owed.history ≤ x.room) (sym st.names) (let there = was.names in omega (arith, there, o_history));
-        places = λ q g x n flies is at. places_on q g x n (whose who st.client (Some f) (Some f') b b' st.replaces q g flies) is
-            (subst (λ xs. slice_get xs.items g.ino ≡ Some n) st.inodes at);
+        places = each_room who st.client (Some f) (Some f') b b' st.replaces
+            (λ g x n is data_is at. absurd (no_data x (ap (λ (h : Flight). h.change) (is_it g is) ∙ data_is)))
+            (λ q g n other flies at. (n, subst (λ xs. slice_get xs.items g.ino ≡ Some n) st.inodes at, omega arith)) volume.room.places;
       }
     where
       no_data : (x : DataChange) → Names (prepared_change c tail) ≡ Data x → ⊥
       no_data x is = cc is
-
-      places_on : (q : ℕ) (g : Flight) (x : DataChange) (n : InodeState) → Whose who st.client (Some f) (Some f') b b' st.replaces q g
-          → g.change ≡ Data x → slice_get b.inodes.items g.ino ≡ Some n → length x.blocks.items ≤ n.map.room
-      places_on q g x n (its_own same' is) data_is at = (let one : f' ≡ g = cc is in absurd (no_data x (ap (λ (h : Flight). h.change) one ∙ data_is)))
-      places_on q g x n (another other was) data_is at = volume.room.places q g x n was data_is at
 
   pub prepared_volume : IsVolume d b' t
   prepared_volume = record {
@@ -392,7 +360,8 @@ module _ (d : Disk) (b b' : Parts) (s u t : State) (who : ℕ) (f : Flight) (c :
     holders = same_holders who f f' b b' st d volume.holders;
     space = same_space who f f' b b' st d volume.space;
     table = subst (AreSlotsOf d) (sym st.fact) volume.table;
-    counts = same_counts who f f' b b' st (record { raised = refl }) (let same' = owed_moved (λ r. r.releases) in omega (arith, same')) d
+    counts = same_counts who f f' b b' st (record { raised = refl }) (let same' = owed_moved who st.client (Some f) (Some f') b b' st.replaces
+        (λ r. r.releases) in omega (arith, same')) d
         volume.counts;
     flights = record { clients = st.replaces.clients ∙ volume.flights.clients; each = each };
     queue = same_queue who f f' b b' st d volume.queue;

@@ -34,7 +34,7 @@ use Rattle.dn_volume.specs.declared.volume.InodeUse.TheVariants as used
 use Rattle.dn_volume.specs.declared.volume.Parts.{Parts}
 use Rattle.dn_volume.specs.Parties.{Flies, flight_at}
 use Rattle.dn_volume.specs.Flights.{as_turn}
-use Rattle.dn_volume.specs.Reserve.{owed_to}
+use Rattle.dn_volume.specs.Replaces.{Replaces, MovesOwed}
 use Rattle.dn_volume.specs.declared.volume.Volume.{Volume}
 use Rattle.dn_volume.specs.Agrees.{IsVolume}
 use Rattle.dn_volume.specs.Events.{Counts, Answers, Breaks}
@@ -59,14 +59,8 @@ pub record LetsGo (f : Flight) (ino : ℕ) (n n' : InodeState) : Type 0 where
 pub record Lands (who : ℕ) (f : Flight) (b b' : Parts) : Type 0 where
   pub geometry : b'.geometry ≡ b.geometry
   pub running : b'.stopped ≡ false
-  pub clients : length b'.flights.items ≡ length b.flights.items
-  pub landed : flight_at b'.flights.items (who - 1) ≡ None
-  pub flights : (k : ℕ) → k ≢ who - 1 → flight_at b'.flights.items k ≡ flight_at b.flights.items k
-  pub owed_units : b.owed.units ≡ b'.owed.units + (owed_to (Some f)).units
-  pub owed_trace : b.owed.trace ≡ b'.owed.trace + (owed_to (Some f)).trace
-  pub owed_history : b.owed.history ≡ b'.owed.history + (owed_to (Some f)).history
-  pub owed_queue : b.owed.queue ≡ b'.owed.queue + (owed_to (Some f)).queue
-  pub owed_releases : b.owed.releases ≡ b'.owed.releases + (owed_to (Some f)).releases
+  pub replaces : Replaces (who - 1) (Some f) None b b'
+  pub owed : MovesOwed (Some f) None b b'
   pub pages : b'.free.pages ≡ b.free.pages
   pub in_order : IsInOrder b'.free
   pub free : (page : ℕ) → Contains b'.free.free page ↔
@@ -80,7 +74,6 @@ pub record LandsNames (who : ℕ) (f : Flight) (b b' : Parts) : Type 0 where
   pub lands : Lands who f b b'
   pub fact : b'.fact ≡ b.fact
   pub queue : b'.queue ≡ b.queue
-  pub sharing : b'.sharing ≡ b.sharing
   pub trace : b'.trace ≡ b.trace
   pub names_room : b.names.room ≤ b'.names.room + 1
   pub inodes : length b'.inodes.items ≡ length b.inodes.items

@@ -72,11 +72,6 @@ pub record Prepares (who : ℕ) (f : Flight) (c : NameChange) (tail : ℕ) (b b'
   pub steps : StepsOn who f (with_change f (Names (prepared_change c tail))) b b'
   pub trace : b'.trace ≡ b.trace
   pub history : b'.history ≡ b.history
-  pub owed_units : b.owed.units ≡ b'.owed.units + prepare_units f
-  pub owed_trace : b'.owed.trace ≡ b.owed.trace
-  pub owed_history : b'.owed.history ≡ b.owed.history
-  pub owed_queue : b'.owed.queue ≡ b.owed.queue
-  pub owed_releases : b'.owed.releases ≡ b.owed.releases
 
 -- an operation on names is in flight, and nothing of it was stored
 pub record IsToPrepare (b : Parts) (who : ℕ) (f : Flight) (c : NameChange) : Type 0 where

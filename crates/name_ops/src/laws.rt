@@ -1,16 +1,10 @@
 // The laws by which an operation on names is proved: a creation, a removal or a renaming. Each function states some; it
 // does nothing.
-ghost use Rattle.name_ops.specs.Beginning.{NamesBegin};
 ghost use Rattle.name_ops.specs.Landing.{NamesAnswer, NamesBreak};
 ghost use Rattle.name_ops.specs.Preparing.{NamesPrepare};
 
 use fingerprint::Fingerprint;
 use pm_device::Pm;
-
-/// Its begin, which takes what it needs, leaves the volume agreeing with the same disk.
-pub fn names_begin()
-    ensures { NamesBegin }
-{}
 
 /// Its first advance, which stores and flushes what has to stand before, goes on.
 pub fn names_prepare<D: Pm, F: Fingerprint>()

@@ -37,9 +37,9 @@ module _ {D F : Type 0} (state : D → State) (v v1 : Volume D F) (d : Disk) (is
 
   -- there was no memory for it: only room was made
   pub untouched_ready : (free' : FreePages) → free' ≡ v1.parts.free
-      → IsUntouched state v (record { device = v1.device; print = v1.print; parts = record v1.parts { free = free' } }) d
+      → IsUntouched state v (record { device = v1.device; print = v1.print; kept = v1.kept; parts = record v1.parts { free = free' } }) d
   untouched_ready free' same =
-      subst (λ (x : FreePages). IsUntouched state v (record { device = v1.device; print = v1.print; parts = record v1.parts { free = x } })
+      subst (λ (x : FreePages). IsUntouched state v (record { device = v1.device; print = v1.print; kept = v1.kept; parts = record v1.parts { free = x } })
       d) (sym same)
       (untouched_room state v d is_v v1 agree only.device only.keeps units_there only.history only.made)
 

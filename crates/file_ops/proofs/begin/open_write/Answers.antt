@@ -132,7 +132,7 @@ returns-in-Ok-clause-agrees g c =
     agrees_with d (has_begun S c.args.v.now v1 d volume agree only c.args.op c.in-Write.name at text op_is c.args.ask.now is c.args.who
     c.requires.begins has c.in-Some.ready
     rdy c.index.result.now.size c.room_of-room.result size_is room_is c.plan_write.new.free c.in-Ok.plan c.in-Ok.ensures.plan
-    (record { device = v1.device; print = v1.print; parts = c.start_data.new.parts }) refl
+    (record { device = v1.device; print = v1.print; kept = v1.kept; parts = c.start_data.new.parts }) refl
     (g.met.D.Pm.agree v1.device) c.start_data.ensures.starts c.start_data.result
     c.start_data.ensures.left).volume
 
@@ -156,7 +156,7 @@ returns-in-Ok-clause-event g c = λ d volume.
     has_begun S c.args.v.now v1 d volume agree only c.args.op c.in-Write.name at text op_is c.args.ask.now is c.args.who c.requires.begins has
     c.in-Some.ready
     rdy c.index.result.now.size c.room_of-room.result size_is room_is c.plan_write.new.free c.in-Ok.plan c.in-Ok.ensures.plan
-    (record { device = v1.device; print = v1.print; parts = c.start_data.new.parts }) refl
+    (record { device = v1.device; print = v1.print; kept = v1.kept; parts = c.start_data.new.parts }) refl
     (g.met.D.Pm.agree v1.device) c.start_data.ensures.starts c.start_data.result
     c.start_data.ensures.left
 
@@ -168,7 +168,7 @@ returns-in-Err-clause-agrees g c =
     let volume = found.1 in
     let v1 = c.make_ready.new.v in
     agrees_with d (untouched2 S c.args.v.now v1 d volume (g.met.D.Pm.agree c.args.v.now.device) c.make_ready.ensures.makes
-    (record { device = v1.device; print = v1.print; parts = record v1.parts { free = c.plan_write.new.free } }) refl
+    (record { device = v1.device; print = v1.print; kept = v1.kept; parts = record v1.parts { free = c.plan_write.new.free } }) refl
     (ap (λ (x : FreePages). record v1.parts { free = x }) (c.in-Err.ensures.no_memory refl))).volume
 
 pub returns-in-Err-clause-event : goal.returns-in-Err-clause-event
@@ -176,7 +176,7 @@ returns-in-Err-clause-event g c = λ d volume.
     let S = g.D.Pm.state in
     let v1 = c.make_ready.new.v in (
       untouched2 S c.args.v.now v1 d volume (g.met.D.Pm.agree c.args.v.now.device) c.make_ready.ensures.makes
-          (record { device = v1.device; print = v1.print; parts = record v1.parts { free = c.plan_write.new.free } }) refl
+          (record { device = v1.device; print = v1.print; kept = v1.kept; parts = record v1.parts { free = c.plan_write.new.free } }) refl
           (ap (λ (x : FreePages). record v1.parts { free = x }) (c.in-Err.ensures.no_memory refl)),
       has_all_last d c.args.v.now.parts c.args.op (c.requires.has d volume),
     )

@@ -4,7 +4,8 @@ use Rattle.dn_volume.specs.Agrees.{agrees_with, is_stopped}
 use Rattle.dn_volume.proofs.Tables.{is_table, running_disk}
 use Rattle.file_commit.specs.Append.{CanAppend, AppendsBetween, AppendsNew, AppendsThere}
 use Rattle.file_ops.specs.Giving.{Gives, IsUnsharedAmong, CanGive}
-use Rattle.file_ops.proofs.Basics.{same_flight, flight_within}
+use Rattle.dn_volume.proofs.Replaced.{flight_within, ends_at}
+use Rattle.file_ops.proofs.Basics.{same_flight}
 use Rattle.file_ops.proofs.Known.{
   is_last,
   fact,
@@ -122,7 +123,7 @@ returns-in_default-append_items-clause-agrees g c =
     let there = (both (λ (fresh : List ℕ) (slots : List (List ℕ)). AppendsThere c.args.v.now.parts.geometry c.args.who f.ino fresh slots
     (S c.args.v.now.device) (S c.append_items.new.device)) f.fresh.items c.deref-2.result.now f.slots.items c.deref.result.now
     c.deref-2.ensures.value c.deref.ensures.value c.append_items.ensures.only) in
-    is_stopped (breaks S g.F.Fingerprint.print c.args.v.now (record { device = c.append_items.new.device; print = c.args.v.now.print; parts = _ })
+    is_stopped (breaks S g.F.Fingerprint.print c.args.v.now (record { device = c.append_items.new.device; print = c.args.v.now.print; kept = c.args.v.now.kept; parts = _ })
     found.0 c.args.who f c.in-Data.change found.1 last.flies last.kind (fact found.0 c.args.v.now.parts (S c.args.v.now.device) c.args.who f
     c.in-Data.change found.1 last) last.name last.at last.text last.op_is last.all_filled last.all_raised
     between there c.append_items.ensures.faults
@@ -143,7 +144,7 @@ returns-in_default-append_items-clause-event g c =
     (S c.args.v.now.device) (S c.append_items.new.device)) f.fresh.items c.deref-2.result.now f.slots.items c.deref.result.now
     c.deref-2.ensures.value c.deref.ensures.value c.append_items.ensures.only) in
     let op_same = ap (λ (x : Flight). x.op) (same_flight _ f flies.flight c.end_flight-flight.ensures.was flies.flies.is) ∙ flies.op_is in
-    breaks S g.F.Fingerprint.print c.args.v.now (record { device = c.append_items.new.device; print = c.args.v.now.print; parts = _ }) d c.args.who f
+    breaks S g.F.Fingerprint.print c.args.v.now (record { device = c.append_items.new.device; print = c.args.v.now.print; kept = c.args.v.now.kept; parts = _ }) d c.args.who f
     c.in-Data.change v last.flies last.kind (fact d c.args.v.now.parts (S c.args.v.now.device) c.args.who f c.in-Data.change v last) last.name
     last.at last.text last.op_is last.all_filled last.all_raised
     between there c.append_items.ensures.faults
@@ -203,7 +204,7 @@ returns-clause-agrees g c =
     found.1 last.flies last.kind (fact found.0 c.args.v.now.parts (S c.args.v.now.device) c.args.who f c.in-Data.change found.1 last)
     c.index.result.now node_is
     _ c.load-tail.result last.name last.at last.text last.op_is last.all_filled last.all_raised tail_is gives refl refl refl refl refl) in
-    volume_now S g.F.Fingerprint.print c.args.v.now (record { device = c.append_items.new.device; print = c.args.v.now.print; parts = _ }) found.0
+    volume_now S g.F.Fingerprint.print c.args.v.now (record { device = c.append_items.new.device; print = c.args.v.now.print; kept = c.args.v.now.kept; parts = _ }) found.0
     c.args.who f c.in-Data.change found.1 last.flies last.kind (fact found.0 c.args.v.now.parts (S c.args.v.now.device) c.args.who f
     c.in-Data.change found.1 last) last.name last.at last.text last.op_is last.all_filled last.all_raised
     between there c.append_items.ensures.faults
@@ -213,7 +214,6 @@ returns-clause-agrees g c =
       names = refl;
       fact = refl;
       trace = refl;
-      sharing = refl;
       stopped = refl;
       inodes = refl;
       queue = refl;
@@ -221,11 +221,8 @@ returns-clause-agrees g c =
       owed = refl;
       history = refl;
     })
-    (record {
-      clients = c.end_flight-flight.ensures.clients;
-      landed = c.end_flight-flight.ensures.landed;
-      others = c.end_flight-flight.ensures.others;
-    }) gives finish)
+    (ends_at c.args.v.now.parts _ c.args.who f found.1.flights.clients c.end_flight-flight.ensures.clients c.end_flight-flight.ensures.was
+    c.end_flight-flight.ensures.landed c.end_flight-flight.ensures.others refl) gives finish)
 
 pub returns-clause-event : goal.returns-clause-event
 returns-clause-event g c =
@@ -258,7 +255,7 @@ returns-clause-event g c =
           v last.flies last.kind (fact d c.args.v.now.parts (S c.args.v.now.device) c.args.who f c.in-Data.change v last) c.index.result.now
           node_is
           _ c.load-tail.result last.name last.at last.text last.op_is last.all_filled last.all_raised tail_is gives refl refl refl refl refl) in
-          answers S g.F.Fingerprint.print c.args.v.now (record { device = c.append_items.new.device; print = c.args.v.now.print; parts = _ }) d
+          answers S g.F.Fingerprint.print c.args.v.now (record { device = c.append_items.new.device; print = c.args.v.now.print; kept = c.args.v.now.kept; parts = _ }) d
           c.args.who f c.in-Data.change v last.flies last.kind (fact d c.args.v.now.parts (S c.args.v.now.device) c.args.who f c.in-Data.change v
           last) last.name last.at last.text last.op_is last.all_filled last.all_raised
           between there c.append_items.ensures.faults
@@ -268,7 +265,6 @@ returns-clause-event g c =
             names = refl;
             fact = refl;
             trace = refl;
-            sharing = refl;
             stopped = refl;
             inodes = refl;
             queue = refl;
@@ -276,11 +272,8 @@ returns-clause-event g c =
             owed = refl;
             history = refl;
           })
-          (record {
-            clients = c.end_flight-flight.ensures.clients;
-            landed = c.end_flight-flight.ensures.landed;
-            others = c.end_flight-flight.ensures.others;
-          }) gives finish op op_same (same_count c.args.v.now.parts.made c.count_call-v.result
+          (ends_at c.args.v.now.parts _ c.args.who f v.flights.clients c.end_flight-flight.ensures.clients c.end_flight-flight.ensures.was
+          c.end_flight-flight.ensures.landed c.end_flight-flight.ensures.others refl) gives finish op op_same (same_count c.args.v.now.parts.made c.count_call-v.result
           c.finish_parts.new.parts.made finish.made c.count_call-v.ensures),
       refl,
     )

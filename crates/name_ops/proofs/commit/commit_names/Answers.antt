@@ -98,6 +98,7 @@ returns-clause-event g c = λ d f v flies.
     answers_of S g.F.Fingerprint.print c.args.v.now (record {
       device = c.commit_change.new.device;
       print = c.args.v.now.print;
+      kept = c.args.v.now.kept;
       parts =
           c.land_names.new.parts;
     }) c.args.who c.take_flight-flight.result c.in-Names.change to.0
@@ -105,6 +106,7 @@ returns-clause-event g c = λ d f v flies.
     (commit_answers S g.F.Fingerprint.print c.args.v.now (record {
       device = c.commit_change.new.device;
       print = c.args.v.now.print;
+      kept = c.args.v.now.kept;
       parts =
           c.land_names.new.parts;
     }) c.args.who c.take_flight-flight.result c.in-Names.change to.0
@@ -136,6 +138,7 @@ returns-clause-agrees g c =
       device = c.commit_change.new.device;
       print =
           c.args.v.now.print;
+      kept = c.args.v.now.kept;
       parts = c.land_names.new.parts;
     }) c.args.who c.take_flight-flight.result c.in-Names.change to.0
     (g.met.D.Pm.agree c.args.v.now.device) c.in-Ok.ensures.done to.1 _
@@ -164,9 +167,9 @@ returns-in_default-commit_change-clause-event g c = λ d f v flies.
     let to = to_commit b c.args.who c.requires.next c.take_flight-flight.result c.take_flight-flight.ensures.was c.in-Names.change c.in-Names.is in
     let counted : (c.saturating_add-v.result ≡ b.made + 1) ⊎ ((b.made ≡ 18446744073709551615) × (c.saturating_add-v.result ≡ b.made)) =
     grind (arith, c.saturating_add-v.ensures) in
-    breaks_of S g.F.Fingerprint.print c.args.v.now (record { device = c.commit_change.new.device; print = c.args.v.now.print; parts = _ }) c.args.who
+    breaks_of S g.F.Fingerprint.print c.args.v.now (record { device = c.commit_change.new.device; print = c.args.v.now.print; kept = c.args.v.now.kept; parts = _ }) c.args.who
     c.take_flight-flight.result c.in-Names.change to.0 (g.met.D.Pm.agree c.args.v.now.device) d f flies
-    (commit_breaks S g.F.Fingerprint.print c.args.v.now (record { device = c.commit_change.new.device; print = c.args.v.now.print; parts = _ })
+    (commit_breaks S g.F.Fingerprint.print c.args.v.now (record { device = c.commit_change.new.device; print = c.args.v.now.print; kept = c.args.v.now.kept; parts = _ })
     c.args.who c.take_flight-flight.result c.in-Names.change to.0 (g.met.D.Pm.agree c.args.v.now.device) c.commit_change.ensures.any_moment
     c.commit_change.ensures.only (c.in_default-commit_change.ensures.failed refl) c.commit_change.ensures.faults
     (record {
@@ -191,6 +194,7 @@ returns-in_default-commit_change-clause-agrees g c =
       device = c.commit_change.new.device;
       print =
           c.args.v.now.print;
+      kept = c.args.v.now.kept;
       parts = _;
     })
     c.args.who c.take_flight-flight.result c.in-Names.change to.0 (g.met.D.Pm.agree c.args.v.now.device) c.commit_change.ensures.any_moment

@@ -39,7 +39,7 @@ returns-then-not-make_room-clause-event g c = λ d volume. (
 
 -- the volume with this set of free pages
 with_free : {D F : Type 0} → Volume D F → FreePages → Volume D F
-with_free v free = record { device = v.device; print = v.print; parts = record v.parts { free = free } }
+with_free v free = record { device = v.device; print = v.print; kept = v.kept; parts = record v.parts { free = free } }
 
 pub returns-in_default-clause-agrees : goal.returns-in_default-clause-agrees
 unfolding with_free
@@ -89,7 +89,7 @@ returns-clause-agrees g c =
     c.in-Ok.ensures.taken c.in-Ok.ensures.count c.flight_of.result c.flight_of.ensures c.names_room-room.result
     (c.names_room-room.ensures ∙ ap (λ (n : ℕ). owed_names n c.args.pages) long)
     (c.make_room.ensures.room c.if-not-make_room.false) (c.make_room.ensures.units c.if-not-make_room.false)
-    (record { device = c.make_room.new.v.device; print = c.make_room.new.v.print; parts = c.start.new.parts }) refl c.start.ensures).volume
+    (record { device = c.make_room.new.v.device; print = c.make_room.new.v.print; kept = c.make_room.new.v.kept; parts = c.start.new.parts }) refl c.start.ensures).volume
 
 pub returns-clause-event : goal.returns-clause-event
 returns-clause-event g c = λ d volume.
@@ -100,4 +100,4 @@ returns-clause-event g c = λ d volume.
     c.in-Ok.ensures.taken c.in-Ok.ensures.count c.flight_of.result c.flight_of.ensures c.names_room-room.result
     (c.names_room-room.ensures ∙ ap (λ (n : ℕ). owed_names n c.args.pages) long)
     (c.make_room.ensures.room c.if-not-make_room.false) (c.make_room.ensures.units c.if-not-make_room.false)
-    (record { device = c.make_room.new.v.device; print = c.make_room.new.v.print; parts = c.start.new.parts }) refl c.start.ensures
+    (record { device = c.make_room.new.v.device; print = c.make_room.new.v.print; kept = c.make_room.new.v.kept; parts = c.start.new.parts }) refl c.start.ensures

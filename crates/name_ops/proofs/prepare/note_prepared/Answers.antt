@@ -1,8 +1,10 @@
-use Rattle.std.proofs.Common.{◌-◌, ◌++◌, refl, sym, ◌∙◌, ap, arith}
+use Rattle.std.proofs.Common.{Bool, ◌+◌, ◌-◌, ◌++◌, refl, sym, ◌∙◌, ap, arith}
 use Rattle.std.specs.Prelude.{Option}
 use Rattle.dn_volume.specs.declared.flight.Flight.{Flight}
 use Rattle.dn_volume.specs.declared.flight.Change.{Change}
+use Rattle.dn_volume.specs.declared.units.TheConstants.{NAMES_UNITS}
 use Rattle.dn_volume.specs.Parties.{opened, blocks_of}
+use Rattle.dn_volume.specs.Reserve.{units_by, runs_by, prepared_units, slots_of}
 use Rattle.count_events.proofs.Flown.{in_range, at_client, get_here, get_there, set_long}
 use Rattle.name_ops.proofs.prepare.note_prepared.Goals as goal
 
@@ -50,6 +52,14 @@ returns c = λ f x to.
                 c.prepare_flight-units.new.flight ne);
             sharing = refl;
           };
+          owed = record {
+            units = let was = ap (units_by f) to.change_is ∙ ap (λ (y : Bool). prepared_units y (slots_of f) + NAMES_UNITS) to.unprepared in
+                omega (arith, was, units, enough);
+            trace = refl;
+            history = refl;
+            queue = ap (λ (y : Change). b.owed.queue + runs_by y) to.change_is;
+            releases = refl;
+          };
           further = record {
             op = refl;
             held = refl;
@@ -66,11 +76,6 @@ returns c = λ f x to.
         };
         trace = refl;
         history = refl;
-        owed_units = omega (arith, units, enough);
-        owed_trace = refl;
-        owed_history = refl;
-        owed_queue = refl;
-        owed_releases = refl;
       };
       counts = grind (arith, c.saturating_add-parts.ensures);
     }

@@ -43,6 +43,7 @@ returns-clause-agrees g c =
     let moved = names_prepare S g.F.Fingerprint.print c.args.v.now (record {
       device = c.store_flight-tail.new.device;
       print = c.args.v.now.print;
+      kept = c.args.v.now.kept;
       parts
           = c.note_prepared.new.parts;
     }) stores.mid found.0 c.args.who next.flight next.change c.store_flight-tail.result flight
@@ -61,6 +62,7 @@ returns-clause-event g c = λ d f v flies.
       names_prepare S g.F.Fingerprint.print c.args.v.now (record {
         device = c.store_flight-tail.new.device;
         print = c.args.v.now.print;
+        kept = c.args.v.now.kept;
         parts =
             c.note_prepared.new.parts;
       }) stores.mid d c.args.who f next.change c.store_flight-tail.result flight v stores.agree

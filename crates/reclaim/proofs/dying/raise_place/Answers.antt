@@ -38,14 +38,14 @@ pub returns-in-Err-clause-agrees : goal.returns-in-Err-clause-agrees
 returns-in-Err-clause-agrees g c =
     let found = running_disk g.D.Pm.state c.args.v.now c.requires.running c.requires.agrees in
     is_stopped (place_fails g.D.Pm.state c.args.v.now c.args.p c.requires.place
-    (record { device = c.raise_at.new.device; print = c.args.v.now.print; parts = c.stop.new.parts }) c.raise_at.ensures.only
+    (record { device = c.raise_at.new.device; print = c.args.v.now.print; kept = c.args.v.now.kept; parts = c.stop.new.parts }) c.raise_at.ensures.only
     (g.met.D.Pm.agree c.raise_at.new.device) c.raise_at.ensures.images c.raise_at.ensures.faults
     c.stop.ensures g.F.Fingerprint.print found.0 found.1 (c.raise_at.ensures.failed (err_is c.raise_at.result _ c.in-Err.is))).stopped
 
 pub returns-in-Err-clause-event : goal.returns-in-Err-clause-event
 returns-in-Err-clause-event g c = λ d v. (
   place_fails g.D.Pm.state c.args.v.now c.args.p c.requires.place
-      (record { device = c.raise_at.new.device; print = c.args.v.now.print; parts = c.stop.new.parts }) c.raise_at.ensures.only
+      (record { device = c.raise_at.new.device; print = c.args.v.now.print; kept = c.args.v.now.kept; parts = c.stop.new.parts }) c.raise_at.ensures.only
       (g.met.D.Pm.agree c.raise_at.new.device) c.raise_at.ensures.images c.raise_at.ensures.faults
       c.stop.ensures g.F.Fingerprint.print d v (c.raise_at.ensures.failed (err_is c.raise_at.result _ c.in-Err.is)),
   some_work c.args.v.now.parts (place_waits g.D.Pm.state c.args.v.now c.args.p c.requires.place c.requires.agrees c.requires.running

@@ -112,7 +112,7 @@ returns-in-Err-clause-agrees g c =
       faults = c.set_word.ensures.faults;
     }) in
     is_stopped (end_breaks S c.args.v.now c.args.ino c.requires.none c.requires.unraised g.F.Fingerprint.print
-    (record { device = c.set_word.new.device; print = c.args.v.now.print; parts = c.stop.new.parts }) sets
+    (record { device = c.set_word.new.device; print = c.args.v.now.print; kept = c.args.v.now.kept; parts = c.stop.new.parts }) sets
     (g.met.D.Pm.agree c.set_word.new.device) found.0 found.1 (stops_freed c.args.v.now.parts c.give_back_log.new.free c.stop.new.parts
     c.stop.ensures)
     (c.set_word.ensures.failed (err_is c.set_word.result _ c.in-Err.is))).stopped
@@ -128,7 +128,7 @@ returns-in-Err-clause-event g c = λ d v.
       faults = c.set_word.ensures.faults;
     }) in (
       end_breaks S c.args.v.now c.args.ino c.requires.none c.requires.unraised g.F.Fingerprint.print
-          (record { device = c.set_word.new.device; print = c.args.v.now.print; parts = c.stop.new.parts }) sets
+          (record { device = c.set_word.new.device; print = c.args.v.now.print; kept = c.args.v.now.kept; parts = c.stop.new.parts }) sets
           (g.met.D.Pm.agree c.set_word.new.device) d v (stops_freed c.args.v.now.parts c.give_back_log.new.free c.stop.new.parts c.stop.ensures)
           (c.set_word.ensures.failed (err_is c.set_word.result _ c.in-Err.is)),
       some_work c.args.v.now.parts (end_waits S c.args.v.now c.args.ino c.requires.none c.requires.unraised c.requires.agrees c.requires.running),

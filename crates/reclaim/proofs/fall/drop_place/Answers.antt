@@ -92,7 +92,7 @@ returns-in-Err-clause-agrees g c =
       faults = c.set_word.ensures.faults;
     }) in
     is_stopped (drop_breaks S c.args.v.now c.in-Some.p c.in-Some.is g.F.Fingerprint.print
-    (record { device = c.set_word.new.device; print = c.args.v.now.print; parts = c.stop.new.parts }) sets
+    (record { device = c.set_word.new.device; print = c.args.v.now.print; kept = c.args.v.now.kept; parts = c.stop.new.parts }) sets
     (g.met.D.Pm.agree c.set_word.new.device) found.0 found.1 c.stop.ensures
     (c.set_word.ensures.failed (err_is c.set_word.result _ c.in-Err.is))).stopped
 
@@ -107,7 +107,7 @@ returns-in-Err-clause-event g c = λ d v.
       faults = c.set_word.ensures.faults;
     }) in (
       drop_breaks S c.args.v.now c.in-Some.p c.in-Some.is g.F.Fingerprint.print
-          (record { device = c.set_word.new.device; print = c.args.v.now.print; parts = c.stop.new.parts }) sets
+          (record { device = c.set_word.new.device; print = c.args.v.now.print; kept = c.args.v.now.kept; parts = c.stop.new.parts }) sets
           (g.met.D.Pm.agree c.set_word.new.device) d v c.stop.ensures (c.set_word.ensures.failed (err_is c.set_word.result _ c.in-Err.is)),
       some_work c.args.v.now.parts (drop_waits S c.args.v.now c.in-Some.p c.in-Some.is c.requires.agrees c.requires.running),
     )

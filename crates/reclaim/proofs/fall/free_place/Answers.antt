@@ -92,7 +92,7 @@ returns-in-Err-clause-agrees g c =
       faults = c.set_word.ensures.faults;
     }) in
     is_stopped (free_breaks S c.args.v.now c.args.ino c.args.place c.args.page c.requires.place c.requires.no_row c.requires.unraised
-    g.F.Fingerprint.print (record { device = c.set_word.new.device; print = c.args.v.now.print; parts = c.stop.new.parts }) sets
+    g.F.Fingerprint.print (record { device = c.set_word.new.device; print = c.args.v.now.print; kept = c.args.v.now.kept; parts = c.stop.new.parts }) sets
     (g.met.D.Pm.agree c.set_word.new.device) found.0 found.1 c.stop.ensures
     (c.set_word.ensures.failed (err_is c.set_word.result _ c.in-Err.is))).stopped
 
@@ -107,7 +107,7 @@ returns-in-Err-clause-event g c = λ d v.
       faults = c.set_word.ensures.faults;
     }) in (
       free_breaks S c.args.v.now c.args.ino c.args.place c.args.page c.requires.place c.requires.no_row c.requires.unraised g.F.Fingerprint.print
-          (record { device = c.set_word.new.device; print = c.args.v.now.print; parts = c.stop.new.parts }) sets
+          (record { device = c.set_word.new.device; print = c.args.v.now.print; kept = c.args.v.now.kept; parts = c.stop.new.parts }) sets
           (g.met.D.Pm.agree c.set_word.new.device) d v c.stop.ensures (c.set_word.ensures.failed (err_is c.set_word.result _ c.in-Err.is)),
       some_work c.args.v.now.parts (let four = free_waits S c.args.v.now c.args.ino c.args.place c.args.page c.requires.place c.requires.no_row
           c.requires.unraised c.requires.agrees c.requires.running in omega (arith, four)),

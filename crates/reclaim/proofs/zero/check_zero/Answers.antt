@@ -21,14 +21,14 @@ returns-in-None-clause-agrees g c =
     let S = g.D.Pm.state in
     let found = running_disk S c.args.v.now c.requires.running c.requires.agrees in
     moved_agrees S c.args.v.now g.F.Fingerprint.print _ found.0 (stays_moves S c.args.v.now c.in-Some.slot c.in-Some.is
-    (record { device = c.args.v.now.device; print = c.args.v.now.print; parts = c.note_checked.new.parts }) refl c.note_checked.ensures.checks
+    (record { device = c.args.v.now.device; print = c.args.v.now.print; kept = c.args.v.now.kept; parts = c.note_checked.new.parts }) refl c.note_checked.ensures.checks
     c.note_checked.ensures.free c.note_checked.ensures.fact
     c.in-None.ensures.counted (g.met.D.Pm.agree c.args.v.now.device) g.F.Fingerprint.print found.0 found.1)
 
 pub returns-in-None-clause-event : goal.returns-in-None-clause-event
 returns-in-None-clause-event g c = λ d v. (
   stays_moves g.D.Pm.state c.args.v.now c.in-Some.slot c.in-Some.is
-      (record { device = c.args.v.now.device; print = c.args.v.now.print; parts = c.note_checked.new.parts }) refl c.note_checked.ensures.checks
+      (record { device = c.args.v.now.device; print = c.args.v.now.print; kept = c.args.v.now.kept; parts = c.note_checked.new.parts }) refl c.note_checked.ensures.checks
       c.note_checked.ensures.free c.note_checked.ensures.fact
       c.in-None.ensures.counted (g.met.D.Pm.agree c.args.v.now.device) g.F.Fingerprint.print d v,
   some_work c.args.v.now.parts (zero_waits g.D.Pm.state c.args.v.now c.in-Some.slot c.in-Some.is c.requires.agrees c.requires.running),

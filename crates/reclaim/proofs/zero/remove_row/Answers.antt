@@ -40,7 +40,7 @@ returns-in-Ok-clause-agrees g c =
     let found = running_disk S c.args.v.now c.requires.running c.requires.agrees in
     moved_agrees S c.args.v.now g.F.Fingerprint.print _ found.0
     (gone_moves S c.args.v.now c.args.slot c.requires.pending c.args.page c.requires.zero found.0 found.1
-    (record { device = c.remove_zero.new.device; print = c.args.v.now.print; parts = c.note_checked.new.parts }) c.remove_zero.ensures.only
+    (record { device = c.remove_zero.new.device; print = c.args.v.now.print; kept = c.args.v.now.kept; parts = c.note_checked.new.parts }) c.remove_zero.ensures.only
     c.remove_zero.ensures.images (g.met.D.Pm.agree c.remove_zero.new.device)
     c.remove_zero.ensures.faults g.F.Fingerprint.print (checks_since c.args.v.now.parts c.remove_zero.new.fact c.give_back.new.self
     c.note_checked.new.parts c.note_checked.ensures.checks) c.remove_zero.ensures.others
@@ -54,7 +54,7 @@ pub returns-in-Ok-clause-event : goal.returns-in-Ok-clause-event
 returns-in-Ok-clause-event g c = λ d v.
     let S = g.D.Pm.state in (
       gone_moves S c.args.v.now c.args.slot c.requires.pending c.args.page c.requires.zero d v
-          (record { device = c.remove_zero.new.device; print = c.args.v.now.print; parts = c.note_checked.new.parts }) c.remove_zero.ensures.only
+          (record { device = c.remove_zero.new.device; print = c.args.v.now.print; kept = c.args.v.now.kept; parts = c.note_checked.new.parts }) c.remove_zero.ensures.only
           c.remove_zero.ensures.images (g.met.D.Pm.agree c.remove_zero.new.device)
           c.remove_zero.ensures.faults g.F.Fingerprint.print (checks_since c.args.v.now.parts c.remove_zero.new.fact c.give_back.new.self
           c.note_checked.new.parts c.note_checked.ensures.checks) c.remove_zero.ensures.others
@@ -74,7 +74,7 @@ returns-in-Err-clause-agrees g c =
     let S = g.D.Pm.state in
     let found = running_disk S c.args.v.now c.requires.running c.requires.agrees in
     is_stopped (gone_breaks S c.args.v.now c.args.slot c.requires.pending c.args.page c.requires.zero found.0 found.1
-    (record { device = c.remove_zero.new.device; print = c.args.v.now.print; parts = c.stop.new.parts }) c.remove_zero.ensures.only
+    (record { device = c.remove_zero.new.device; print = c.args.v.now.print; kept = c.args.v.now.kept; parts = c.stop.new.parts }) c.remove_zero.ensures.only
     c.remove_zero.ensures.images (g.met.D.Pm.agree c.remove_zero.new.device)
     c.remove_zero.ensures.faults g.F.Fingerprint.print (stops_since c.args.v.now.parts c.remove_zero.new.fact c.stop.new.parts c.stop.ensures)
     (c.remove_zero.ensures.failed (err_is c.remove_zero.result _ c.in-Err.is))).stopped
@@ -83,7 +83,7 @@ pub returns-in-Err-clause-event : goal.returns-in-Err-clause-event
 returns-in-Err-clause-event g c = λ d v.
     let S = g.D.Pm.state in (
       gone_breaks S c.args.v.now c.args.slot c.requires.pending c.args.page c.requires.zero d v
-          (record { device = c.remove_zero.new.device; print = c.args.v.now.print; parts = c.stop.new.parts }) c.remove_zero.ensures.only
+          (record { device = c.remove_zero.new.device; print = c.args.v.now.print; kept = c.args.v.now.kept; parts = c.stop.new.parts }) c.remove_zero.ensures.only
           c.remove_zero.ensures.images (g.met.D.Pm.agree c.remove_zero.new.device)
           c.remove_zero.ensures.faults g.F.Fingerprint.print (stops_since c.args.v.now.parts c.remove_zero.new.fact c.stop.new.parts c.stop.ensures)
           (c.remove_zero.ensures.failed (err_is c.remove_zero.result _ c.in-Err.is)),

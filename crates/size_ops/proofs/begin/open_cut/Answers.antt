@@ -185,7 +185,7 @@ returns-clause-agrees g c =
     (omega (arith, slots_long found.0 c.args.op cut.ino cut plan v1.parts (S v1.device) v1_is c.args.who free ready wp takes is_ready.held rows))
     (fresh_few found.0 c.args.op cut.ino cut plan v1.parts (S v1.device) v1_is c.args.who free ready wp takes is_ready.held rows)
     (runs_few found.0 c.args.op cut.ino cut plan v1.parts (S v1.device) v1_is c.args.who free ready wp takes is_ready.held rows)
-    (record { device = v1.device; print = v1.print; parts = c.start_data-left.new.parts }) c.start_data-left.result refl (g.met.D.Pm.agree v1.device)
+    (record { device = v1.device; print = v1.print; kept = v1.kept; parts = c.start_data-left.new.parts }) c.start_data-left.result refl (g.met.D.Pm.agree v1.device)
     (flown found.0 c.args.op cut.ino cut plan v1.parts (S v1.device) v1_is c.args.who free ready wp takes is_ready.held rows)
     c.start_data-left.ensures.starts c.start_data-left.ensures.left).volume
 
@@ -215,6 +215,6 @@ returns-clause-event g c =
     (omega (arith, slots_long d c.args.op cut.ino cut plan v1.parts (S v1.device) v1_is c.args.who free ready wp takes is_ready.held rows))
     (fresh_few d c.args.op cut.ino cut plan v1.parts (S v1.device) v1_is c.args.who free ready wp takes is_ready.held rows)
     (runs_few d c.args.op cut.ino cut plan v1.parts (S v1.device) v1_is c.args.who free ready wp takes is_ready.held rows)
-    (record { device = v1.device; print = v1.print; parts = c.start_data-left.new.parts }) c.start_data-left.result refl (g.met.D.Pm.agree v1.device)
+    (record { device = v1.device; print = v1.print; kept = v1.kept; parts = c.start_data-left.new.parts }) c.start_data-left.result refl (g.met.D.Pm.agree v1.device)
     (flown d c.args.op cut.ino cut plan v1.parts (S v1.device) v1_is c.args.who free ready wp takes is_ready.held rows)
     c.start_data-left.ensures.starts c.start_data-left.ensures.left

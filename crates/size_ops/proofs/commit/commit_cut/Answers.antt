@@ -5,7 +5,8 @@ use Rattle.dn_volume.specs.declared.flight.Flight.{Flight}
 use Rattle.dn_volume.proofs.Tables.{is_table, running_disk}
 use Rattle.file_commit.specs.Append.{CanAppend, AppendsBetween, AppendsNew, AppendsThere}
 use Rattle.file_ops.specs.Giving.{Gives, IsUnsharedAmong, CanGive}
-use Rattle.file_ops.proofs.Basics.{same_flight, flight_within}
+use Rattle.dn_volume.proofs.Replaced.{flight_within, ends_at}
+use Rattle.file_ops.proofs.Basics.{same_flight}
 use Rattle.file_ops.proofs.Known.{
   in_table_of,
   in_nodes_of,
@@ -166,7 +167,7 @@ returns-in_default-append_items-clause-agrees g c =
     let there = (both (λ (fresh : List ℕ) (slots : List (List ℕ)). AppendsThere b.geometry who f.ino fresh slots s
     (S c.append_items.new.device)) f.fresh.items c.deref-2.result.now f.slots.items c.deref.result.now
     c.deref-2.ensures.value c.deref.ensures.value c.append_items.ensures.only) in
-    is_stopped (breaks_by S g.F.Fingerprint.print c.args.v.now (record { device = c.append_items.new.device; print = c.args.v.now.print; parts = _ })
+    is_stopped (breaks_by S g.F.Fingerprint.print c.args.v.now (record { device = c.append_items.new.device; print = c.args.v.now.print; kept = c.args.v.now.kept; parts = _ })
     found.0 who f x found.1 last.flies last.kind (fact found.0 b s who f x found.1 last) (cut_after found.0 b s who f x found.1 last)
     (from found.0 b s who f x found.1 last) (4096 - from found.0 b s who f x found.1 last) (decides found.0 b s who f x found.1 last)
     between there c.append_items.ensures.faults f.op refl refl refl refl refl refl c.count_call-v.ensures
@@ -191,7 +192,7 @@ returns-in_default-append_items-clause-event g c =
     (S c.append_items.new.device)) f.fresh.items c.deref-2.result.now f.slots.items c.deref.result.now
     c.deref-2.ensures.value c.deref.ensures.value c.append_items.ensures.only) in
     let op_same = ap (λ (y : Flight). y.op) (same_flight _ f flies.flight c.end_flight-flight.ensures.was flies.flies.is) ∙ flies.op_is in
-    breaks_by S g.F.Fingerprint.print c.args.v.now (record { device = c.append_items.new.device; print = c.args.v.now.print; parts = _ })
+    breaks_by S g.F.Fingerprint.print c.args.v.now (record { device = c.append_items.new.device; print = c.args.v.now.print; kept = c.args.v.now.kept; parts = _ })
     d who f x v last.flies last.kind (fact d b s who f x v last) (cut_after d b s who f x v last) (from d b s who f x v last)
     (4096 - from d b s who f x v last) (decides d b s who f x v last)
     between there c.append_items.ensures.faults op op_same refl refl refl refl refl c.count_call-v.ensures
@@ -250,6 +251,7 @@ returns-clause-agrees g c =
     agrees_with _ (volume_by S g.F.Fingerprint.print c.args.v.now (record {
       device = c.append_items.new.device;
       print = c.args.v.now.print;
+      kept = c.args.v.now.kept;
       parts = _;
     })
     found.0 who f x found.1 last.flies last.kind (fact found.0 b s who f x found.1 last) (cut_after found.0 b s who f x found.1 last)
@@ -260,7 +262,6 @@ returns-clause-agrees g c =
       names = refl;
       fact = refl;
       trace = refl;
-      sharing = refl;
       stopped = refl;
       inodes = refl;
       queue = refl;
@@ -268,11 +269,8 @@ returns-clause-agrees g c =
       owed = refl;
       history = refl;
     })
-    (record {
-      clients = c.end_flight-flight.ensures.clients;
-      landed = c.end_flight-flight.ensures.landed;
-      others = c.end_flight-flight.ensures.others;
-    }) gives _ finish (inode_is found.0 b s who f x found.1 last _ _ c.load-tail.result tail_is refl finish.inodes))
+    (ends_at b _ who f found.1.flights.clients c.end_flight-flight.ensures.clients c.end_flight-flight.ensures.was
+    c.end_flight-flight.ensures.landed c.end_flight-flight.ensures.others refl) gives _ finish (inode_is found.0 b s who f x found.1 last _ _ c.load-tail.result tail_is refl finish.inodes))
 
 pub returns-clause-event : goal.returns-clause-event
 returns-clause-event g c =
@@ -303,7 +301,7 @@ returns-clause-event g c =
     let e2 = ap length c.deref-2.ensures.value in
     let finish = c.finish_cut.ensures x (can_finish_cut d b s who f x v last c.index.result.now node_is _ c.load-tail.result tail_is gives
     refl refl refl refl refl) in (
-      answers_by S g.F.Fingerprint.print c.args.v.now (record { device = c.append_items.new.device; print = c.args.v.now.print; parts = _ })
+      answers_by S g.F.Fingerprint.print c.args.v.now (record { device = c.append_items.new.device; print = c.args.v.now.print; kept = c.args.v.now.kept; parts = _ })
           d who f x v last.flies last.kind (fact d b s who f x v last) (cut_after d b s who f x v last) (from d b s who f x v last)
           (4096 - from d b s who f x v last) (decides d b s who f x v last)
           between there c.append_items.ensures.faults stands c.in-Ok.ensures.settles (omega (arith, c.append_items.ensures.spare, e1, e2))
@@ -312,7 +310,6 @@ returns-clause-event g c =
             names = refl;
             fact = refl;
             trace = refl;
-            sharing = refl;
             stopped = refl;
             inodes = refl;
             queue = refl;
@@ -320,11 +317,8 @@ returns-clause-event g c =
             owed = refl;
             history = refl;
           })
-          (record {
-            clients = c.end_flight-flight.ensures.clients;
-            landed = c.end_flight-flight.ensures.landed;
-            others = c.end_flight-flight.ensures.others;
-          }) gives _ finish (inode_is d b s who f x v last _ _ c.load-tail.result tail_is refl finish.inodes) op op_same
+          (ends_at b _ who f v.flights.clients c.end_flight-flight.ensures.clients c.end_flight-flight.ensures.was
+          c.end_flight-flight.ensures.landed c.end_flight-flight.ensures.others refl) gives _ finish (inode_is d b s who f x v last _ _ c.load-tail.result tail_is refl finish.inodes) op op_same
           (same_count b.made c.count_call-v.result c.finish_cut.new.parts.made finish.made c.count_call-v.ensures),
       refl,
     )
