@@ -36,3 +36,5 @@ pub mod Bits
 pub mod Masked
 pub mod MaskEnds
 pub mod LookedUp
+pub mod AheadLists
+pub mod AheadPages

@@ -1,4 +1,6 @@
 pub mod Pages
+pub mod Ahead
+pub mod Copies
 pub mod Daemon
 pub mod Fronts
 pub mod Looked

@@ -34,7 +34,7 @@ pub fn print_of<D: Pm, F: Fingerprint>(v: &Volume<D, F>, page: u64) -> [u8; 20]
     ensures { (d : Disk) → IsVolume d v.now.parts (D.state v.now.device)
         → result ≡ F.print (page_bytes d page) }
 {
-    v.print.of(&page_at(&v.device, page))
+    v.print(page, &page_at(&v.device, page))
 }
 
 // Whether two pages' bytes are equal.

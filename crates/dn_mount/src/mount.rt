@@ -13,7 +13,7 @@ use crate::fault::MountFault;
 use crate::finish::finish_dying;
 use crate::parts::volume_of_scan;
 use crate::repair::repair;
-use dn_volume::{Parts, Volume};
+use dn_volume::{Batch, Parts, Volume};
 use fingerprint::Fingerprint;
 use pm_device::Pm;
 use std::alloc::Global;
@@ -59,6 +59,7 @@ fn open<D: Pm, F: Fingerprint + Drop>(
         Ok(parts) => Ok(Volume {
             device,
             print,
+            kept: Batch::new(alloc),
             parts,
         }),
         Err(fault) => Err((fault, device)),

@@ -24,6 +24,7 @@ returns-clause-agrees g c =
     let moves = stale_moves g.D.Pm.state c.args.v.now (record {
       device = c.args.v.now.device;
       print = c.args.v.now.print;
+      kept = c.args.v.now.kept;
       parts =
           c.note_stale.new.parts;
     }) c.in-Some.work c.requires.none_begun
@@ -36,7 +37,7 @@ returns-clause-event g c = λ d v.
     let stale : IsFreshWork c.args.v.now.parts.inodes.items c.in-Some.work → ⊥ = λ fresh. false≢true (sym c.if-is_fresh.false ∙ c.is_fresh.ensures.1
     (subst (λ (ns : List InodeState). IsFreshWork ns c.in-Some.work) (sym c.deref.ensures.value) fresh)) in
     let agree = g.met.D.Pm.agree c.args.v.now.device in (
-      stale_moves g.D.Pm.state c.args.v.now (record { device = c.args.v.now.device; print = c.args.v.now.print; parts = c.note_stale.new.parts })
+      stale_moves g.D.Pm.state c.args.v.now (record { device = c.args.v.now.device; print = c.args.v.now.print; kept = c.args.v.now.kept; parts = c.note_stale.new.parts })
           c.in-Some.work c.requires.none_begun stale c.note_stale.ensures agree g.F.Fingerprint.print d v,
       stale_work d c.args.v.now.parts c.note_stale.new.parts (g.D.Pm.state c.args.v.now.device) v c.in-Some.work c.requires.none_begun stale
           c.note_stale.ensures agree,

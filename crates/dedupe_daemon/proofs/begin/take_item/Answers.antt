@@ -20,7 +20,7 @@ returns-in-Ok-clause-agrees g c =
     let moves = begin_moves g.D.Pm.state c.args.v.now c.args.sharing c.requires.none_begun c.requires.front c.requires.fresh c.requires.item
     c.requires.loose
     found.0 found.1 g.F.Fingerprint.print
-    (record { device = c.set_flag.new.device; print = c.args.v.now.print; parts = c.note_begin.new.parts })
+    (record { device = c.set_flag.new.device; print = c.args.v.now.print; kept = c.args.v.now.kept; parts = c.note_begin.new.parts })
     (record {
       any_moment = c.set_flag.ensures.committed;
       only = c.set_flag.ensures.only;
@@ -33,7 +33,7 @@ returns-in-Ok-clause-agrees g c =
 pub returns-in-Ok-clause-event : goal.returns-in-Ok-clause-event
 returns-in-Ok-clause-event g c = λ d v. (
   begin_moves g.D.Pm.state c.args.v.now c.args.sharing c.requires.none_begun c.requires.front c.requires.fresh c.requires.item c.requires.loose
-      d v g.F.Fingerprint.print (record { device = c.set_flag.new.device; print = c.args.v.now.print; parts = c.note_begin.new.parts })
+      d v g.F.Fingerprint.print (record { device = c.set_flag.new.device; print = c.args.v.now.print; kept = c.args.v.now.kept; parts = c.note_begin.new.parts })
       (record {
         any_moment = c.set_flag.ensures.committed;
         only = c.set_flag.ensures.only;
@@ -43,7 +43,7 @@ returns-in-Ok-clause-event g c = λ d v. (
       }) (g.met.D.Pm.agree c.set_flag.new.device) c.note_begin.ensures c.requires.room c.in-Ok.ensures.done c.in-Ok.ensures.settles,
   begin_work g.D.Pm.state c.args.v.now c.args.sharing c.requires.none_begun c.requires.front c.requires.fresh c.requires.item c.requires.loose d v,
   begin_less g.D.Pm.state c.args.v.now c.args.sharing c.requires.none_begun c.requires.front c.requires.fresh c.requires.item c.requires.loose d v
-      (record { device = c.set_flag.new.device; print = c.args.v.now.print; parts = c.note_begin.new.parts }) c.note_begin.ensures,
+      (record { device = c.set_flag.new.device; print = c.args.v.now.print; kept = c.args.v.now.kept; parts = c.note_begin.new.parts }) c.note_begin.ensures,
 )
 
 pub returns-in-Err-clause-agrees : goal.returns-in-Err-clause-agrees
@@ -52,7 +52,7 @@ returns-in-Err-clause-agrees g c =
     is_stopped (begin_breaks g.D.Pm.state c.args.v.now c.args.sharing c.requires.none_begun c.requires.front c.requires.fresh c.requires.item
     c.requires.loose
     found.0 found.1 g.F.Fingerprint.print
-    (record { device = c.set_flag.new.device; print = c.args.v.now.print; parts = c.stop.new.parts })
+    (record { device = c.set_flag.new.device; print = c.args.v.now.print; kept = c.args.v.now.kept; parts = c.stop.new.parts })
     (record {
       any_moment = c.set_flag.ensures.committed;
       only = c.set_flag.ensures.only;
@@ -66,7 +66,7 @@ pub returns-in-Err-clause-event : goal.returns-in-Err-clause-event
 returns-in-Err-clause-event g c = λ d v. (
   begin_breaks g.D.Pm.state c.args.v.now c.args.sharing c.requires.none_begun c.requires.front c.requires.fresh c.requires.item c.requires.loose
       d v g.F.Fingerprint.print
-      (record { device = c.set_flag.new.device; print = c.args.v.now.print; parts = c.stop.new.parts })
+      (record { device = c.set_flag.new.device; print = c.args.v.now.print; kept = c.args.v.now.kept; parts = c.stop.new.parts })
       (record {
         any_moment = c.set_flag.ensures.committed;
         only = c.set_flag.ensures.only;

@@ -26,7 +26,7 @@ pub returns-in-Ok-clause-agrees : goal.returns-in-Ok-clause-agrees
 returns-in-Ok-clause-agrees g c =
     let found = running_disk g.D.Pm.state c.args.v.now c.requires.running c.requires.agrees in
     let moves = end_moves g.D.Pm.state c.args.v.now c.args.sharing c.requires.begun c.requires.look c.requires.all_done g.F.Fingerprint.print
-    (record { device = c.set_flag.new.device; print = c.args.v.now.print; parts = c.note_end.new.parts })
+    (record { device = c.set_flag.new.device; print = c.args.v.now.print; kept = c.args.v.now.kept; parts = c.note_end.new.parts })
     (record {
       any_moment = c.set_flag.ensures.committed;
       only = c.set_flag.ensures.only;
@@ -39,7 +39,7 @@ returns-in-Ok-clause-agrees g c =
 pub returns-in-Ok-clause-event : goal.returns-in-Ok-clause-event
 returns-in-Ok-clause-event g c = λ d v. (
   end_moves g.D.Pm.state c.args.v.now c.args.sharing c.requires.begun c.requires.look c.requires.all_done g.F.Fingerprint.print
-      (record { device = c.set_flag.new.device; print = c.args.v.now.print; parts = c.note_end.new.parts })
+      (record { device = c.set_flag.new.device; print = c.args.v.now.print; kept = c.args.v.now.kept; parts = c.note_end.new.parts })
       (record {
         any_moment = c.set_flag.ensures.committed;
         only = c.set_flag.ensures.only;
@@ -56,7 +56,7 @@ pub returns-in-Err-clause-agrees : goal.returns-in-Err-clause-agrees
 returns-in-Err-clause-agrees g c =
     let found = running_disk g.D.Pm.state c.args.v.now c.requires.running c.requires.agrees in
     is_stopped (end_breaks g.D.Pm.state c.args.v.now c.args.sharing c.requires.begun c.requires.look c.requires.all_done g.F.Fingerprint.print
-    (record { device = c.set_flag.new.device; print = c.args.v.now.print; parts = c.stop.new.parts })
+    (record { device = c.set_flag.new.device; print = c.args.v.now.print; kept = c.args.v.now.kept; parts = c.stop.new.parts })
     (record {
       any_moment = c.set_flag.ensures.committed;
       only = c.set_flag.ensures.only;
@@ -69,7 +69,7 @@ returns-in-Err-clause-agrees g c =
 pub returns-in-Err-clause-event : goal.returns-in-Err-clause-event
 returns-in-Err-clause-event g c = λ d v. (
   end_breaks g.D.Pm.state c.args.v.now c.args.sharing c.requires.begun c.requires.look c.requires.all_done g.F.Fingerprint.print
-      (record { device = c.set_flag.new.device; print = c.args.v.now.print; parts = c.stop.new.parts })
+      (record { device = c.set_flag.new.device; print = c.args.v.now.print; kept = c.args.v.now.kept; parts = c.stop.new.parts })
       (record {
         any_moment = c.set_flag.ensures.committed;
         only = c.set_flag.ensures.only;

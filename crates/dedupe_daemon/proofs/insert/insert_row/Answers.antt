@@ -66,7 +66,7 @@ returns-in-Ok-clause-agrees g c =
     let found = running_disk S c.args.v.now c.requires.running c.requires.agrees in
     insert_agrees S g.F.Fingerprint.print c.args.v.now c.args.print.now c.args.page (twenty_bytes c.args.print.now c.told-print c.fits-print)
     (λ d v. to_insert c.args.v.now.parts c.args.sharing c.requires.looking g.F.Fingerprint.print d c.args.page c.args.print.now (c.requires.place d
-    v)) (record { device = c.insert.new.device; print = c.args.v.now.print; parts = c.note_looked.new.parts }) c.insert.new.fact
+    v)) (record { device = c.insert.new.device; print = c.args.v.now.print; kept = c.args.v.now.kept; parts = c.note_looked.new.parts }) c.insert.new.fact
     c.insert.ensures.only c.insert.ensures.images (g.met.D.Pm.agree c.insert.new.device) c.insert.ensures.faults found.0 found.1 c.in-Ok.slot
     c.in-Ok.ensures.done c.insert.ensures.others c.in-Ok.ensures.settles c.insert.ensures.spare
     (subst (λ (word : ℕ). Looks (Settle c.in-Ok.slot true) c.in-Ok.slot word (LOOK_UNITS + REMAP_UNITS) c.args.v.now.parts c.note_looked.new.parts)
@@ -82,7 +82,7 @@ returns-in-Ok-clause-event g c = λ d v.
       insert_moves S g.F.Fingerprint.print c.args.v.now c.args.print.now c.args.page
           (twenty_bytes c.args.print.now c.told-print c.fits-print) (λ d v. to_insert c.args.v.now.parts c.args.sharing c.requires.looking
           g.F.Fingerprint.print d c.args.page c.args.print.now (c.requires.place d v))
-          (record { device = c.insert.new.device; print = c.args.v.now.print; parts = c.note_looked.new.parts }) c.insert.new.fact
+          (record { device = c.insert.new.device; print = c.args.v.now.print; kept = c.args.v.now.kept; parts = c.note_looked.new.parts }) c.insert.new.fact
           c.insert.ensures.only c.insert.ensures.images (g.met.D.Pm.agree c.insert.new.device) c.insert.ensures.faults d v c.in-Ok.slot
           c.in-Ok.ensures.done c.insert.ensures.others c.in-Ok.ensures.settles c.insert.ensures.spare change c.note_looked.ensures.fact,
       look_work d c.args.v.now.parts (at_look c.args.v.now.parts c.args.sharing c.requires.looking),
@@ -90,7 +90,7 @@ returns-in-Ok-clause-event g c = λ d v.
           (insert_lowers S g.F.Fingerprint.print c.args.v.now c.args.print.now c.args.page
           (twenty_bytes c.args.print.now c.told-print c.fits-print) (λ d v. to_insert c.args.v.now.parts c.args.sharing c.requires.looking
           g.F.Fingerprint.print d c.args.page c.args.print.now (c.requires.place d v))
-          (record { device = c.insert.new.device; print = c.args.v.now.print; parts = c.note_looked.new.parts }) c.insert.new.fact
+          (record { device = c.insert.new.device; print = c.args.v.now.print; kept = c.args.v.now.kept; parts = c.note_looked.new.parts }) c.insert.new.fact
           c.insert.ensures.only c.insert.ensures.images (g.met.D.Pm.agree c.insert.new.device) c.insert.ensures.faults d v c.in-Ok.slot
           c.in-Ok.ensures.done c.insert.ensures.others c.in-Ok.ensures.settles c.insert.ensures.spare change c.note_looked.ensures.fact),
     )
@@ -101,7 +101,7 @@ returns-in-Err-clause-agrees g c =
     let found = running_disk S c.args.v.now c.requires.running c.requires.agrees in
     insert_stops S g.F.Fingerprint.print c.args.v.now c.args.print.now c.args.page (twenty_bytes c.args.print.now c.told-print c.fits-print)
     (λ d v. to_insert c.args.v.now.parts c.args.sharing c.requires.looking g.F.Fingerprint.print d c.args.page c.args.print.now (c.requires.place d
-    v)) (record { device = c.insert.new.device; print = c.args.v.now.print; parts = c.stop.new.parts }) c.insert.new.fact
+    v)) (record { device = c.insert.new.device; print = c.args.v.now.print; kept = c.args.v.now.kept; parts = c.stop.new.parts }) c.insert.new.fact
     c.insert.ensures.only c.insert.ensures.images (g.met.D.Pm.agree c.insert.new.device) c.insert.ensures.faults found.0 found.1
     (stops_since c.args.v.now.parts c.insert.new.fact c.stop.new.parts c.stop.ensures)
 
@@ -111,7 +111,7 @@ returns-in-Err-clause-event g c = λ d v.
       insert_breaks S g.F.Fingerprint.print c.args.v.now c.args.print.now c.args.page
           (twenty_bytes c.args.print.now c.told-print c.fits-print) (λ d v. to_insert c.args.v.now.parts c.args.sharing c.requires.looking
           g.F.Fingerprint.print d c.args.page c.args.print.now (c.requires.place d v))
-          (record { device = c.insert.new.device; print = c.args.v.now.print; parts = c.stop.new.parts }) c.insert.new.fact
+          (record { device = c.insert.new.device; print = c.args.v.now.print; kept = c.args.v.now.kept; parts = c.stop.new.parts }) c.insert.new.fact
           c.insert.ensures.only c.insert.ensures.images (g.met.D.Pm.agree c.insert.new.device) c.insert.ensures.faults d v
           (stops_since c.args.v.now.parts c.insert.new.fact c.stop.new.parts c.stop.ensures)
           (c.insert.ensures.failed (err_is c.insert.result _ c.in-Err.is)),

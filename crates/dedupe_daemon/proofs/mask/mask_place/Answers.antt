@@ -45,7 +45,7 @@ pub returns-in-Ok-clause-agrees : goal.returns-in-Ok-clause-agrees
 returns-in-Ok-clause-agrees g c =
     let found = running_disk g.D.Pm.state c.args.v.now c.requires.running c.requires.agrees in
     let moves = mask_moves g.D.Pm.state c.args.v.now c.args.sharing c.requires.looking found.0 found.1 g.F.Fingerprint.print c.requires.other.0
-    (c.requires.other.1 found.0 found.1) (record { device = c.set_mask.new.device; print = c.args.v.now.print; parts = c.note_pass.new.parts })
+    (c.requires.other.1 found.0 found.1) (record { device = c.set_mask.new.device; print = c.args.v.now.print; kept = c.args.v.now.kept; parts = c.note_pass.new.parts })
     c.with_bit-mask.result (c.with_bit-mask.ensures ∙ mask_is g.D.Pm.state c.args.v.now c.args.sharing c.requires.looking found.0 found.1
     g.F.Fingerprint.print c.requires.other.0
     (c.requires.other.1 found.0 found.1) c.mask_of.result c.mask_of.ensures)
@@ -61,7 +61,7 @@ returns-in-Ok-clause-agrees g c =
 pub returns-in-Ok-clause-event : goal.returns-in-Ok-clause-event
 returns-in-Ok-clause-event g c = λ d v. (
   mask_moves g.D.Pm.state c.args.v.now c.args.sharing c.requires.looking d v g.F.Fingerprint.print c.requires.other.0
-      (c.requires.other.1 d v) (record { device = c.set_mask.new.device; print = c.args.v.now.print; parts = c.note_pass.new.parts })
+      (c.requires.other.1 d v) (record { device = c.set_mask.new.device; print = c.args.v.now.print; kept = c.args.v.now.kept; parts = c.note_pass.new.parts })
       c.with_bit-mask.result (c.with_bit-mask.ensures ∙ mask_is g.D.Pm.state c.args.v.now c.args.sharing c.requires.looking d v g.F.Fingerprint.print
       c.requires.other.0
       (c.requires.other.1 d v) c.mask_of.result c.mask_of.ensures)
@@ -82,7 +82,7 @@ pub returns-in-Err-clause-agrees : goal.returns-in-Err-clause-agrees
 returns-in-Err-clause-agrees g c =
     let found = running_disk g.D.Pm.state c.args.v.now c.requires.running c.requires.agrees in
     is_stopped (mask_breaks g.D.Pm.state c.args.v.now c.args.sharing c.requires.looking found.0 found.1 g.F.Fingerprint.print c.requires.other.0
-    (c.requires.other.1 found.0 found.1) (record { device = c.set_mask.new.device; print = c.args.v.now.print; parts = c.stop.new.parts })
+    (c.requires.other.1 found.0 found.1) (record { device = c.set_mask.new.device; print = c.args.v.now.print; kept = c.args.v.now.kept; parts = c.stop.new.parts })
     c.with_bit-mask.result (c.with_bit-mask.ensures ∙ mask_is g.D.Pm.state c.args.v.now c.args.sharing c.requires.looking found.0 found.1
     g.F.Fingerprint.print c.requires.other.0
     (c.requires.other.1 found.0 found.1) c.mask_of.result c.mask_of.ensures)
@@ -97,7 +97,7 @@ returns-in-Err-clause-agrees g c =
 pub returns-in-Err-clause-event : goal.returns-in-Err-clause-event
 returns-in-Err-clause-event g c = λ d v. (
   mask_breaks g.D.Pm.state c.args.v.now c.args.sharing c.requires.looking d v g.F.Fingerprint.print c.requires.other.0
-      (c.requires.other.1 d v) (record { device = c.set_mask.new.device; print = c.args.v.now.print; parts = c.stop.new.parts })
+      (c.requires.other.1 d v) (record { device = c.set_mask.new.device; print = c.args.v.now.print; kept = c.args.v.now.kept; parts = c.stop.new.parts })
       c.with_bit-mask.result (c.with_bit-mask.ensures ∙ mask_is g.D.Pm.state c.args.v.now c.args.sharing c.requires.looking d v g.F.Fingerprint.print
       c.requires.other.0
       (c.requires.other.1 d v) c.mask_of.result c.mask_of.ensures)

@@ -25,6 +25,7 @@ returns-clause-agrees g c =
     let moves = pass_moves g.D.Pm.state c.args.v.now (record {
       device = c.args.v.now.device;
       print = c.args.v.now.print;
+      kept = c.args.v.now.kept;
       parts =
           c.note_pass.new.parts;
     })
@@ -34,7 +35,7 @@ returns-clause-agrees g c =
 
 pub returns-clause-event : goal.returns-clause-event
 returns-clause-event g c = λ d v. (
-  pass_moves g.D.Pm.state c.args.v.now (record { device = c.args.v.now.device; print = c.args.v.now.print; parts = c.note_pass.new.parts })
+  pass_moves g.D.Pm.state c.args.v.now (record { device = c.args.v.now.device; print = c.args.v.now.print; kept = c.args.v.now.kept; parts = c.note_pass.new.parts })
       c.args.sharing c.requires.looking c.requires.passed c.note_pass.ensures (g.met.D.Pm.agree c.args.v.now.device) g.F.Fingerprint.print d v,
   begun_work d c.args.v.now.parts c.args.sharing c.requires.looking.begun,
   subst (DaemonLowers c.args.v.now.parts c.note_pass.new.parts)

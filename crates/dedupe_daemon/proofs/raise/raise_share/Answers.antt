@@ -60,7 +60,7 @@ returns-in-Ok-clause-agrees g c =
     moved_agrees S g.F.Fingerprint.print 15 c.args.v.now _ found.0
     (raise_moves S g.F.Fingerprint.print c.args.v.now c.args.slot (λ d v. to_share c.args.v.now.parts c.args.sharing c.requires.looking d
     c.requires.place.0 c.args.slot (c.requires.place.1 d v))
-    (record { device = c.raise_at.new.device; print = c.args.v.now.print; parts = c.note_looked.new.parts }) c.raise_at.ensures.only
+    (record { device = c.raise_at.new.device; print = c.args.v.now.print; kept = c.args.v.now.kept; parts = c.note_looked.new.parts }) c.raise_at.ensures.only
     (g.met.D.Pm.agree c.raise_at.new.device) c.raise_at.ensures.images c.raise_at.ensures.faults found.0 found.1 c.in-Ok.word
     c.note_looked.ensures.looks c.note_looked.ensures.fact c.in-Ok.ensures.settled c.in-Ok.ensures.settles c.raise_at.ensures.others
     c.in-Ok.ensures.word c.raise_at.ensures.spare)
@@ -70,7 +70,7 @@ returns-in-Ok-clause-event g c = λ d v.
     let S = g.D.Pm.state in (
       raise_moves S g.F.Fingerprint.print c.args.v.now c.args.slot (λ d v. to_share c.args.v.now.parts c.args.sharing c.requires.looking d
           c.requires.place.0 c.args.slot (c.requires.place.1 d v))
-          (record { device = c.raise_at.new.device; print = c.args.v.now.print; parts = c.note_looked.new.parts }) c.raise_at.ensures.only
+          (record { device = c.raise_at.new.device; print = c.args.v.now.print; kept = c.args.v.now.kept; parts = c.note_looked.new.parts }) c.raise_at.ensures.only
           (g.met.D.Pm.agree c.raise_at.new.device) c.raise_at.ensures.images c.raise_at.ensures.faults d v c.in-Ok.word
           c.note_looked.ensures.looks c.note_looked.ensures.fact c.in-Ok.ensures.settled c.in-Ok.ensures.settles c.raise_at.ensures.others
           c.in-Ok.ensures.word c.raise_at.ensures.spare,
@@ -78,7 +78,7 @@ returns-in-Ok-clause-event g c = λ d v.
       subst (λ (n : ℕ). DaemonLowers c.args.v.now.parts c.note_looked.new.parts n) (sym c.events_left.ensures)
           (raise_lowers S g.F.Fingerprint.print c.args.v.now c.args.slot (λ d v. to_share c.args.v.now.parts c.args.sharing c.requires.looking d
           c.requires.place.0 c.args.slot (c.requires.place.1 d v))
-          (record { device = c.raise_at.new.device; print = c.args.v.now.print; parts = c.note_looked.new.parts }) c.raise_at.ensures.only
+          (record { device = c.raise_at.new.device; print = c.args.v.now.print; kept = c.args.v.now.kept; parts = c.note_looked.new.parts }) c.raise_at.ensures.only
           (g.met.D.Pm.agree c.raise_at.new.device) c.raise_at.ensures.images c.raise_at.ensures.faults d v c.in-Ok.word
           c.note_looked.ensures.looks c.note_looked.ensures.fact c.in-Ok.ensures.settled c.in-Ok.ensures.settles c.raise_at.ensures.others
           c.in-Ok.ensures.word c.raise_at.ensures.spare),
@@ -90,7 +90,7 @@ returns-in-Err-clause-agrees g c =
     let found = running_disk S c.args.v.now c.requires.running c.requires.agrees in
     raise_stops S g.F.Fingerprint.print c.args.v.now c.args.slot (λ d v. to_share c.args.v.now.parts c.args.sharing c.requires.looking d
     c.requires.place.0 c.args.slot (c.requires.place.1 d v))
-    (record { device = c.raise_at.new.device; print = c.args.v.now.print; parts = c.stop.new.parts }) c.raise_at.ensures.only
+    (record { device = c.raise_at.new.device; print = c.args.v.now.print; kept = c.args.v.now.kept; parts = c.stop.new.parts }) c.raise_at.ensures.only
     (g.met.D.Pm.agree c.raise_at.new.device) c.raise_at.ensures.images c.raise_at.ensures.faults found.0 found.1 c.stop.ensures
 
 pub returns-in-Err-clause-event : goal.returns-in-Err-clause-event
@@ -98,7 +98,7 @@ returns-in-Err-clause-event g c = λ d v.
     let S = g.D.Pm.state in (
       raise_fails S g.F.Fingerprint.print c.args.v.now c.args.slot (λ d v. to_share c.args.v.now.parts c.args.sharing c.requires.looking d
           c.requires.place.0 c.args.slot (c.requires.place.1 d v))
-          (record { device = c.raise_at.new.device; print = c.args.v.now.print; parts = c.stop.new.parts }) c.raise_at.ensures.only
+          (record { device = c.raise_at.new.device; print = c.args.v.now.print; kept = c.args.v.now.kept; parts = c.stop.new.parts }) c.raise_at.ensures.only
           (g.met.D.Pm.agree c.raise_at.new.device) c.raise_at.ensures.images c.raise_at.ensures.faults d v c.stop.ensures
           (c.raise_at.ensures.failed (err_is c.raise_at.result _ c.in-Err.is)),
       look_work d c.args.v.now.parts (at_look c.args.v.now.parts c.args.sharing c.requires.looking),

@@ -105,7 +105,7 @@ returns-in-Ok-clause-agrees g c =
     let found = running_disk g.D.Pm.state c.args.v.now c.requires.running c.requires.agrees in
     remap_agrees g.D.Pm.state c.args.v.now c.args.sharing c.requires.begun c.args.slot c.requires.step c.place_to_remap-n.result
     c.place_to_remap-n.ensures c.take_for-fresh.new.free c.take_for-fresh.result c.take_for-fresh.ensures.takes g.F.Fingerprint.print
-    (record { device = c.append_with.new.device; print = c.args.v.now.print; parts = c.note_remapped.new.parts }) c.append_with.ensures.images
+    (record { device = c.append_with.new.device; print = c.args.v.now.print; kept = c.args.v.now.kept; parts = c.note_remapped.new.parts }) c.append_with.ensures.images
     c.append_with.ensures.only
     c.append_with.ensures.faults found.0 found.1 c.in-Ok.ensures.done c.in-Ok.ensures.settles c.append_with.ensures.spare c.item_slot.result
     c.item_slot.ensures c.note_remapped.ensures
@@ -114,7 +114,7 @@ pub returns-in-Ok-clause-event : goal.returns-in-Ok-clause-event
 returns-in-Ok-clause-event g c = λ d v. (
   remap_moves g.D.Pm.state c.args.v.now c.args.sharing c.requires.begun c.args.slot c.requires.step c.place_to_remap-n.result
       c.place_to_remap-n.ensures c.take_for-fresh.new.free c.take_for-fresh.result c.take_for-fresh.ensures.takes g.F.Fingerprint.print
-      (record { device = c.append_with.new.device; print = c.args.v.now.print; parts = c.note_remapped.new.parts }) c.append_with.ensures.images
+      (record { device = c.append_with.new.device; print = c.args.v.now.print; kept = c.args.v.now.kept; parts = c.note_remapped.new.parts }) c.append_with.ensures.images
       c.append_with.ensures.only
       c.append_with.ensures.faults d v c.in-Ok.ensures.done c.in-Ok.ensures.settles c.append_with.ensures.spare c.item_slot.result
       c.item_slot.ensures c.note_remapped.ensures,
@@ -123,7 +123,7 @@ returns-in-Ok-clause-event g c = λ d v. (
   subst (λ (n : ℕ). DaemonLowers c.args.v.now.parts c.note_remapped.new.parts n) (sym c.events_left.ensures)
       (remap_lowers g.D.Pm.state c.args.v.now c.args.sharing c.requires.begun c.args.slot c.requires.step c.place_to_remap-n.result
       c.place_to_remap-n.ensures c.take_for-fresh.new.free c.take_for-fresh.result c.take_for-fresh.ensures.takes g.F.Fingerprint.print
-      (record { device = c.append_with.new.device; print = c.args.v.now.print; parts = c.note_remapped.new.parts }) c.append_with.ensures.images
+      (record { device = c.append_with.new.device; print = c.args.v.now.print; kept = c.args.v.now.kept; parts = c.note_remapped.new.parts }) c.append_with.ensures.images
       c.append_with.ensures.only
       c.append_with.ensures.faults d v c.in-Ok.ensures.done c.in-Ok.ensures.settles c.append_with.ensures.spare c.item_slot.result
       c.item_slot.ensures c.note_remapped.ensures),
@@ -134,7 +134,7 @@ returns-in-Err-clause-agrees g c =
     let found = running_disk g.D.Pm.state c.args.v.now c.requires.running c.requires.agrees in
     remap_stops g.D.Pm.state c.args.v.now c.args.sharing c.requires.begun c.args.slot c.requires.step c.place_to_remap-n.result
     c.place_to_remap-n.ensures c.take_for-fresh.new.free c.take_for-fresh.result c.take_for-fresh.ensures.takes g.F.Fingerprint.print
-    (record { device = c.append_with.new.device; print = c.args.v.now.print; parts = c.stop.new.parts }) c.append_with.ensures.images
+    (record { device = c.append_with.new.device; print = c.args.v.now.print; kept = c.args.v.now.kept; parts = c.stop.new.parts }) c.append_with.ensures.images
     c.append_with.ensures.only
     c.append_with.ensures.faults found.0 found.1 (stops_freed c.args.v.now.parts c.take_for-fresh.new.free c.stop.new.parts c.stop.ensures)
 
@@ -142,7 +142,7 @@ pub returns-in-Err-clause-event : goal.returns-in-Err-clause-event
 returns-in-Err-clause-event g c = λ d v. (
   remap_breaks g.D.Pm.state c.args.v.now c.args.sharing c.requires.begun c.args.slot c.requires.step c.place_to_remap-n.result
       c.place_to_remap-n.ensures c.take_for-fresh.new.free c.take_for-fresh.result c.take_for-fresh.ensures.takes g.F.Fingerprint.print
-      (record { device = c.append_with.new.device; print = c.args.v.now.print; parts = c.stop.new.parts }) c.append_with.ensures.images
+      (record { device = c.append_with.new.device; print = c.args.v.now.print; kept = c.args.v.now.kept; parts = c.stop.new.parts }) c.append_with.ensures.images
       c.append_with.ensures.only
       c.append_with.ensures.faults d v (stops_freed c.args.v.now.parts c.take_for-fresh.new.free c.stop.new.parts c.stop.ensures)
       (c.append_with.ensures.failed (err_is c.append_with.result _ c.in-Err.is)),

@@ -53,3 +53,6 @@ returns-clause-fault g c =
     let S = g.D.Pm.state in
     IfErr-weaker c.reopen.result _ _ (λ back is. fault_then (S c.args.device) (S c.in-Ok.v.device) (S back.1) c.in-Ok.ensures.faults back.0 is)
     c.reopen.ensures.fault
+
+pub returns-then-v-eq0-clause-quiet : goal.returns-then-v-eq0-clause-quiet
+returns-then-v-eq0-clause-quiet g c = λ d stood clean none. c.in-Ok.ensures.quiet d stood clean

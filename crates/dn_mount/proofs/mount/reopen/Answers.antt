@@ -26,3 +26,6 @@ returns-in-Ok-clause-fault g c =
     IfErr-weaker c.open.result _ _ (λ back is.
     reopened_fault S g.F.Fingerprint.print c.args.v c.finish_dying.new.v c.requires.agrees c.requires.idle c.in-Ok.ensures.done
     c.in-Ok.ensures.idle c.in-Ok.ensures.none_waits c.finish_dying.ensures.faults (S back.1) back.0 is) c.open.ensures.fault
+
+pub returns-in-Err-clause-images : goal.returns-in-Err-clause-images
+returns-in-Err-clause-images g c = λ d volume. rw c.into_device.ensures (c.in-Err.ensures.images d volume)
