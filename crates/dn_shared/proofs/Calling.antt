@@ -225,7 +225,7 @@ module _ (Over : Mark → Type 0) (a m b : Account) (keeps : Keeps a m) (outcome
 
 -- passes that went through turns
 pub again_on : {H : Type 0} (b : Board H) (p q r : Pass H) → IsAgain b p q → IsAgain b q r → IsAgain b p r
-again_on b p q r one two = (two.0, two.1, two.2 ∙ one.2, two.3 ∙ one.3)
+again_on b p q r one two = (two.0, two.1, two.2 ∙ one.2, two.3 ∙ one.3, two.4 ∙ one.4)
 
 pub client_on : (clients : ℕ) (a m : Account) → m.number ≡ a.number → (1 ≤ a.number) × (a.number ≤ clients)
     → (1 ≤ m.number) × (m.number ≤ clients)

@@ -1,7 +1,7 @@
 -- What one event does to a volume, as those who share it see it.
 use Rattle.std.proofs.Common.{◌≡◌, ◌⊎◌, inl, inr, ⊎_elim, ℕ, ◌+◌, ◌≤◌, Bool, true, false, List, [], ◌∷◌, ◌++◌, refl, sym, ◌∙◌, arith}
 use Rattle.std.proofs.Common.{append-nil, ne_eqb}
-use Rattle.std.specs.Prelude.{Option, None}
+use Rattle.std.specs.Prelude.{Option, Some, None}
 use Rattle.pm_device.specs.State.{State, Rose}
 use Rattle.dn_model.specs.Disk.{Disk}
 use Rattle.dn_model.specs.Own.{Print}
@@ -14,6 +14,7 @@ use Rattle.dn_volume.specs.declared.outcome.Outcome.TheVariants as told
 use Rattle.dn_volume.specs.declared.volume.Parts.{Parts}
 use Rattle.dn_volume.specs.declared.volume.Volume.{Volume}
 use Rattle.dn_volume.specs.Parties.{flight_of}
+use Rattle.dn_volume.proofs.Replaced.{others_same}
 use Rattle.dn_volume.specs.Flights.{left_of}
 use Rattle.dn_volume.specs.Agrees.{IsVolume}
 use Rattle.dn_volume.specs.Events.{MovesOn, Answers, Breaks, Advances, Counts, word_at, word_after, answered_by}
@@ -112,7 +113,8 @@ module _ {D F : Type 0} (state : D → State) (print : Print) (v v' : Volume D F
     more = [];
     history = b.history ∙ sym (append-nil v.parts.history.items);
     own = λ k ne. refl;
-    hands = λ k ne. others_hands who v.parts v'.parts b.opens.same.others k ne;
+    hands = λ k ne. others_hands who v.parts v'.parts
+        (others_same who b.opens.client None (Some b.flight) v.parts v'.parts b.opens.replaces) k ne;
     changes = [];
     trace = b.opens.same.work.trace ∙ sym (append-nil v.parts.trace.items);
     made = made_one v.parts v'.parts b.counts;

@@ -19,7 +19,7 @@ use Rattle.count_board.specs.declared.told.Hand.TheVariants.{Fly}
 use Rattle.count_board.specs.Told.{GoesOn, IsPast}
 use Rattle.dn_shared.specs.declared.site.Site.{Site}
 use Rattle.dn_shared.specs.Left.{has_left}
-use Rattle.dn_shared.specs.Sites.{IsShared, told_of, mark_of, hand_in, hand_of, base_at}
+use Rattle.dn_shared.specs.Sites.{IsShared, told_of, mark_of, hand_in, hand_of}
 use Rattle.dn_shared.proofs.Hands.{of_flies, to_flies}
 use Rattle.dn_shared.proofs.Going.{Goes}
 
@@ -83,7 +83,7 @@ module _ {D F : Type 0} (state : D → State) (print : Print) (base x y : Site D
     geometry = goes.geometry ∙ shared.geometry;
     long = ap length opening ∙ (shared.long ∙ ap slots (sym goes.geometry));
     words = words_on;
-    sound = λ e now own. sound (base_at e (state base.volume.device)) (shared.sound e now own);
+    keeps = λ from was. sound from (shared.keeps from was);
   }
 
   hands_on : (k : ℕ) → (mine k → ⊥)

@@ -108,7 +108,7 @@ module _ {D F : Type 0} (state : D → State) (print : Print) (base x y : Site D
     geometry = shared.geometry;
     long = shared.long;
     words = shared.words;
-    sound = shared.sound;
+    keeps = shared.keeps;
   }
 
   holds : IsShared state print base y

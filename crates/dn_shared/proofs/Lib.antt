@@ -13,3 +13,4 @@ pub mod Opened
 pub mod Closed
 pub mod Leaving
 pub mod Calling
+pub mod HandedIn

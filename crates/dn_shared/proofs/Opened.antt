@@ -14,7 +14,7 @@ use Rattle.count_board.specs.Passes.{Opens}
 use Rattle.dn_shared.specs.declared.site.Site.{Site}
 use Rattle.dn_shared.specs.Left.{has_left, or_false}
 use Rattle.dn_shared.specs.Sites.{IsShared, told_of, hand_of}
-use Rattle.dn_shared.specs.Ends.{AreCountWords, SoundSince, NoneFlies}
+use Rattle.dn_shared.specs.Ends.{AreCountWords, NoneFlies}
 use Rattle.dn_shared.proofs.Hands.{to_flies}
 
 -- nobody has left
@@ -45,7 +45,7 @@ clash b low high = absurd (no b low high)
 module _ {D F : Type 0} (state : D → State) (print : Print) (x : Site D F) (clients : ℕ) (few : clients ≤ 14)
     (gone : x.gone.items ≡ replicate clients false) (agrees : Agrees state x.volume) (running : x.volume.parts.stopped ≡ false)
     (history : x.volume.parts.history.items ≡ []) (trace : x.volume.parts.trace.items ≡ []) (landed : NoneFlies x.volume.parts)
-    (sound : SoundSince state print x.volume x.volume) (words : AreCountWords state x.volume x.opening.items) where
+    (words : AreCountWords state x.volume x.opening.items) where
   holds : IsShared state print x x
   holds = record {
     agrees = agrees;
@@ -60,7 +60,7 @@ module _ {D F : Type 0} (state : D → State) (print : Print) (x : Site D F) (cl
     long = words.long;
     words = λ e slot now lt. sym (words.each e slot now (subst (λ (n : ℕ). slot < n) words.long lt))
         ∙ ap (λ t. word_after t slot (slice_index x.opening.items slot)) (sym trace);
-    sound = sound;
+    keeps = λ from was. was;
   }
 
   pub opens : Opens (λ (y : Site D F). told_of y) (λ (base y : Site D F). IsShared state print base y) x

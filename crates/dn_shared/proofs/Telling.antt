@@ -14,6 +14,7 @@ use Rattle.dn_volume.specs.declared.outcome.Outcome.TheVariants as told
 use Rattle.dn_volume.specs.declared.volume.Parts.{Parts}
 use Rattle.dn_volume.specs.declared.volume.Volume.{Volume}
 use Rattle.dn_volume.specs.Parties.{Flies, flight_of, flight_at}
+use Rattle.dn_volume.proofs.Replaced.{flies_new}
 use Rattle.dn_volume.specs.Flights.{left_of}
 use Rattle.dn_volume.specs.Agrees.{Agrees, agrees_with, is_stopped}
 use Rattle.dn_volume.specs.Events.{MovesOn, Breaks, Advances}
@@ -143,7 +144,9 @@ module _ {D F : Type 0} (state : D → State) (print : Print) (base x y : Site D
           by : (outcome : Outcome) → Opens state print n op v w d outcome → BeginTells op a b outcome
           by (told.Running left) is = (
             calls_then ∙ (ap (entries_by n) is.history ∙ calls),
-            is_now ∙ (ap hand_in (of_flies w.parts n is.flight is.opens.flies) ∙ ap (λ (o : Op). Some (Fly o)) is.opens.op_is),
+            is_now ∙ (ap hand_in (of_flies w.parts n is.flight
+                (flies_new n is.opens.client None (Some is.flight) v.parts w.parts is.opens.replaces is.flight refl))
+                ∙ ap (λ (o : Op). Some (Fly o)) is.opens.op_is),
             idle,
           )
           by (told.Done reply) is = (
@@ -168,7 +171,7 @@ module _ {D F : Type 0} (state : D → State) (print : Print) (base x y : Site D
         was ∙ ap hand_in (of_flies v.parts n f flies),
         (
           answered_by_one f.op reply done.entry done.history done.who_is done.op_is done.reply_is,
-          is_now ∙ ap hand_in (of_idle w.parts n some done.landed),
+          is_now ∙ ap hand_in (of_idle w.parts n some done.replaces.now),
         ),
       )
       advances_tells f left (told.Busy holder) flies is = absurd is

@@ -3,7 +3,8 @@ use Rattle.std.specs.Prelude.{◌≡◌, ◌⊎◌, ℕ, ◌<◌, true, false, B
 use Rattle.pm_device.specs.State.{State, Rose}
 use Rattle.pm_layout.specs.Geometry.{slots}
 use Rattle.dn_model.specs.Disk.{Disk}
-use Rattle.dn_model.specs.Own.{Print, IsOwn}
+use Rattle.dn_model.specs.Own.{Print}
+use Rattle.dn_model.specs.Course.{Base}
 use Rattle.dn_volume.specs.declared.flight.Flight.{Flight}
 use Rattle.dn_volume.specs.declared.volume.Parts.{Parts}
 use Rattle.dn_volume.specs.declared.volume.Volume.{Volume}
@@ -21,7 +22,7 @@ use Rattle.count_board.specs.Reads.{ReadsFit, AllPast}
 use Rattle.count_board.specs.Boards.{base_of}
 use Rattle.count_board.specs.Passes.{account}
 use Rattle.dn_shared.specs.declared.site.Site.{Site}
-use Rattle.dn_shared.specs.Sites.{base_at, hand_in, mark_of}
+use Rattle.dn_shared.specs.Sites.{hand_in, mark_of}
 
 -- nothing is in flight
 abbrev pub NoneFlies : Parts → Type 0
@@ -40,10 +41,9 @@ module _ {D F : Type 0} where
     pub each : (d : Disk) (slot : ℕ) → IsVolume d v.parts (state v.device)
         → slot < slots v.parts.geometry → slice_index words slot ≡ word_at d slot
 
-  -- where the words are this program's, the volume keeps to its history since them
-  abbrev pub SoundSince : (D → State) → Print → Volume D F → Volume D F → Type 0
-  SoundSince state print u v = (d : Disk) → IsVolume d u.parts (state u.device) → IsOwn print d
-      → Sound state print (base_at d (state u.device)) v
+  -- where the first volume kept to its history from some words, the second keeps to its own
+  abbrev pub KeepsSound : (D → State) → Print → Volume D F → Volume D F → Type 0
+  KeepsSound state print u v = (from : Base) → Sound state print from u → Sound state print from v
 
   -- a board that begins with this volume, of which no client has left
   pub record IsOpened (state : D → State) (v : Volume D F) (clients : ℕ) (b : Board (Site D F))

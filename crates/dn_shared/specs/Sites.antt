@@ -1,11 +1,10 @@
 -- What is told of a volume that threads share, and what holds of it whenever nobody has the turn.
 use Rattle.std.specs.Prelude.{◌≡◌, ℕ, ◌<◌, ◌≤◌, Bool, true, false, ◌&&◌, ◌||◌, ◌==◌, is_none, List, [], ◌∷◌, length, slice_index, Option, Some, None}
 use Rattle.std.specs.List.{list_all}
-use Rattle.pm_device.specs.Past.{moment}
 use Rattle.pm_device.specs.State.{State, Rose}
 use Rattle.pm_layout.specs.Geometry.{slots}
 use Rattle.dn_model.specs.Disk.{Disk}
-use Rattle.dn_model.specs.Own.{Print, IsOwn}
+use Rattle.dn_model.specs.Own.{Print}
 use Rattle.dn_model.specs.Course.{Base}
 use Rattle.dn_volume.specs.declared.flight.Flight.{Flight}
 use Rattle.dn_volume.specs.declared.volume.Parts.{Parts}
@@ -70,10 +69,6 @@ told_as b gone = record {
 abbrev pub told_of : {D F : Type 0} → Site D F → Told
 told_of x = told_as x.volume.parts x.gone.items
 
--- the base of a volume's words
-abbrev pub base_at : Disk → State → Base
-base_at d s = record { disk = d; start = moment s.past; faults = s.faults }
-
 -- What holds of a volume that began in a site: these clients have left since, and these were the
 -- count words of its opening.
 pub record IsKept {D F : Type 0} (state : D → State) (print : Print) (base : Site D F)
@@ -93,9 +88,8 @@ pub record IsKept {D F : Type 0} (state : D → State) (print : Print) (base : S
   pub long : length opening ≡ slots v.parts.geometry
   pub words : (e : Disk) (slot : ℕ) → IsVolume e v.parts (state v.device) → slot < length opening
       → word_at e slot ≡ word_after v.parts.trace.items slot (slice_index opening slot)
-  -- it keeps to the history that it tells, from the opening words, where they are this program's
-  pub sound : (d : Disk) → IsVolume d base.volume.parts (state base.volume.device) → IsOwn print d
-      → Sound state print (base_at d (state base.volume.device)) v
+  -- where the volume of the opening kept to its history from some words, it does still
+  pub keeps : (from : Base) → Sound state print from base.volume → Sound state print from v
 
 -- what holds of a site x that began as base
 abbrev pub IsShared : {D F : Type 0} → (D → State) → Print → (base x : Site D F) → Type 0

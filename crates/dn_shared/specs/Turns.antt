@@ -11,6 +11,7 @@ use Rattle.count_board.specs.declared.told.Mark.{Mark}
 use Rattle.count_board.specs.declared.view.Account.{Account}
 use Rattle.count_board.specs.declared.board.Board.{Board}
 use Rattle.count_board.specs.declared.pass.Pass.{Pass}
+use Rattle.count_board.specs.Reads.{counts_of}
 use Rattle.count_board.specs.Boards.{IsPassOf}
 use Rattle.count_board.specs.Passes.{known, account, IsAway}
 use Rattle.dn_shared.specs.Marks.{SaysStopped, SaysLast}
@@ -30,10 +31,11 @@ MayMake clients a (Advance who) = IsClient clients a who
 MayMake clients a Daemon = Unit {0}
 MayMake clients a Reclaim = Unit {0}
 
--- the pass is away again, with the number and the lead that it had
+-- the pass is away again, with the number and the lead that it had, and no count was read since
 abbrev pub IsAgain : {H : Type 0} → Board H → Pass H → Pass H → Type 0
 IsAgain b p q = IsPassOf b q × IsAway q × ((known q).lead ≡ (known p).lead)
     × ((account q).number ≡ (account p).number)
+    × (counts_of (account q).seen ≡ counts_of (account p).seen)
 
 -- nothing was answered, and the same is in hand
 abbrev pub Keeps : Account → Account → Type 0

@@ -1,6 +1,7 @@
 //! A volume that threads share: one event a turn, and counts that are read without a turn.
 #![tactic(auto)]
 
+pub mod ahead;
 pub mod call;
 pub mod calls;
 pub mod gate;

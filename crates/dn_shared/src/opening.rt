@@ -5,7 +5,7 @@ ghost use Rattle.dn_model.specs.Disk.{Disk};
 ghost use Rattle.dn_volume.specs.Agrees.{Agrees, IsVolume};
 ghost use Rattle.dn_volume.specs.Events.{word_at};
 ghost use Rattle.count_board.specs.Boards.{base_of, AreItsPasses, AreNewPasses};
-ghost use Rattle.dn_shared.specs.Ends.{AreCountWords, IsOpened, SoundSince, NoneFlies};
+ghost use Rattle.dn_shared.specs.Ends.{AreCountWords, IsOpened, KeepsSound, NoneFlies};
 ghost use Rattle.dn_shared.specs.Ends.{HasCalls, HasNoOthers, HasInHand, HasRead, HasSeenPast};
 ghost use Rattle.dn_shared.specs.Ends.{OfEach, CountsAsTraced, StoppedSince};
 
@@ -31,8 +31,11 @@ fn word_of_row<D: Pm, F: Fingerprint>(v: &Volume<D, F>, slot: u64) -> u64
     }
 }
 
-// The count word of each slot.
-fn words_of_rows<D: Pm, F: Fingerprint>(
+/// The count word of each slot, 0 without a row.
+///
+/// # Errors
+/// `AllocError` where memory is wanting.
+pub fn words_of_rows<D: Pm, F: Fingerprint>(
     alloc: Global,
     v: &Volume<D, F>,
 ) -> Result<Vec<u64>, AllocError>
@@ -97,7 +100,6 @@ impl<D: Pm, F: Fingerprint> Shared<D, F> {
         requires history { volume.parts.history.items ≡ [] }
         requires trace { volume.parts.trace.items ≡ [] }
         requires landed { NoneFlies volume.parts }
-        requires sound { SoundSince D.state F.print volume volume }
         ensures board { IfOk result (λ r. IsOpened D.state volume clients r.0.board) }
         ensures passes { IfOk result (λ r. AreNewPasses r.0.board (clients + 2) r.1.items) }
         ensures err { IfErr result (λ e. e.1 ≡ volume) }
@@ -123,12 +125,14 @@ impl<D: Pm, F: Fingerprint> Shared<D, F> {
         }
     }
 
-    /// The volume, once all passes have come back, in any order. It keeps to the history that it
-    /// tells, since the volume that was opened. It takes no memory.
+    /// The volume, once all passes have come back, in any order. Where the volume that was opened
+    /// kept to its history, this one keeps to its own. It takes no memory.
     pub fn close(self, passes: Vec<Pass<Site<D, F>>>) -> Volume<D, F>
         requires { AreItsPasses self.board passes.items }
         ensures agrees { Agrees D.state result }
-        ensures sound { SoundSince D.state F.print (base_of self.board).volume result }
+        ensures keeps { KeepsSound D.state F.print (base_of self.board).volume result }
+        ensures faults { (D.state (base_of self.board).volume.device).faults
+            ≤ (D.state result.device).faults }
         ensures stopped { StoppedSince D.state (base_of self.board).volume result }
         ensures calls { OfEach (HasCalls result) passes.items }
         ensures others { HasNoOthers result (length passes.items) }

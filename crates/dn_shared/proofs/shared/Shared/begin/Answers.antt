@@ -5,7 +5,7 @@ use Rattle.dn_shared.proofs.shared.Shared.begin.Goals as goal
 
 pub loop-init : goal.loop-init
 loop-init g c = record {
-  again = (c.requires.own, c.requires.away, refl, refl);
+  again = (c.requires.own, c.requires.away, refl, refl, refl);
   keeps = (refl, refl);
   may = c.requires.may;
 }

@@ -4,8 +4,11 @@ use Rattle.dn_shared.proofs.shared.Shared.close.Goals as goal
 pub returns-clause-agrees : goal.returns-clause-agrees
 returns-clause-agrees g c = c.close-site.ensures.holds.agrees
 
-pub returns-clause-sound : goal.returns-clause-sound
-returns-clause-sound g c = c.close-site.ensures.holds.sound
+pub returns-clause-keeps : goal.returns-clause-keeps
+returns-clause-keeps g c = c.close-site.ensures.holds.keeps
+
+pub returns-clause-faults : goal.returns-clause-faults
+returns-clause-faults g c = c.close-site.ensures.holds.faults
 
 pub returns-clause-stopped : goal.returns-clause-stopped
 returns-clause-stopped g c = c.close-site.ensures.holds.rose

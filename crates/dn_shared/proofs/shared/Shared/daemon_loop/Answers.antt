@@ -7,29 +7,29 @@ use Rattle.dn_shared.proofs.shared.Shared.daemon_loop.Goals as goal
 
 pub loop-init : goal.loop-init
 loop-init g c = record {
-  again = (c.requires.own, c.requires.away, refl, refl);
+  again = (c.requires.own, c.requires.away, refl, refl, refl);
   keeps = (refl, refl);
 }
 
-pub turn-made-requires : goal.turn-made-requires
-turn-made-requires g c = record { own = c.loop.invariant.again.0; away = c.loop.invariant.again.1; may = tt }
+pub daemon_turn-made-requires : goal.daemon_turn-made-requires
+daemon_turn-made-requires g c = record { own = c.loop.invariant.again.0; away = c.loop.invariant.again.1 }
 
 pub loop-preserved : goal.loop-preserved
 loop-preserved g c = record {
-  again = again_on c.args.self.now.board c.args.pass.now c.loop.pass c.turn-made.new.pass c.loop.invariant.again c.turn-made.ensures.again;
-  keeps = keeps_on (account c.args.pass.now) (account c.loop.pass) (account c.turn-made.new.pass) c.loop.invariant.keeps
-      (works_keep (account c.loop.pass) (account c.turn-made.new.pass) c.turn-made.result.outcome c.turn-made.ensures.tells.tells);
+  again = again_on c.args.self.now.board c.args.pass.now c.loop.pass c.daemon_turn-made.new.pass c.loop.invariant.again c.daemon_turn-made.ensures.again;
+  keeps = keeps_on (account c.args.pass.now) (account c.loop.pass) (account c.daemon_turn-made.new.pass) c.loop.invariant.keeps
+      (works_keep (account c.loop.pass) (account c.daemon_turn-made.new.pass) c.daemon_turn-made.result.0.outcome c.daemon_turn-made.ensures.tells.tells);
 }
 
 pub returns-in-NoMemory-clause-loops : goal.returns-in-NoMemory-clause-loops
-returns-in-NoMemory-clause-loops g c = loops_lacking (IsOver Daemon) (account c.args.pass.now) (account c.loop.pass) (account c.turn-made.new.pass) c.loop.invariant.keeps c.turn-made.result.outcome
-    c.turn-made.ensures.tells.tells c.turn-made.ensures.tells.says c.in-NoMemory.is
+returns-in-NoMemory-clause-loops g c = loops_lacking (IsOver Daemon) (account c.args.pass.now) (account c.loop.pass) (account c.daemon_turn-made.new.pass) c.loop.invariant.keeps c.daemon_turn-made.result.0.outcome
+    c.daemon_turn-made.ensures.tells.tells c.daemon_turn-made.ensures.tells.says c.in-NoMemory.is
 
 pub returns-in-Stopped-clause-loops : goal.returns-in-Stopped-clause-loops
-returns-in-Stopped-clause-loops g c = loops_stopped (IsOver Daemon) (account c.args.pass.now) (account c.loop.pass) (account c.turn-made.new.pass) c.loop.invariant.keeps c.turn-made.result.outcome
-    c.turn-made.ensures.tells.tells c.turn-made.ensures.tells.says c.in-Stopped.is
+returns-in-Stopped-clause-loops g c = loops_stopped (IsOver Daemon) (account c.args.pass.now) (account c.loop.pass) (account c.daemon_turn-made.new.pass) c.loop.invariant.keeps c.daemon_turn-made.result.0.outcome
+    c.daemon_turn-made.ensures.tells.tells c.daemon_turn-made.ensures.tells.says c.in-Stopped.is
 
 pub returns-in-Idle-clause-loops : goal.returns-in-Idle-clause-loops
-returns-in-Idle-clause-loops g c = loops_over (IsOver Daemon) (account c.args.pass.now) (account c.loop.pass) (account c.turn-made.new.pass) c.loop.invariant.keeps c.turn-made.result.outcome
-    c.turn-made.ensures.tells.tells c.turn-made.ensures.tells.says c.in-Idle.is
-    (c.turn-made.ensures.tells.over c.in-Idle.is c.if-made.true)
+returns-in-Idle-clause-loops g c = loops_over (IsOver Daemon) (account c.args.pass.now) (account c.loop.pass) (account c.daemon_turn-made.new.pass) c.loop.invariant.keeps c.daemon_turn-made.result.0.outcome
+    c.daemon_turn-made.ensures.tells.tells c.daemon_turn-made.ensures.tells.says c.in-Idle.is
+    (c.daemon_turn-made.ensures.tells.over c.in-Idle.is c.if-made.true)

@@ -7,4 +7,4 @@ new-requires-clause-words g c = c.as_slice.ensures.value ∙ c.in-Ok.ensures.wor
 
 pub new-requires-clause-opens : goal.new-requires-clause-opens
 new-requires-clause-opens g c = opens g.D.Pm.state g.F.Fingerprint.print _ c.args.clients c.requires.few c.in-Ok.ensures.gone c.requires.agrees
-    c.requires.running c.requires.history c.requires.trace c.requires.landed c.requires.sound c.in-Ok.ensures.opening
+    c.requires.running c.requires.history c.requires.trace c.requires.landed c.in-Ok.ensures.opening

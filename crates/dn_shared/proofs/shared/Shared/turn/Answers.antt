@@ -1,5 +1,6 @@
 use Rattle.std.proofs.Common.{length, refl, ap}
-use Rattle.dn_shared.proofs.Turned.{holds_then, longer, ready, turned}
+use Rattle.dn_shared.specs.Sites.{IsShared, told_of}
+use Rattle.dn_shared.proofs.Turned.{again, holds_then, longer, ready, turned}
 use Rattle.dn_shared.proofs.shared.Shared.turn.Goals as goal
 
 pub step-outcome-requires : goal.step-outcome-requires
@@ -11,20 +12,25 @@ step-outcome-requires g c = record {
 pub pass_turn-requires-clause-inside : goal.pass_turn-requires-clause-inside
 pass_turn-requires-clause-inside g c = let is = c.count_event-events.ensures in
     longer g.D.Pm.state g.F.Fingerprint.print _ _ c.args.pass.now c.take_turn-site.new.pass c.take_turn-site.result c.requires.own
-    c.take_turn-site.ensures c.count_event-events.new.self c.step-outcome.new.v (ap (λ s. s.volume) is) (ap (λ s. s.gone.items) is)
+    c.take_turn-site.ensures c.take_turn-site.result.volume.kept c.count_event-events.new.self c.step-outcome.new.v (ap (λ s. s.volume) is) (ap (λ s. s.gone.items) is)
     (ap (λ s. s.opening.items) is) c.step-outcome.ensures.agrees c.step-outcome.ensures.sound c.args.event c.step-outcome.result c.requires.may
     c.step-outcome.ensures.event _ (ap length c.trace-from.ensures)
 
 pub pass_turn-requires-clause-ready : goal.pass_turn-requires-clause-ready
 pass_turn-requires-clause-ready g c = let is = c.count_event-events.ensures in
     ready g.D.Pm.state g.F.Fingerprint.print _ _ c.args.pass.now c.take_turn-site.new.pass c.take_turn-site.result c.requires.own
-    c.take_turn-site.ensures c.count_event-events.new.self c.step-outcome.new.v (ap (λ s. s.volume) is) (ap (λ s. s.gone.items) is)
+    c.take_turn-site.ensures c.take_turn-site.result.volume.kept c.count_event-events.new.self c.step-outcome.new.v (ap (λ s. s.volume) is) (ap (λ s. s.gone.items) is)
     (ap (λ s. s.opening.items) is) c.step-outcome.ensures.agrees c.step-outcome.ensures.sound c.args.event c.step-outcome.result c.requires.may
     c.step-outcome.ensures.event _ _ (ap length c.trace-from.ensures) c.args.self.now.counted
 
 pub returns-clause-tells : goal.returns-clause-tells
 returns-clause-tells g c = let is = c.count_event-events.ensures in
     turned g.D.Pm.state g.F.Fingerprint.print _ _ c.args.pass.now c.take_turn-site.new.pass c.take_turn-site.result c.requires.own
-    c.take_turn-site.ensures c.count_event-events.new.self c.step-outcome.new.v (ap (λ s. s.volume) is) (ap (λ s. s.gone.items) is)
+    c.take_turn-site.ensures c.take_turn-site.result.volume.kept c.count_event-events.new.self c.step-outcome.new.v (ap (λ s. s.volume) is) (ap (λ s. s.gone.items) is)
     (ap (λ s. s.opening.items) is) c.step-outcome.ensures.agrees c.step-outcome.ensures.sound c.args.event c.step-outcome.result c.requires.may
     c.step-outcome.ensures.event c.pass_turn.new.pass c.pass_turn.ensures _ refl c.is_deserted-deserted.ensures
+
+pub returns-clause-again : goal.returns-clause-again
+returns-clause-again g c = again (λ x. told_of x) (λ base x. IsShared g.D.Pm.state g.F.Fingerprint.print base x) c.args.pass.now
+    c.take_turn-site.new.pass c.pass_turn.new.pass c.take_turn-site.result c.count_event-events.new.self c.take_turn-site.ensures
+    c.pass_turn.ensures _ _ c.requires.own
