@@ -106,12 +106,12 @@ module _ (print : Print) (c : Call) where
 
   -- JOBS
 
-  read_so : (form : JobForm) (text : List ℕ) (read : Result Job JobFault) → c.input.left ≡ Some text → HasRead form c.input read
+  pub read_so : (form : JobForm) (text : List ℕ) (read : Result Job JobFault) → c.input.left ≡ Some text → HasRead form c.input read
       → job_of form text ≡ read
   read_so form text read left has = read_told c.input.left text (job_of form) read has left
 
   -- a job with a fault is told so
-  job_fails : (form : JobForm) (f : JobFault) (e : Ending) → JobEnds form c.input e → TellsJob form c (λ read. read ≡ Err f) → (m : ℕ)
+  pub job_fails : (form : JobForm) (f : JobFault) (e : Ending) → JobEnds form c.input e → TellsJob form c (λ read. read ≡ Err f) → (m : ℕ)
       → ((line : ℕ) → f ≡ fault.BadLine line → m ≡ 2) → (f ≡ fault.TooLong → m ≡ 8) → ((number : ℕ) → f ≡ fault.BadTurn number → m ≡ 9)
       → Is m 7 (status_of e)
   job_fails form f (BadLine text) ends can m line long turn =
@@ -134,7 +134,7 @@ module _ (print : Print) (c : Call) where
   job_fails form f e ends can m line long turn = absurd ends
 
   -- one that has none isn't run
-  job_fails_not : (form : JobForm) (f : JobFault) (job : Job) → TellsJob form c (λ read. read ≡ Err f) → HasRead form c.input (Ok job) → ⊥
+  pub job_fails_not : (form : JobForm) (f : JobFault) (job : Job) → TellsJob form c (λ read. read ≡ Err f) → HasRead form c.input (Ok job) → ⊥
   job_fails_not form f job can has =
       let read = read_so form can.0 _ can.1 has in
       let both : ◌≡◌ {A = Result Job JobFault} (Err f) (Ok job) = sym can.2 ∙ read in

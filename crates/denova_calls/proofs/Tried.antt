@@ -23,6 +23,7 @@ use Rattle.denova_calls.specs.Plans.{HasPlan}
 use Rattle.denova_calls.specs.LookEnds.{ListsFront, TryEnds, TrialEnds, in_trial}
 use Rattle.denova_calls.specs.LookSteps.{ImageListed, FrontListed, HasTriedOn, CopyEnds, IsPickedAt}
 use Rattle.denova_calls.proofs.Copies.{new_agrees}
+use Rattle.denova_calls.proofs.Parts.{run_tells_of}
 use Rattle.denova_calls.proofs.Fronts.{front_listed}
 
 -- the list of an image that was picked
@@ -39,30 +40,10 @@ module _ (print : Print) (scripts : List (ℕ × List Op)) (turns : List ℕ) (c
     (on : OfOpening print (state device) (λ d. Extends (state device).past (state v.device).past)) where
   -- the run, with what is listed
   listing : (d : Disk) (text : List ℕ) → (r : HasRun print InTurns scripts turns d (state device) (state v.device) (TellsOf state v))
-      → ListsFront calls (files d) r.history text
+      → ListsFront calls (files d) r.whole.history text
       → HasRun print InTurns scripts turns d (state device) (state v.device) (λ history after free. ListsFront calls (files d) history text)
-  listing d text r lists = record {
-    history = r.history;
-    scripted = r.scripted;
-    end_files = r.end_files;
-    legal = r.legal;
-    short = r.short;
-    moves = r.moves;
-    end = r.end;
-    opening = r.opening;
-    is_opening = r.is_opening;
-    played = r.played;
-    told = r.told;
-    after = r.after;
-    at_rest = r.at_rest;
-    settled = r.settled;
-    same = r.same;
-    left_by = r.left_by;
-    course = r.course;
-    free = r.free;
-    has_free = r.has_free;
-    tells = lists;
-  }
+  listing d text r lists = run_tells_of print InTurns scripts turns d (state device) (state v.device) (TellsOf state v)
+      (λ history after free. ListsFront calls (files d) history text) r lists
 
   pub copy_ends : (e : Ending) → FrontListed print calls (state v.device) e → CopyEnds print scripts turns calls w e
   copy_ends (Done text) (c, picked, listed) = (subst HasNoFault new.now ran.sound, tried)
@@ -77,7 +58,8 @@ module _ (print : Print) (scripts : List (ℕ × List Op)) (turns : List ℕ) (c
             copied = new.now;
             run = listing d text.items r
                 (front_listed print calls w (state device) (state v.device) new still (new_agrees w (state device) new) agree (on d first own) d first
-                r.history r.course r.end_files r.legal r.after r.at_rest.stands_for r.at_rest.still r.same text.items c picked listed);
+                r.whole.history r.whole.course r.whole.end_files r.whole.legal r.whole.after r.whole.at_rest.stands_for r.whole.at_rest.still r.whole.same
+                text.items c picked listed);
           }
   copy_ends NoMemory told = tt
   copy_ends e told = absurd told

@@ -33,8 +33,8 @@ fn bad_turn(alloc: Global, number: u64) -> Result<Vec<u8>, AllocError>
     Ok(text)
 }
 
-// How a call ends whose job has a fault.
-pub(crate) fn ending_of_fault(alloc: Global, fault: JobFault) -> Ending
+/// How a call ends whose job has a fault.
+pub fn ending_of_fault(alloc: Global, fault: JobFault) -> Ending
     ensures { FaultEnds fault result }
 {
     match fault {
@@ -91,8 +91,8 @@ fn ending_of_stopped_work(alloc: Global, number: u64, history: &[Entry]) -> Endi
     }
 }
 
-// How a call ends whose job didn't come to its end, and has lines of these numbers.
-pub(crate) fn ending_of_job(alloc: Global, numbers: &LineNumbers, end: RunEnd) -> Ending
+/// How a call ends whose job didn't come to its end, and has lines of these numbers.
+pub fn ending_of_job(alloc: Global, numbers: &LineNumbers, end: RunEnd) -> Ending
     ensures { EndEnds numbers.now end result }
 {
     match end {

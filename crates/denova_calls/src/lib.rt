@@ -2,7 +2,7 @@
 #![tactic(auto)]
 
 pub mod check;
-mod endings;
+pub mod endings;
 pub mod laws;
 pub mod look;
 pub mod make;

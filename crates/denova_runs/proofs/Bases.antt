@@ -96,7 +96,9 @@ module _ {D F : Type 0} (state : D → State) (print : Print) (d : Disk) (v : Vo
     pub mounted_base : HasBase state print s v d
     mounted_base = record {
       disk = is.after;
+      volume = is.volume;
       same = is.keeps.same;
+      exact = is.exact;
       alone = is.alone;
       sound = since_before (is.sound (is.keeps.own own));
       extends = leaves.extends;

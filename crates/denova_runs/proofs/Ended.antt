@@ -80,7 +80,7 @@ module _ {D F : Type 0} (state : D → State) (print : Print) (order : Order) (s
     pub drained_ends : Drained state print w → (s : State) → IsBegun state print s u → EndsRun state print order scripts turns s w (Ok tt)
     drained_ends drained s begun = λ d stood own.
         let base = begun.base d stood own in
-        run_whole print scripts rises d s base.disk base.same state w order turns suits base.alone v (kept_on _ (kept _ base.sound))
+        run_whole print scripts rises d s base.disk base.same state w base.alone order turns suits v (kept_on _ (kept _ base.sound))
         (runs _ base.sound) history on.landed drained
 
 -- since the opening, calls were only added

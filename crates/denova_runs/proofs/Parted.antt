@@ -2,6 +2,7 @@
 use Rattle.std.proofs.Common.{◌≡◌, ◌≢◌, ◌⊎◌, inl, inr, ⊎_elim, ℕ, zero, suc, ◌+◌, Bool, true, false, List, [], ◌∷◌, length, take, drop, refl, sym, ◌∙◌, ap, subst, arith}
 use Rattle.std.specs.Prelude.{Option, Some, None, Contains, if◌then◌else◌, ◌==◌}
 use Rattle.std.proofs.lemmas.Bool.{eq-eqb}
+use Rattle.std.proofs.lemmas.List.{append-nil}
 use Rattle.std.proofs.lemmas.List.Elements.{Contains-append_left}
 use Rattle.std.proofs.lemmas.List.Kept.{AllPairs-from_increasing}
 use Rattle.pm_device.specs.Past.{Past, moment}
@@ -31,7 +32,7 @@ use Rattle.job_runs.specs.declared.plan.Order.{Order}
 use Rattle.job_runs.specs.Turns.{script_of, entries_of}
 use Rattle.job_runs.specs.Scripts.{ops_of, IsFront, IsScripted, Rises, Suits}
 use Rattle.job_runs.specs.Playing.{FlyNext, PlaysSo, PlaysWhole}
-use Rattle.denova_runs.specs.Runs.{WasLeftIn, others_in, AreShort, LeftBy, HasRun, HasRunPart}
+use Rattle.denova_runs.specs.Runs.{WasLeftIn, others_in, AreShort, LeftBy, RanWhole, HasRun, HasRunPart}
 use Rattle.denova_runs.specs.Ran.{TellsOf}
 use Rattle.denova_runs.specs.Opened.{base_at}
 use Rattle.job_runs.proofs.Fronts.{next_op_is, plays_front, played_scripted}
@@ -105,6 +106,15 @@ module _ (scripts : List (ℕ × List Op)) (b : Parts) (front : IsFront scripts 
         half = short.half;
         few = λ pages apart free'. let most = short.few pages apart free' in omega (arith, least, most);
       }
+
+-- all of the scripts is a front of them
+pub scripted_front : (scripts : List (ℕ × List Op)) (history : List Entry) → IsScripted scripts history → IsFront scripts history
+scripted_front scripts history scripted = record {
+  each = λ who. ([], sym (scripted.each who) ∙ sym (append-nil (ops_of (entries_of who history))));
+}
+
+clash : (x : Bool) → x ≡ false → x ≡ true → ⊥
+clash x low high = cc
 
 module _ (print : Print) (scripts : List (ℕ × List Op)) (rises : Rises 0 scripts) (d : Disk) (s : State) (disk : Disk)
     (same : IsSameFiles (files disk) (files d)) where
@@ -188,6 +198,96 @@ module _ (print : Print) (scripts : List (ℕ × List Op)) (rises : Rises 0 scri
     none_next : AllLanded v.parts → FlyNext scripts v.parts
     none_next landed = record { next = λ who f flies. absurd (landed who f flies) }
 
+    -- all is done
+    module _ (alone : KeepsAlone d disk) where
+      left_by : (e : Disk) → IsVolume e v.parts t → IsSound print (base_at s disk) e v.parts t → LeftBy print d told e
+      left_by e volume sound = record {
+        why = λ ino idx m place left. ⊎_elim
+            (λ (was : WasAlone (base_at s disk) ino idx m.block).
+            let old = alone ino idx was.mapping was.place was.alone in
+            inl (old.mapping, old.place, old.alone, old.page_is ∙ was.page_is))
+            (λ twin. inr (
+              twin.0,
+              record {
+                k = twin.1.k;
+                some = twin.1.some;
+                legal = from_opening (take twin.1.k told) twin.0 twin.1.legal;
+              },
+              twin.2,
+            ))
+            (sound.alone ino idx m place left);
+      }
+
+      abbrev sound_whole : (e : Disk) → IsVolume e v.parts t → IsSound print (base_at s disk) e v.parts t → IsScripted scripts told
+          → AllLanded v.parts
+          → Drained state print v
+          → RanWhole print scripts d s t (TellsOf state v)
+      sound_whole e volume sound scripted landed drained = record {
+        history = told;
+        scripted = scripted;
+        end_files = files e;
+        legal = from_opening told (files e) sound.legal;
+        short = short_in t v.parts (scripted_front scripts told scripted) (none_next landed) sound.short;
+        after = e;
+        at_rest = at_rest e v.parts t volume landed drained.rests.daemon.none_begun drained.rests.reclaim;
+        settled = settled e v.parts t volume landed drained.rests print sound.own;
+        same = λ name. refl;
+        left_by = left_by e volume sound;
+        course = course_of t told None sound.course.course;
+        free = length v.parts.free.free;
+        has_free = (
+          v.parts.free.free,
+          (λ page. let is = free_is e v.parts t volume landed drained.rests.daemon.none_begun drained.rests.reclaim page in (is.0, is.1)),
+          (λ i j x lt il. let less = AllPairs-from_increasing v.parts.free.free volume.space.in_order.rising i j x lt il in
+              λ equal. omega (arith, less, equal)),
+          refl,
+        );
+        tells = record { history_is = refl; volume = volume; free_is = refl };
+      }
+
+      -- with what the disk that is left has to promise
+      pub ran_whole : (P : Disk → Type 0) → ((e : Disk) → IsVolume e v.parts t → IsSound print (base_at s disk) e v.parts t → P e)
+          → Sound state print (base_at s disk) v → IsScripted scripts told → AllLanded v.parts → Drained state print v
+          → RanWhole print scripts d s t (λ h after free. P after × TellsOf state v h after free)
+      ran_whole P says (is_sound e volume sound) scripted landed drained =
+          let run = sound_whole e volume sound scripted landed drained in
+          record {
+            history = run.history;
+            scripted = run.scripted;
+            end_files = run.end_files;
+            legal = run.legal;
+            short = run.short;
+            after = run.after;
+            at_rest = run.at_rest;
+            settled = run.settled;
+            same = run.same;
+            left_by = run.left_by;
+            course = run.course;
+            free = run.free;
+            has_free = run.has_free;
+            tells = (says e volume sound, run.tells);
+          }
+      ran_whole P says (was_sound stopped was) scripted landed drained = absurd (clash v.parts.stopped drained.running stopped.stopped)
+
+      pub run_whole : (order : Order) (turns : List ℕ) → Suits order scripts → (u : Volume D F) → Sound state print (base_at s disk) v
+          → PlaysWhole order scripts turns (base_at s disk) u.parts
+          → told ≡ u.parts.history.items → AllLanded v.parts → Drained state print v
+          → HasRun print order scripts turns d s t (TellsOf state v)
+      run_whole order turns suits u (is_sound e volume sound) whole more landed drained = record {
+        whole = sound_whole e volume sound
+            (subst (IsScripted scripts) (whole.entries ∙ sym more)
+            (played_scripted order scripts turns (files disk) whole.moves whole.end suits whole.played))
+            landed drained;
+        moves = whole.moves;
+        end = whole.end;
+        opening = files disk;
+        is_opening = same;
+        played = whole.played;
+        told = whole.entries ∙ sym more;
+      }
+      run_whole order turns suits u (was_sound stopped was) whole more landed drained =
+          absurd (clash v.parts.stopped drained.running stopped.stopped)
+
     module _ (order : Order) (turns : List ℕ) where
       pub so_part : (tells : List Entry → Type 0) → Sound state print (base_at s disk) v
           → PlaysSo order scripts turns (base_at s disk) v.parts → tells told → HasRunPart print scripts d s t tells
@@ -202,63 +302,3 @@ module _ (print : Print) (scripts : List (ℕ × List Op)) (rises : Rises 0 scri
           (subst (IsFront scripts) (whole.entries ∙ sym more)
           (plays_front order scripts turns (files disk) whole.moves whole.end whole.played.plays))
           (none_next landed) tell
-
-      -- all is done
-      module _ (suits : Suits order scripts) (alone : KeepsAlone d disk) where
-        left_by : (e : Disk) → IsVolume e v.parts t → IsSound print (base_at s disk) e v.parts t → LeftBy print d told e
-        left_by e volume sound = record {
-          why = λ ino idx m place left. ⊎_elim
-              (λ (was : WasAlone (base_at s disk) ino idx m.block).
-              let old = alone ino idx was.mapping was.place was.alone in
-              inl (old.mapping, old.place, old.alone, old.page_is ∙ was.page_is))
-              (λ twin. inr (
-                twin.0,
-                record {
-                  k = twin.1.k;
-                  some = twin.1.some;
-                  legal = from_opening (take twin.1.k told) twin.0 twin.1.legal;
-                },
-                twin.2,
-              ))
-              (sound.alone ino idx m place left);
-        }
-
-        pub run_whole : (u : Volume D F) → Sound state print (base_at s disk) v → PlaysWhole order scripts turns (base_at s disk) u.parts
-            → told ≡ u.parts.history.items → AllLanded v.parts → Drained state print v
-            → HasRun print order scripts turns d s t (TellsOf state v)
-        run_whole u (is_sound e volume sound) whole more landed drained = record {
-          history = told;
-          scripted = subst (IsScripted scripts) (whole.entries ∙ sym more)
-              (played_scripted order scripts turns (files disk) whole.moves whole.end suits whole.played);
-          end_files = files e;
-          legal = from_opening told (files e) sound.legal;
-          short = short_in t v.parts
-              (subst (IsFront scripts) (whole.entries ∙ sym more)
-              (plays_front order scripts turns (files disk) whole.moves whole.end whole.played.plays))
-              (none_next landed) sound.short;
-          moves = whole.moves;
-          end = whole.end;
-          opening = files disk;
-          is_opening = same;
-          played = whole.played;
-          told = whole.entries ∙ sym more;
-          after = e;
-          at_rest = at_rest e v.parts t volume landed drained.rests.daemon.none_begun drained.rests.reclaim;
-          settled = settled e v.parts t volume landed drained.rests print sound.own;
-          same = λ name. refl;
-          left_by = left_by e volume sound;
-          course = course_of t told None sound.course.course;
-          free = length v.parts.free.free;
-          has_free = (
-            v.parts.free.free,
-            (λ page. let is = free_is e v.parts t volume landed drained.rests.daemon.none_begun drained.rests.reclaim page in (is.0, is.1)),
-            (λ i j x lt il. let less = AllPairs-from_increasing v.parts.free.free volume.space.in_order.rising i j x lt il in
-                λ equal. omega (arith, less, equal)),
-            refl,
-          );
-          tells = record { history_is = refl; volume = volume; free_is = refl };
-        }
-        run_whole u (was_sound stopped was) whole more landed drained = absurd (clash v.parts.stopped drained.running stopped.stopped)
-          where
-            clash : (x : Bool) → x ≡ false → x ≡ true → ⊥
-            clash x low high = cc

@@ -4,12 +4,14 @@ use Rattle.pm_device.specs.Past.{moment}
 use Rattle.pm_device.specs.State.{State, Rose}
 use Rattle.pm_device.specs.Settled.{Extends}
 use Rattle.dn_model.specs.Disk.{Disk}
+use Rattle.dn_model.specs.Counts.{Exact}
 use Rattle.dn_model.specs.Files.{files, IsSameFiles}
 use Rattle.dn_model.specs.Own.{Print}
 use Rattle.dn_model.specs.Course.{Base}
 use Rattle.dn_model.specs.declared.op.Op.{Op}
 use Rattle.dn_volume.specs.declared.volume.Volume.{Volume}
 use Rattle.dn_volume.specs.Accounts.{KeepsAlone}
+use Rattle.dn_volume.specs.Agrees.{IsVolume}
 use Rattle.dn_volume.specs.Sound.{Sound}
 use Rattle.dn_mount.specs.declared.fault.MountFault.{MountFault}
 use Rattle.dn_mount.specs.declared.fault.MountFault.TheVariants as why
@@ -36,13 +38,15 @@ end_of_run v fault.Stopped = (end.Stopped v.parts.history, v.device)
 abbrev pub base_at : State → Disk → Base
 base_at s disk = record { disk = disk; start = moment s.past; faults = s.faults }
 
--- The volume keeps to a disk that a mount made of d: it has the files of d, and no place is left
--- alone that wasn't. Its run begins before the mount, when the device was so; since then the device
--- was only told more.
+-- The volume is one of a disk that a mount made of d: it has the files of d, its counts are exact,
+-- and no place is left alone that wasn't. Its run begins before the mount, when the device was so;
+-- since then the device was only told more.
 pub record HasBase {D F : Type 0} (state : D → State) (print : Print) (s : State) (v : Volume D F)
     (d : Disk) : Type 0 where
   pub disk : Disk
+  pub volume : IsVolume disk v.parts (state v.device)
   pub same : IsSameFiles (files disk) (files d)
+  pub exact : Exact disk
   pub alone : KeepsAlone d disk
   pub sound : Sound state print (base_at s disk) v
   pub extends : Extends s.past (state v.device).past

@@ -80,23 +80,16 @@ pub record LeftBy (print : Print) (d : Disk) (history : List Entry) (e : Disk) :
       ⊎ ((f : Files) × IsOnTheWay (files d) history f × HasTwin print f (page_bytes e m.block))
 
 -- All of the scripts were run from a disk. Each client's entries are its script's, in order; each
--- reply is that of a file system that never shares; the events were those that the scripts, the
--- schedule and the answers determine; the words that are left are at rest, with the files after the
--- history; and at each moment a crash left the files after the operations so far, or after one
--- more.
-pub record HasRun (print : Print) (order : Order) (scripts : List (ℕ × List Op)) (turns : List ℕ)
-    (d : Disk) (s t : State) (Tells : List Entry → Disk → ℕ → Type 0) : Type 0 where
+-- reply is that of a file system that never shares; the words that are left are at rest, with the
+-- files after the history; and at each moment a crash left the files after the operations so far,
+-- or after one more.
+pub record RanWhole (print : Print) (scripts : List (ℕ × List Op)) (d : Disk) (s t : State)
+    (Tells : List Entry → Disk → ℕ → Type 0) : Type 0 where
   pub history : List Entry
   pub scripted : IsScripted scripts history
   pub end_files : Files
   pub legal : Legal (files d) history end_files
   pub short : AreShort scripts history s t
-  pub moves : List Move
-  pub end : Played
-  pub opening : Files
-  pub is_opening : IsSameFiles opening (files d)
-  pub played : PlayedAll order scripts turns opening moves end
-  pub told : end.entries ≡ history
   pub after : Disk
   pub at_rest : IsAtRest after t
   pub settled : IsSettled print after
@@ -106,6 +99,18 @@ pub record HasRun (print : Print) (order : Order) (scripts : List (ℕ × List O
   pub free : ℕ
   pub has_free : HasFree after free
   pub tells : Tells history after free
+
+-- They were run so, and the events were those that the scripts, the schedule and the answers
+-- determine.
+pub record HasRun (print : Print) (order : Order) (scripts : List (ℕ × List Op)) (turns : List ℕ)
+    (d : Disk) (s t : State) (Tells : List Entry → Disk → ℕ → Type 0) : Type 0 where
+  pub whole : RanWhole print scripts d s t Tells
+  pub moves : List Move
+  pub end : Played
+  pub opening : Files
+  pub is_opening : IsSameFiles opening (files d)
+  pub played : PlayedAll order scripts turns opening moves end
+  pub told : end.entries ≡ whole.history
 
 -- A front of each script was run, and at most the next operation of one client was in flight.
 pub record HasRunPart (print : Print) (scripts : List (ℕ × List Op)) (d : Disk) (s t : State)

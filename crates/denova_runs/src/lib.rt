@@ -3,4 +3,4 @@
 
 pub mod run;
 
-pub use run::{RunEnd, run_scripts};
+pub use run::{RunEnd, end_of, open_volume, run_scripts};

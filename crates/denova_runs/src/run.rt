@@ -1,5 +1,5 @@
 // Scripts are run on the image of a device.
-ghost use Rattle.std.specs.Prelude.{◌≡◌, ◌≤◌, ℕ, List, false, IfOk, IfErr, OnOk};
+ghost use Rattle.std.specs.Prelude.{◌≡◌, ◌≤◌, ℕ, List, [], false, IfOk, IfErr, OnOk};
 ghost use Rattle.pm_device.specs.State.{State};
 ghost use Rattle.pm_device.specs.Settled.{Still, Extends};
 ghost use Rattle.dn_model.specs.Image.{HasNoFault};
@@ -49,8 +49,12 @@ impl From<MountFault> for RunEnd {
     }
 }
 
-// Mounts the image of a still device.
-fn open_volume<D: Pm, F: Fingerprint + Drop>(
+/// Mounts the image of a still device, for a run. Where that fails, why, and the device.
+///
+/// # Errors
+/// `Faulty` exactly where the image has a fault, with the first. `Failed` where a fence of the device failed. `NoMemory`
+/// where memory ran out.
+pub fn open_volume<D: Pm, F: Fingerprint + Drop>(
     alloc: Global,
     device: D,
     print: F,
@@ -58,6 +62,7 @@ fn open_volume<D: Pm, F: Fingerprint + Drop>(
     requires still { Still (D.state device) }
     ensures agrees { IfOk result (λ v. Agrees D.state v) }
     ensures new { IfOk result (λ v. IsNew v.parts) }
+    ensures trace { IfOk result (λ v. v.parts.trace.items ≡ []) }
     ensures sound { IfOk result (λ _. HasNoFault (D.state device).now) }
     ensures begun { IfOk result (IsBegun D.state F.print (D.state device)) }
     ensures fails { IfErr result (λ back. (scripts : List (ℕ × List MadeOp))
@@ -98,8 +103,8 @@ fn run_out<D: Pm, F: Fingerprint>(
     }
 }
 
-// Why a run on a volume wasn't finished, with the volume's device.
-fn end_of<D: Pm, F: Fingerprint + Drop>(v: Volume<D, F>, fault: RunFault) -> (RunEnd, D)
+/// Why a run on a volume wasn't finished, with the volume's device.
+pub fn end_of<D: Pm, F: Fingerprint + Drop>(v: Volume<D, F>, fault: RunFault) -> (RunEnd, D)
     ensures { result ≡ end_of_run v fault }
 {
     let Volume { device, parts, .. } = v;

@@ -21,7 +21,8 @@ use Rattle.dn_volume.specs.declared.outcome.Outcome.{Outcome}
 use Rattle.dn_volume.specs.declared.outcome.Outcome.TheVariants as told
 use Rattle.dn_volume.specs.declared.volume.Parts.{Parts}
 use Rattle.dn_volume.specs.declared.volume.Volume.{Volume}
-use Rattle.dn_volume.specs.Parties.{Flies, Holds, by_client, by_daemon, flight_at, flight_of}
+use Rattle.dn_volume.specs.Parties.{Flies, Holds, by_client, by_daemon, SameOthers, flight_at, flight_of}
+use Rattle.dn_volume.proofs.Replaced.{flies_new, others_same as same_others}
 use Rattle.dn_volume.specs.Flights.{left_of}
 use Rattle.dn_volume.specs.Works.{sharing_events, step_events, DaemonWorks, ReclaimWorks, IsHeldUp}
 use Rattle.dn_volume.specs.Agrees.{IsVolume}
@@ -159,6 +160,12 @@ module _ {D F : Type 0} (state : D → State) (print : Print) (order : Order) (s
     may_begin : who ≤ 14 → MayBegin v.parts who
     may_begin few = record { some = some; few = few; idle = sym (at_client v.parts who some) ∙ no_flight }
 
+    flies_begun : (left : ℕ) (is : HasBegun state who op left v v' d) → Flies v'.parts who is.flight
+    flies_begun left is = flies_new who is.opens.client None (Some is.flight) v.parts v'.parts is.opens.replaces is.flight refl
+
+    others_begun : (left : ℕ) (is : HasBegun state who op left v v' d) → SameOthers who v.parts v'.parts
+    others_begun left is = same_others who is.opens.client None (Some is.flight) v.parts v'.parts is.opens.replaces
+
     runs_well : (left : ℕ) → HasBegun state who op left v v' d → GoesWell state order scripts p begun v v' d (told.Running left)
     runs_well left is = record {
       may = record {
@@ -166,16 +173,16 @@ module _ {D F : Type 0} (state : D → State) (print : Print) (order : Order) (s
         valid = volume.fast.valid;
         same = λ name. refl;
         may = subst (λ (o : Op). MayLeave d o left) is.opens.op_is (subst (MayLeave d is.flight.op) (sym is.opens.left_is)
-            (begin_leaves d is.flight is.opens.unraised who (state v'.device) (is.volume.flights.each who is.flight is.opens.flies) is.opens.fresh));
+            (begin_leaves d is.flight is.opens.unraised who (state v'.device) (is.volume.flights.each who is.flight (flies_begun left is)) is.opens.fresh));
       };
       fits = record {
         entries = same_entries is.history;
         clients = clients_set scripts p v.parts fits v'.parts who left
-            (λ a c. is.opens.left_is ∙ ap flight_left (sym (flight_is v'.parts who is.flight is.opens.flies)))
-            (others_same who v.parts v'.parts is.opens.same.others);
+            (λ a c. is.opens.left_is ∙ ap flight_left (sym (flight_is v'.parts who is.flight (flies_begun left is))))
+            (others_same who v.parts v'.parts (others_begun left is));
         daemon = daemon_set scripts p v.parts fits v'.parts who left turn.no_daemon is.opens.same.work.sharing;
         waiting = none_released;
-        flying = fly_begun scripts p v.parts fits v'.parts who op is.flight is.history is.opens.flies is.opens.op_is turn.next is.opens.same.others;
+        flying = fly_begun scripts p v.parts fits v'.parts who op is.flight is.history (flies_begun left is) is.opens.op_is turn.next (others_begun left is);
       };
       running = is.volume.running;
       faults = let same = is.device.faults in omega (arith, same);
@@ -263,7 +270,7 @@ module _ {D F : Type 0} (state : D → State) (print : Print) (order : Order) (s
         entries = entries_answered scripts p v.parts fits v'.parts who f.op reply is.0.entry is.0.history is.0.who_is is.0.op_is is.0.reply_is
             (next_at scripts p v.parts fits who f flies);
         clients = clients_set scripts p v.parts fits v'.parts who 0
-            (λ a c. sym (ap flight_left (at_client v'.parts who flies.client ∙ is.0.landed)))
+            (λ a c. sym (ap flight_left (at_client v'.parts who flies.client ∙ is.0.replaces.now)))
             (others_same who v.parts v'.parts is.0.moves.others);
         daemon = daemon_set scripts p v.parts fits v'.parts who 0 turn.no_daemon (is.0.moves.others.sharing turn.no_daemon);
         waiting = none_released;
@@ -275,7 +282,7 @@ module _ {D F : Type 0} (state : D → State) (print : Print) (order : Order) (s
       where
         others : (q : ℕ) (g : Flight) → Flies v'.parts q g → (q ≢ who) × Flies v.parts q g
         others q g now =
-            let ne : q ≢ who = λ e. clash_none (flight_at v'.parts.flights.items (who - 1)) g is.0.landed
+            let ne : q ≢ who = λ e. clash_none (flight_at v'.parts.flights.items (who - 1)) g is.0.replaces.now
             (subst (λ (n : ℕ). flight_at v'.parts.flights.items (n - 1) ≡ Some g) e now.is) in
             (ne, record { client = now.client; is = sym (is.0.moves.others.flights q now.client ne) ∙ now.is })
     advance_answers (told.Busy holder) f flies is = absurd is

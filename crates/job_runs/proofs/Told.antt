@@ -15,6 +15,7 @@ use Rattle.dn_volume.specs.declared.outcome.Outcome.TheVariants as told
 use Rattle.dn_volume.specs.declared.volume.Parts.{Parts}
 use Rattle.dn_volume.specs.declared.volume.Volume.{Volume}
 use Rattle.dn_volume.specs.Parties.{Flies, Holds, by_client, by_daemon, KeepsOps, SameOthers, flight_at, flight_of}
+use Rattle.dn_volume.proofs.Replaced.{flies_new, others_same}
 use Rattle.dn_volume.specs.Flights.{left_of}
 use Rattle.dn_volume.specs.Agrees.{IsVolume, Agrees, agrees_with, is_stopped}
 use Rattle.dn_volume.specs.Begins.{MayBegin, Begins, IsUntouched, IsBusy}
@@ -79,13 +80,13 @@ module _ {D F : Type 0} (state : D → State) (print : Print) (who : ℕ) (op : 
   opens_tell d volume loose (told.Running left) is = (
     record {
       flight = is.flight;
-      flies = is.opens.flies;
+      flies = flies_new who is.opens.client None (Some is.flight) v.parts v'.parts is.opens.replaces is.flight refl;
       op_is = is.opens.op_is;
       only = λ q f flies. elim (cases_eq q who) [
         | inl e ↦ e
         | inr ne ↦ absurd (loose.landed q f (record {
           client = flies.client;
-          is = sym (is.opens.same.others.flights q flies.client ne) ∙ flies.is;
+          is = sym ((others_same who is.opens.client None (Some is.flight) v.parts v'.parts is.opens.replaces).flights q flies.client ne) ∙ flies.is;
         }))
       ];
       none_begun = is.opens.same.work.sharing ∙ loose.none_begun;
@@ -157,7 +158,7 @@ module _ {D F : Type 0} (state : D → State) (print : Print) (who : ℕ) (op : 
   advances_tell d alone (told.Done reply) f flies op_is is = (
     record {
       landed = λ q g others. elim (cases_eq q who) [
-        | inl e ↦ no_flight_there g (sym is.0.landed ∙ subst (λ (n : ℕ). flight_at v'.parts.flights.items (n - 1) ≡ Some g) e others.is)
+        | inl e ↦ no_flight_there g (sym is.0.replaces.now ∙ subst (λ (n : ℕ). flight_at v'.parts.flights.items (n - 1) ≡ Some g) e others.is)
         | inr ne ↦ ne (alone.only q g (record { client = others.client; is = sym (is.0.moves.others.flights q others.client ne) ∙ others.is }))
       ];
       none_begun = is.0.moves.others.sharing (λ e. omega (arith, e, few)) ∙ alone.none_begun;

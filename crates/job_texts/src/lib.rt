@@ -8,5 +8,5 @@ pub mod told;
 pub mod work;
 
 pub use plan::{JobPlan, LineNumbers, plan_of};
-pub use told::{run_text, stopped_text};
+pub use told::{history_lines, run_text, stopped_text};
 pub use work::{work_numbers, work_plan, work_text};

@@ -42,8 +42,11 @@ fn next_line(clients: &[(u32, Numbers)], told: &mut [usize], who: u32) -> u64
     line
 }
 
-// The lines of a history: one for each operation, in order.
-fn history_lines(
+/// The lines of a history: one for each operation that was answered, in order, with the line of the job that it stands in.
+///
+/// # Errors
+/// `AllocError` where there is no memory for the text.
+pub fn history_lines(
     alloc: Global,
     numbers: &LineNumbers,
     history: &[Entry],

@@ -14,6 +14,9 @@ returns-in-Ok-clause-new g c =
     let sound = c.in-Ok.ensures.sound in
     mounted_new g.D.Pm.state g.F.Fingerprint.print sound.disk c.in-Ok.v (c.in-Ok.ensures.mounted sound.disk sound.stands_for)
 
+pub returns-in-Ok-clause-trace : goal.returns-in-Ok-clause-trace
+returns-in-Ok-clause-trace g c = let sound = c.in-Ok.ensures.sound in (c.in-Ok.ensures.mounted sound.disk sound.stands_for).trace
+
 pub returns-in-Ok-clause-begun : goal.returns-in-Ok-clause-begun
 returns-in-Ok-clause-begun g c = record {
   faults = c.in-Ok.ensures.faults;

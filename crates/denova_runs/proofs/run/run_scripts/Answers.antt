@@ -27,3 +27,6 @@ returns-in-Err-run_out-clause-faults g c =
     let next = c.in-Err-run_out.ensures.faults in
     subst (λ (back : RunEnd × _). (S c.args.device).faults ≤ (S back.1).faults) (sym c.end_of.ensures)
     (end_faults S c.run_out.new.v (S c.args.device).faults c.in-Err-run_out.fault (omega (arith, first, next)))
+
+pub returns-in-Ok-run_out-clause-goes_on : goal.returns-in-Ok-run_out-clause-goes_on
+returns-in-Ok-run_out-clause-goes_on g c = c.in-Ok-run_out.ensures.goes_on (g.D.Pm.state c.args.device) c.in-Ok.ensures.begun
