@@ -1,0 +1,5 @@
+pub mod Lists
+pub mod Lines
+pub mod Tasks
+pub mod Ending
+pub mod Works
