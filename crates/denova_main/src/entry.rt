@@ -5,16 +5,21 @@ ghost use Rattle.dn_report.specs.Report.{bad_length_text};
 
 use crate::streams::{StdSink, StdSource};
 use denova_calls::tool::tool;
+use denova_session::session;
 use denova_words::{Command, command_of};
 use dn_report::report::{CANNOT_OPEN, NO_MEMORY, USAGE, write_bad_length};
 use dn_script::write_all;
+use dn_shared::Open;
 use fingerprint::Sha1Print;
 use pm_device::{MemPm, Pm};
 use pm_file::{FilePm, OpenFault};
 use pm_layout::Geometry;
 use std::alloc::{AllocError, Global};
+use std::fs::File;
 use std::io::{Input, Print, Write};
 use std::rt::{Env, Files};
+use std::sync::Wait;
+use std::thread::Threads;
 use std::{env, io};
 
 // The status where the words give no command.
@@ -79,6 +84,8 @@ fn end_unopened<W: Write>(alloc: Global, out: &mut StdSink<W>, fault: OpenFault)
 enum ImageFile {
     // It is opened as it is.
     Kept,
+    // It is opened as it is, for threads.
+    Shared,
     // It is made anew, with so many pages.
     New { pages: u64 },
     // It isn't opened.
@@ -92,26 +99,50 @@ fn image_file_of(command: Option<Command>) -> ImageFile {
             Ok(_) => ImageFile::New { pages },
             Err(_) => ImageFile::Unopened,
         },
-        Some(Command::Run) | None => ImageFile::Unopened,
+        Some(Command::Run) => ImageFile::Shared,
+        None => ImageFile::Unopened,
         Some(_) => ImageFile::Kept,
     }
 }
 
+// The path of the image, which the first word is.
+fn path_of(words: &[String]) -> &str {
+    match words {
+        [path, ..] => path.as_str(),
+        [] => "",
+    }
+}
+
 // Opens the image, or makes it, and does what the words say.
-fn serve<R: Files + Input + AllocGlobal, W: Write>(
+fn serve<R: Files<File = File> + Input + AllocGlobal, W: Write>(
     rt: &R,
     wanted: Option<u64>,
     words: &[String],
     out: &mut StdSink<W>,
 ) -> u8 {
-    let path = match words {
-        [path, ..] => path.as_str(),
-        [] => "",
-    };
-    match FilePm::open(rt, path, wanted) {
+    match FilePm::open(rt, path_of(words), wanted) {
         Ok(device) => {
             let mut input = StdSource::of(rt.reader());
             let (status, _device) = tool(rt.alloc(), words, device, Sha1Print, &mut input, out);
+            status
+        }
+        Err(fault) => end_unopened(rt.alloc(), out, fault),
+    }
+}
+
+// Opens the image, and runs a job on it in threads.
+fn serve_shared<R: Files<File = File> + Input + AllocGlobal + Threads + Wait + Sync, W: Write>(
+    rt: &R,
+    words: &[String],
+    out: &mut StdSink<W>,
+) -> u8 {
+    match FilePm::open(rt, path_of(words), None) {
+        Ok(device) => {
+            let alloc = rt.alloc();
+            let mut input = StdSource::of(rt.reader());
+            let (status, _device) = session(
+                rt, alloc, words, device, Sha1Print, &mut input, out, &Open,
+            );
             status
         }
         Err(fault) => end_unopened(rt.alloc(), out, fault),
@@ -143,7 +174,7 @@ fn serve_unopened<R: Input + AllocGlobal, W: Write>(
 }
 
 // Does what the words say.
-fn obey<R: Files + Input + AllocGlobal, W: Write>(
+fn obey<R: Files<File = File> + Input + AllocGlobal + Threads + Wait + Sync, W: Write>(
     rt: &R,
     words: &[String],
     out: &mut StdSink<W>,
@@ -153,6 +184,7 @@ fn obey<R: Files + Input + AllocGlobal, W: Write>(
     };
     match image_file_of(command) {
         ImageFile::Kept => serve(rt, None, words, out),
+        ImageFile::Shared => serve_shared(rt, words, out),
         ImageFile::New { pages } => serve(rt, Some(pages), words, out),
         ImageFile::Unopened => serve_unopened(rt, words, out),
     }
@@ -163,8 +195,10 @@ fn obey<R: Files + Input + AllocGlobal, W: Write>(
 /// The first word names the image file, which is opened as it is, or for `format` made anew with so many pages; where
 /// the words give no command (one of them may be no text), or `format` has numbers that are refused, no file is opened.
 /// Status 10 is that of a file that can't be opened, or whose length is none of an image. What else comes is what `tool`
-/// answers.
-pub fn run<R: Env + Files + Input + Print + AllocGlobal>(rt: &R) -> u8 {
+/// answers, or `session` where a run in threads is asked for.
+pub fn run<R: Env + Files<File = File> + Input + Print + AllocGlobal + Threads + Wait + Sync>(
+    rt: &R,
+) -> u8 {
     let mut out = StdSink::of(io::writer(rt));
     match words_after_name(rt) {
         Ok(words) => obey(rt, &words, &mut out),

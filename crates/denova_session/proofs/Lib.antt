@@ -1,0 +1,4 @@
+pub mod Threaded
+pub mod Ran
+pub mod Statuses
+pub mod Completes
