@@ -40,8 +40,8 @@ fn barred(alloc: Global, text: &[u8]) -> Result<Vec<u8>, AllocError> {
 }
 
 #[test]
-fn spells_words_and_lines(rt: HostRuntime) -> Result<(), Fail> {
-    let numbers = [
+fn spells_numbers(rt: HostRuntime) -> Result<(), Fail> {
+    for (word, wanted) in [
         ("0", Some(0)),
         ("7", Some(7)),
         ("90", Some(90)),
@@ -54,28 +54,35 @@ fn spells_words_and_lines(rt: HostRuntime) -> Result<(), Fail> {
         ("+7", None),
         ("-7", None),
         ("7a", None),
-    ];
-    for (word, wanted) in numbers {
+    ] {
         assert_eq!(rt; number_of(word.as_bytes()), wanted, "at {word:?}");
     }
-    let bytes = [
+    Ok(())
+}
+
+#[test]
+fn spells_bytes(rt: HostRuntime) -> Result<(), Fail> {
+    for (word, wanted) in [
         ("00", Some(0)),
         ("fF", Some(255)),
         ("1", None),
         ("123", None),
         ("0g", None),
-    ];
-    for (word, wanted) in bytes {
+    ] {
         assert_eq!(rt; byte_of(word.as_bytes()), wanted, "at {word:?}");
     }
-    let texts = [
+    Ok(())
+}
+
+#[test]
+fn parts_lines(rt: HostRuntime) -> Result<(), Fail> {
+    for (text, wanted) in [
         ("", ""),
         ("a", "|a"),
         ("a\n", "|a"),
         ("a\nbc", "|a|bc"),
         ("\n\na\n\n", "|||a|"),
-    ];
-    for (text, wanted) in texts {
+    ] {
         let lines = barred(rt.alloc(), text.as_bytes())?;
         assert_eq!(rt; lines.as_slice(), wanted.as_bytes(), "at {text:?}");
     }
@@ -217,30 +224,53 @@ fn write_five(alloc: Global, room: u64, fail_at: u64) -> Result<(bool, usize), A
 }
 
 #[test]
-fn moves_bytes(rt: HostRuntime) -> Result<(), Fail> {
-    let alloc = rt.alloc();
+fn reads_in_pieces(rt: HostRuntime) -> Result<(), Fail> {
     for (piece, takes) in [(1, 6), (2, 4), (3, 3), (5, 2), (9, 2)] {
         for fail_at in 1..9 {
-            let read = read_five(alloc, piece, fail_at)?;
+            let read = read_five(rt.alloc(), piece, fail_at)?;
+            let wanted = if fail_at > takes {
+                Some(b"hello".as_slice())
+            } else {
+                None
+            };
             assert_eq!(rt;
-                read.is_some(),
-                fail_at > takes,
+                read.as_deref(),
+                wanted,
                 "pieces of {piece}, failing at {fail_at}"
             );
-            if let Some(bytes) = read {
-                assert_eq!(rt; bytes.as_slice(), b"hello".as_slice());
-            }
         }
     }
-    assert_eq!(rt; read_many(alloc, 0)?, Ok(0));
-    assert_eq!(rt; read_many(alloc, 200_000)?, Ok(200_000));
-    assert_eq!(rt; read_many(alloc, 16_777_216)?, Ok(16_777_216));
-    assert_eq!(rt; read_many(alloc, 16_777_217)?, Err(ReadFault::TooLong));
-    assert_eq!(rt; write_five(alloc, 5, 0)?, (true, 5));
-    assert_eq!(rt; write_five(alloc, 9, 2)?, (true, 5));
-    assert_eq!(rt; write_five(alloc, 4, 0)?, (false, 4));
-    assert_eq!(rt; write_five(alloc, 0, 0)?, (false, 0));
-    assert_eq!(rt; write_five(alloc, 9, 1)?, (false, 0));
+    Ok(())
+}
+
+#[test]
+fn reads_as_much_as_a_job_may_have(rt: HostRuntime) -> Result<(), Fail> {
+    for (count, wanted) in [
+        (0, Ok(0)),
+        (200_000, Ok(200_000)),
+        (16_777_216, Ok(16_777_216)),
+        (16_777_217, Err(ReadFault::TooLong)),
+    ] {
+        assert_eq!(rt; read_many(rt.alloc(), count)?, wanted, "{count} bytes");
+    }
+    Ok(())
+}
+
+#[test]
+fn writes_what_there_is_room_for(rt: HostRuntime) -> Result<(), Fail> {
+    for (room, fail_at, wanted) in [
+        (5, 0, (true, 5)),
+        (9, 2, (true, 5)),
+        (4, 0, (false, 4)),
+        (0, 0, (false, 0)),
+        (9, 1, (false, 0)),
+    ] {
+        assert_eq!(rt;
+            write_five(rt.alloc(), room, fail_at)?,
+            wanted,
+            "{room}, {fail_at}"
+        );
+    }
     Ok(())
 }
 
