@@ -62,6 +62,22 @@ files() {
     timed "$1" "  check" "$folder/files.img" check
 }
 
+# threads PROGRAM PAGES INODES FILES EACH CLIENTS: times the same job by clients in threads, each of which makes files of its
+# own, and by one client.
+threads() {
+    files_job "$4" "$5" | awk -v clients="$6" '{
+        file = substr($2, 2) % clients + 1
+        if (file != client) { client = file; print "client " client }
+        print
+    }' >"$folder/clients"
+    "$1" "$folder/threads.img" format "$2" "$3" >/dev/null
+    cp "$folder/clients" "$folder/job"
+    timed "$1" "run, $4 files of $5 pages, $6 clients" "$folder/threads.img" run
+    "$1" "$folder/threads.img" format "$2" "$3" >/dev/null
+    grep -v "^client" "$folder/clients" >"$folder/job"
+    timed "$1" "  apply of the same" "$folder/threads.img" apply
+}
+
 # all PROGRAM: times the calls of one program.
 all() {
     echo "$1"
@@ -74,6 +90,9 @@ all() {
     files "$1" 4096 1024 1000 1
     files "$1" 16384 4096 4000 1
     files "$1" 65536 4096 4000 1
+    threads "$1" 16384 128 64 128 1
+    threads "$1" 16384 128 64 128 4
+    threads "$1" 16384 128 64 128 14
 }
 
 echo "processor time and memory of calls, $(date -u +%Y-%m-%dT%H:%MZ); $(uptime)"
