@@ -13,6 +13,3 @@ pub use worth::{is_worth_cleaning, pages_for};
 
 /// Memory is wanting.
 pub type NoMemory = AllocError;
-
-#[cfg(test)]
-mod tests;

@@ -100,6 +100,3 @@ impl WorkQueue {
         self.items.is_empty()
     }
 }
-
-#[cfg(test)]
-mod tests;

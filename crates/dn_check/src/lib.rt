@@ -9,8 +9,6 @@ pub mod finding;
 pub mod judge;
 pub mod read;
 mod rows;
-#[cfg(test)]
-mod tests;
 
 pub use checks::{check, check_words};
 pub use finding::{Finding, RowList};

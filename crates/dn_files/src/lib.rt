@@ -8,6 +8,3 @@ pub mod files;
 
 pub use applying::apply;
 pub use files::{FileText, Files};
-
-#[cfg(test)]
-mod tests;

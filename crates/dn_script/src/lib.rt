@@ -8,8 +8,6 @@ pub mod memory;
 pub mod reading;
 pub mod spelling;
 pub mod stream;
-#[cfg(test)]
-mod tests;
 pub mod text;
 pub mod work;
 

@@ -141,6 +141,3 @@ pub fn unlink<D: Pm>(
     let next = load_field(device, g, slot, FACT_NEXT);
     set_field(device, g, who, before, FACT_NEXT, next)
 }
-
-#[cfg(test)]
-mod tests;

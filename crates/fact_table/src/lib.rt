@@ -13,6 +13,3 @@ pub mod row;
 pub use fact::Fact;
 pub use fact_scan::{Row, direct_of};
 pub use load::FactFault;
-
-#[cfg(test)]
-mod tests;

@@ -19,6 +19,3 @@ use std::alloc::AllocError;
 
 /// Memory is wanting.
 pub type NoMemory = AllocError;
-
-#[cfg(test)]
-mod tests;

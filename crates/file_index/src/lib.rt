@@ -8,6 +8,3 @@ mod room;
 
 pub use name_map::NameMap;
 pub use page_map::{MOST_PLACES, Mapping, PageMap};
-
-#[cfg(test)]
-mod tests;

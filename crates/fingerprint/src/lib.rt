@@ -8,6 +8,3 @@ pub mod slot;
 pub use count::CountWord;
 pub use print::{Fingerprint, Sha1Print, SumPrint};
 pub use slot::FactSlot;
-
-#[cfg(test)]
-mod tests;

@@ -11,8 +11,6 @@ pub mod device;
 pub mod head;
 pub mod inodes;
 pub mod journal;
-#[cfg(test)]
-mod tests;
 
 pub use device::device_geometry;
 pub use head::{geometry_of, head_fault};

@@ -6,6 +6,3 @@ pub mod logs;
 mod usage;
 
 pub use logs::{FileLog, LogsFault, LogsRead, UsedInode, read_logs};
-
-#[cfg(test)]
-mod tests;

@@ -8,6 +8,3 @@ pub mod prepare;
 
 pub use flag::{set_flag, set_mask};
 pub use log::commit_log;
-
-#[cfg(test)]
-mod tests;

@@ -13,6 +13,3 @@ pub use item::{
 pub use name::{MOST_NAME, Name, NameFault, is_legal};
 pub use read::{Front, read_front, read_item};
 pub use write::{slots_of, write_item};
-
-#[cfg(test)]
-mod tests;

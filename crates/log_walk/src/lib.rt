@@ -9,6 +9,3 @@ pub mod slots;
 
 pub use items::Placed;
 pub use log::{LogRead, WalkFault, walk, walk_log};
-
-#[cfg(test)]
-mod tests;

@@ -8,8 +8,6 @@
 pub mod change;
 pub mod commit;
 mod pairs;
-#[cfg(test)]
-mod tests;
 pub mod undo;
 mod values;
 

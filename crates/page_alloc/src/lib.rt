@@ -141,6 +141,3 @@ impl FreeSet {
         self.count
     }
 }
-
-#[cfg(test)]
-mod tests;

@@ -7,7 +7,5 @@
 pub mod empty;
 pub mod laws;
 mod tables;
-#[cfg(test)]
-mod tests;
 
 pub use empty::{FormatFault, format};

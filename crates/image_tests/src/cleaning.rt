@@ -1,0 +1,82 @@
+ghost use Rattle.std.specs.Prelude.{◌+◌, ◌^◌, ◌<◌, ◌≤◌, All, ◌≡◌};
+ghost use Rattle.file_scan.specs.Index.{MayBeIndexed};
+
+use clean_items::{NoMemory, cleaned_items, is_worth_cleaning, pages_for};
+use file_scan::index_items;
+use log_entry::{Flag, LogItem};
+use log_walk::Placed;
+use std::alloc::Global;
+use std::test::Fail;
+
+// A Write of a file of four pages.
+fn write(slot: u64, first: u64, count: u64, block: u64, mask: u64) -> Placed
+    requires some { 1 ≤ count }
+    requires few { count ≤ 4 }
+    requires places { first + count ≤ 4 }
+    requires blocks { block + count ≤ 65536 }
+    requires mask { mask < 2 ^ count }
+    ensures { MayBeIndexed result }
+{
+    Placed {
+        slot,
+        item: LogItem::Write {
+            first,
+            count,
+            block,
+            size: 16384,
+            flag: Flag::Needed,
+            mask,
+        },
+    }
+}
+
+// The items of the cleaned log of a file.
+fn cleaned_file(alloc: Global, items: &[Placed]) -> Result<Vec<LogItem>, NoMemory>
+    requires { All MayBeIndexed items.now }
+{
+    let index = index_items(alloc, items)?;
+    cleaned_items(alloc, 1, items, index.size, &index.map)
+}
+
+// The places, the page and the mask of a Write that keeps its size and its flag.
+fn fields(item: &LogItem) -> Option<(u64, u64, u64, u64)> {
+    match item {
+        LogItem::Write {
+            first,
+            count,
+            block,
+            size: 16384,
+            flag: Flag::Needed,
+            mask,
+        } => Some((*first, *count, *block, *mask)),
+        _ => None,
+    }
+}
+
+#[test]
+fn splits_an_overwritten_write(rt: HostRuntime) -> Result<(), Fail> {
+    let alloc = rt.alloc();
+    let mut items = Vec::new(alloc);
+    items.push(write(641, 0, 4, 20, 10))?;
+    items.push(write(642, 1, 1, 30, 0))?;
+    let cleaned = cleaned_file(alloc, &items)?;
+    assert_eq!(rt; cleaned.len(), 3);
+    for (item, parts) in cleaned
+        .iter()
+        .zip(&[(0, 1, 20, 0), (2, 2, 22, 2), (1, 1, 30, 0)])
+    {
+        assert_eq!(rt; fields(item), Some(*parts));
+    }
+    assert!(rt; is_worth_cleaning(2, &cleaned));
+    assert!(rt; !is_worth_cleaning(1, &cleaned));
+    Ok(())
+}
+
+#[test]
+fn takes_no_page_for_no_item(rt: HostRuntime) -> Result<(), Fail> {
+    let cleaned = cleaned_file(rt.alloc(), &[])?;
+    assert!(rt; cleaned.is_empty());
+    assert!(rt; is_worth_cleaning(2, &cleaned));
+    assert_eq!(rt; pages_for(&[]), 0);
+    Ok(())
+}

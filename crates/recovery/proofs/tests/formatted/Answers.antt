@@ -1,5 +1,0 @@
-use Rattle.pm_device.proofs.Layers.{settled_new}
-use Rattle.recovery.proofs.tests.formatted.Goals as goal
-
-pub format-answer-requires-clause-still : goal.format-answer-requires-clause-still
-format-answer-requires-clause-still g c = λ a lt. settled_new _ _ a c.in_ok-device.ensures.state
