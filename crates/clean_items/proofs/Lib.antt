@@ -1,3 +1,2 @@
 pub mod PartsLoop
 pub mod NamesBack
-pub mod Counted

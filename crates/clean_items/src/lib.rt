@@ -5,11 +5,9 @@
 pub mod cleaned;
 pub mod names;
 pub mod parts;
-pub mod worth;
 
 pub use cleaned::cleaned_items;
 use std::alloc::AllocError;
-pub use worth::{is_worth_cleaning, pages_for};
 
 /// Memory is wanting.
 pub type NoMemory = AllocError;

@@ -8,7 +8,7 @@ use Rattle.pm_device.proofs.Layers.{leaves_only-then}
 use Rattle.pm_device.proofs.Moments.{leaves_only-weaken}
 use Rattle.pm_layout.specs.declared.Geometry.{Geometry}
 use Rattle.dn_model.specs.Disk.{Disk, DiskSays}
-use Rattle.dn_model.specs.Image.{StandsFor}
+use Rattle.dn_model.specs.Image.{StandsFor, HasNoFault}
 use Rattle.law_unique.proofs.RolledSame.{length-rolled}
 use Rattle.law_unique.proofs.Stages.{stands_pointers}
 use Rattle.dn_check.specs.declared.read.Halt.{Halt}
@@ -50,6 +50,9 @@ module _ (s u : State) (g : Geometry) (prepared : IsPrepared s u g) where
           still = prepared.back.still;
           read_of = is.each s.now d rolls stood;
         }
+
+    pub no_fault : HasNoFault s.now
+    no_fault = is.sound s.now rolls
 
     pub has_ready : HasReady g u read
     has_ready = let sound = is.sound s.now rolls in record { disk = sound.disk; is = ready_of sound.disk sound.stands_for }

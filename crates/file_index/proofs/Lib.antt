@@ -5,3 +5,5 @@ pub mod Radix
 pub mod Rooms
 pub mod Nodes
 pub mod PageMaps
+pub mod RunCounts
+pub mod SlotCounts

@@ -5,6 +5,7 @@ pub mod name_map;
 mod node;
 pub mod page_map;
 mod room;
+mod run_count;
 
 pub use name_map::NameMap;
 pub use page_map::{MOST_PLACES, Mapping, PageMap};

@@ -2,11 +2,13 @@
 ghost use Rattle.std.specs.Prelude.{◌≡◌, ℕ, ◌<◌, ◌≤◌, None, OnOk, OnErr, IfSome, IfNone};
 ghost use Rattle.std.specs.FinMap.{get, empty};
 ghost use Rattle.file_index.specs.Index.{Puts, CutsOff, IsLastBelow};
+ghost use Rattle.file_index.specs.Runs.{runs_of};
 
 use crate::node::{
     Node, PLACES, clear_from, last_cell, made_nodes, missing, open_node, open_root, read_cell,
     write_cell,
 };
+use crate::run_count::{begins_near, count_runs};
 use std::alloc::{AllocError, Global};
 use std::marker::Model;
 
@@ -29,13 +31,17 @@ pub struct Mapping {
 /// A contract sees a finite map from places to mappings, and the room: how many more places can be
 /// mapped without memory. Each file has such an index in ordinary memory, which is made anew from its
 /// log, as in NOVA (FAST 2016). It is a radix tree of two levels: a root of 64 nodes, each of 64
-/// places. To look a place up and to map it take the same time however many are mapped.
+/// places. To look a place up and to map it take the same time however many are mapped. It also tells
+/// in constant time how many runs of places there are that one item maps: as many Writes has a log that
+/// says no more than this map.
 #[derive(Debug, Drop)]
 pub struct PageMap {
     // 64, or none before the first reserve; a node is empty until one of its places is mapped
     nodes: Vec<Node>,
     // nodes of 64 places without mappings, for those that are empty
     spare: Vec<Node>,
+    // how many runs of places of one item there are
+    runs: u64,
 }
 
 impl Model for PageMap {
@@ -46,7 +52,8 @@ impl Model for PageMap {
     ghost use Rattle.file_index.specs.declared.page_map.Mapping.{Mapping};
     ghost use Rattle.file_index.specs.contracts.page_map.Mapping as page;
     ghost use Rattle.file_index.specs.Index.{Index, index_code};
-    ghost use Rattle.file_index.specs.Radix.{IsRadix, cells, filled, radix_map, radix_room};
+    ghost use Rattle.file_index.specs.Radix.{cells, filled, radix_map, radix_room};
+    ghost use Rattle.file_index.specs.Runs.{IsCounted};
 
     ghost Value = { Index nat_cmp Mapping };
 
@@ -57,7 +64,7 @@ impl Model for PageMap {
       room = radix_room (filled (cells m.nodes.items)) (length (cells m.spare.items));
     } };
 
-    ghost invariant = { λ m. IsRadix (cells m.nodes.items) (cells m.spare.items) };
+    ghost invariant = { λ m. IsCounted (cells m.nodes.items) (cells m.spare.items) m.runs };
 }
 
 impl PageMap {
@@ -68,6 +75,7 @@ impl PageMap {
         PageMap {
             nodes: Vec::new(alloc),
             spare: Vec::new(alloc),
+            runs: 0,
         }
     }
 
@@ -109,14 +117,19 @@ impl PageMap {
     {
         let place = idx as usize;
         open_node(&mut self.nodes, &mut self.spare, place / PLACES);
+        let before = begins_near(&self.nodes, place);
         write_cell(&mut self.nodes, place, Some(mapping));
+        let after = begins_near(&self.nodes, place);
+        self.runs = self.runs + after - before;
     }
 
     /// Drops the mappings of all places from this one on.
     pub fn cut(&mut self, idx: u64)
         ensures { CutsOff idx self.old self.new }
     {
-        clear_from(&mut self.nodes, idx as usize);
+        let from = idx as usize;
+        self.runs -= count_runs(&self.nodes, from);
+        clear_from(&mut self.nodes, from);
     }
 
     /// The greatest place below this one that is mapped, or None where there is none.
@@ -125,5 +138,13 @@ impl PageMap {
         ensures none { IfNone result ((k : ℕ) → k < idx → get self.now.map k ≡ None) }
     {
         last_cell(&self.nodes, idx as usize)
+    }
+
+    /// How many maximal runs of consecutive places there are, each of places that the same item maps. An
+    /// item that is mapped over in the middle has two.
+    pub fn runs(&self) -> u64
+        ensures { result ≡ runs_of self.now.map }
+    {
+        self.runs
     }
 }

@@ -1,10 +1,12 @@
 ghost use Rattle.std.specs.Prelude.{◌+◌, ◌^◌, ◌<◌, ◌≤◌, All, ◌≡◌};
 ghost use Rattle.file_scan.specs.Index.{MayBeIndexed};
 
-use clean_items::{NoMemory, cleaned_items, is_worth_cleaning, pages_for};
+use clean_items::{NoMemory, cleaned_items};
+use file_index::{Mapping, PageMap};
 use file_scan::index_items;
 use log_entry::{Flag, LogItem};
 use log_walk::Placed;
+use log_worth::{file_slots, is_file_worth_cleaning, is_worth_cleaning};
 use std::alloc::Global;
 use std::test::Fail;
 
@@ -67,8 +69,8 @@ fn splits_an_overwritten_write(rt: HostRuntime) -> Result<(), Fail> {
     {
         assert_eq!(rt; fields(item), Some(*parts));
     }
-    assert!(rt; is_worth_cleaning(2, &cleaned));
-    assert!(rt; !is_worth_cleaning(1, &cleaned));
+    let index = index_items(alloc, &items)?;
+    assert_eq!(rt; file_slots(index.size, &index.map), 3);
     Ok(())
 }
 
@@ -76,7 +78,40 @@ fn splits_an_overwritten_write(rt: HostRuntime) -> Result<(), Fail> {
 fn takes_no_page_for_no_item(rt: HostRuntime) -> Result<(), Fail> {
     let cleaned = cleaned_file(rt.alloc(), &[])?;
     assert!(rt; cleaned.is_empty());
-    assert!(rt; is_worth_cleaning(2, &cleaned));
-    assert_eq!(rt; pages_for(&[]), 0);
+    assert_eq!(rt; file_slots(0, &PageMap::new(rt.alloc())), 0);
+    Ok(())
+}
+
+#[test]
+fn half_of_the_pages_is_few_enough(rt: HostRuntime) -> Result<(), Fail> {
+    for (pages, slots, worth) in [
+        (0, 0, false),
+        (1, 0, false),
+        (2, 0, true),
+        (2, 63, true),
+        (2, 64, false),
+        (3, 64, false),
+        (4, 126, true),
+        (4, 127, false),
+    ] {
+        assert_eq!(rt; is_worth_cleaning(pages, slots), worth);
+    }
+    Ok(())
+}
+
+#[test]
+fn counts_runs_of_a_file(rt: HostRuntime) -> Result<(), Fail> {
+    let mut map = PageMap::new(rt.alloc());
+    assert!(rt; is_file_worth_cleaning(2, 4096, &map));
+    map.reserve(64)?;
+    for bit in 0..64 {
+        let mapping = Mapping {
+            block: 100 + bit,
+            slot: 65 + bit,
+            bit: 0,
+        };
+        map.set(bit, mapping);
+        assert_eq!(rt; is_file_worth_cleaning(2, 262144, &map), bit < 63);
+    }
     Ok(())
 }

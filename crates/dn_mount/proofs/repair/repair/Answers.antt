@@ -1,7 +1,7 @@
 use Rattle.std.proofs.lemmas.Result.{err_from_is_err_and}
 use Rattle.pm_device.specs.Settled.{Nowhere}
 use Rattle.pm_device.proofs.Only.{stores_only-same, stores_only-then}
-use Rattle.dn_mount.proofs.Repaired.{ready_of, has_ready, read_fault, first_images, then_images, on_ok_scan}
+use Rattle.dn_mount.proofs.Repaired.{ready_of, has_ready, no_fault, read_fault, first_images, then_images, on_ok_scan}
 use Rattle.dn_mount.proofs.repair.repair.Goals as goal
 
 pub returns-in_err-read-clause-fault : goal.returns-in_err-read-clause-fault
@@ -22,6 +22,13 @@ returns-clause-scan g c =
     on_ok_scan c.settle_read.result _ _ (λ scan done d stood. done d
     (ready_of (S c.args.device.now) (S c.prepare.new.device) c.in_ok-g.g c.in_ok-g.ensures.ready c.in_ok-read.read c.in_ok-read.ensures.read d stood))
     c.settle_read.ensures.done
+
+pub returns-clause-sound : goal.returns-clause-sound
+returns-clause-sound g c =
+    let S = g.D.Pm.state in
+    let sound = no_fault (S c.args.device.now) (S c.prepare.new.device) c.in_ok-g.g c.in_ok-g.ensures.ready c.in_ok-read.read
+    c.in_ok-read.ensures.read in
+    on_ok_scan c.settle_read.result _ _ (λ scan done. sound) c.settle_read.ensures.done
 
 pub returns-clause-images : goal.returns-clause-images
 returns-clause-images g c =

@@ -9,11 +9,11 @@ returns-clause-last c =
     let last = rw c.deref.ensures.value at c.last_cell.ensures.last in
     rw (← c.self.view_is)
     (IfSome_then c.last_cell.result last
-    (λ n is. last_is (cells c.self.inside.nodes.items) (cells c.self.inside.spare.items) c.args.idx c.self.invariant n is))
+    (λ n is. last_is (cells c.self.inside.nodes.items) (cells c.self.inside.spare.items) c.args.idx c.self.invariant.radix n is))
 
 pub returns-clause-none : goal.returns-clause-none
 returns-clause-none c =
     let none = rw c.deref.ensures.value at c.last_cell.ensures.none in
     rw (← c.self.view_is)
     (none_then c.last_cell.result none
-    (λ is. none_is (cells c.self.inside.nodes.items) (cells c.self.inside.spare.items) c.args.idx c.self.invariant is))
+    (λ is. none_is (cells c.self.inside.nodes.items) (cells c.self.inside.spare.items) c.args.idx c.self.invariant.radix is))

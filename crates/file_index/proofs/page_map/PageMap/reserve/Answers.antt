@@ -42,20 +42,20 @@ pub returns-in_err-append-clause-map : goal.returns-in_err-append-clause-map
 returns-in_err-append-clause-map c =
     rw (← c.self.view_is)
     (same_radix (cells c.self.inside.nodes.items) (cells c.self.inside.spare.items) (cells c.open_root.new.nodes.items)
-    (cells c.append.new.self.items) c.self.invariant c.in_ok-open_root.ensures.ok)
+    (cells c.append.new.self.items) c.self.invariant.radix c.in_ok-open_root.ensures.ok)
 
 pub returns-in_err-append-clause-err : goal.returns-in_err-append-clause-err
 returns-in_err-append-clause-err c =
     rw (← c.self.view_is)
     (on_err c.from_residual-in_err-append.result
     (index_is (cells c.self.inside.nodes.items) (cells c.self.inside.spare.items) (cells c.open_root.new.nodes.items)
-    (cells c.append.new.self.items) c.self.invariant c.in_ok-open_root.ensures.ok (ap (λ l. length (cells l)) c.in_err-append.ensures.items)))
+    (cells c.append.new.self.items) c.self.invariant.radix c.in_ok-open_root.ensures.ok (ap (λ l. length (cells l)) c.in_err-append.ensures.items)))
 
 pub returns-clause-map : goal.returns-clause-map
 returns-clause-map c =
     rw (← c.self.view_is)
     (same_radix (cells c.self.inside.nodes.items) (cells c.self.inside.spare.items) (cells c.open_root.new.nodes.items)
-    (cells c.append.new.self.items) c.self.invariant c.in_ok-open_root.ensures.ok)
+    (cells c.append.new.self.items) c.self.invariant.radix c.in_ok-open_root.ensures.ok)
 
 pub returns-clause-ok : goal.returns-clause-ok
 returns-clause-ok c =
@@ -63,7 +63,7 @@ returns-clause-ok c =
     let more = c.append.new.self in
     let missing = rw c.deref.ensures.value at c.missing.ensures in
     room_now (cells c.self.inside.nodes.items) (cells spare.items) (cells c.open_root.new.nodes.items) (cells more.items)
-    c.self.invariant c.in_ok-open_root.ensures.ok c.args.more (omega (arith, c.ranges.more))
+    c.self.invariant.radix c.in_ok-open_root.ensures.ok c.args.more (omega (arith, c.ranges.more))
     (omega (
       arith,
       missing,
@@ -82,5 +82,5 @@ returns-clause-no_less c =
     let more = c.append.new.self in
     rw (← c.self.view_is)
     (room_grows (cells c.self.inside.nodes.items) (cells spare.items) (cells c.open_root.new.nodes.items) (cells more.items)
-    c.self.invariant c.in_ok-open_root.ensures.ok
+    c.self.invariant.radix c.in_ok-open_root.ensures.ok
     (omega (arith, c.in_ok-append.ensures.len, cells_long spare.items, spare.ok.0, cells_long more.items, more.ok.0)))

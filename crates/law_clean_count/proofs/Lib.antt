@@ -1,0 +1,4 @@
+pub mod Totals
+pub mod Starts
+pub mod WriteCounts
+pub mod NameCounts
