@@ -103,8 +103,8 @@ fn half_of_the_pages_is_few_enough(rt: HostRuntime) -> Result<(), Fail> {
 fn counts_runs_of_a_file(rt: HostRuntime) -> Result<(), Fail> {
     let mut map = PageMap::new(rt.alloc());
     assert!(rt; is_file_worth_cleaning(2, 4096, &map));
-    map.reserve(64)?;
     for bit in 0..64 {
+        map.reserve(1)?;
         let mapping = Mapping {
             block: 100 + bit,
             slot: 65 + bit,
