@@ -124,7 +124,7 @@ module _ (g : Geometry) (log : Log) (paged : IsPaged g log) where
       record { at = rest.at; low = omega (arith, rest.low); high = omega (arith, rest.high, long); slot_is = rest.slot_is }
 
   -- the first slot is no slot of the items after it
-  first_apart : (k : ℕ) (item : LogItem) (items : List LogItem) (q : Placed) → k + length (spelled (item ∷ items)) ≤ count log
+  pub first_apart : (k : ℕ) (item : LogItem) (items : List LogItem) (q : Placed) → k + length (spelled (item ∷ items)) ≤ count log
       → Among q (placed_from log.pages (k + length (spelling item)) items) → slot_name log.pages k ≢ q.slot
   first_apart k item items q fits in' e =
       let long = length-spelled-cons item items in

@@ -1,6 +1,6 @@
 -- A file's cleaned log has as many Writes as there are runs.
-use Rattle.std.proofs.Common.{◌≡◌, ◌≢◌, inl, inr, ℕ, zero, suc, ◌+◌, ◌/◌, ◌%◌, ◌<◌, ◌≤◌, Bool, true, false, List, [], ◌∷◌, length, refl, sym, ◌∙◌, ap, subst, arith}
-use Rattle.std.specs.Prelude.{Option, Some, None, ◌==◌, if◌then◌else◌, slice_index}
+use Rattle.std.proofs.Common.{◌≡◌, ◌≢◌, inl, inr, ℕ, zero, suc, ◌+◌, ◌≤◌, Bool, true, false, List, [], ◌∷◌, length, refl, sym, ◌∙◌, ap, subst, arith}
+use Rattle.std.specs.Prelude.{Option, Some, None, ◌==◌, if◌then◌else◌}
 use Rattle.std.specs.Option.{option_map}
 use Rattle.std.specs.FinMap.{get}
 use Rattle.std.proofs.lemmas.Bool.{eqb-true, eq-eqb}
@@ -8,18 +8,17 @@ use Rattle.pm_layout.specs.declared.Geometry.{Geometry}
 use Rattle.log_entry.specs.Spelling.{spelling, spelled}
 use Rattle.log_entry.specs.declared.item.LogItem.{LogItem}
 use Rattle.log_entry.specs.declared.item.LogItem.TheVariants.{Size}
-use Rattle.log_entry.proofs.Spelled.{length-spelled-cons, spelling_some}
+use Rattle.log_entry.proofs.Spelled.{length-spelled-cons}
 use Rattle.dn_model.specs.Log.{Log, IsPaged, Placed, placed, placed_from, slot_name, count}
 use Rattle.dn_model.specs.Maps.{Mapping, mapping, size_of}
 use Rattle.dn_model.specs.Valid.{IsLog}
-use Rattle.dn_model.proofs.Append.{same_index}
 use Rattle.file_index.specs.declared.page_map.Mapping.{Mapping as KeptMapping}
 use Rattle.file_index.specs.Runs.{run_begins, before_of, begins_at, runs_below, runs_of}
 use Rattle.file_index.proofs.RunCounts.{runs_below-none, runs_below-more, runs-same}
 use Rattle.file_content.specs.Content.{kept}
 use Rattle.law_clean.specs.Cleaned.{is_by, parts_of, still_mapped, or_size, cleaned_items}
 use Rattle.law_clean.proofs.Among.{Among}
-use Rattle.law_clean.proofs.Mappers.{mapped_by}
+use Rattle.law_clean.proofs.Mappers.{first_apart, mapped_by}
 use Rattle.law_clean.proofs.Parts.{IsPart, is_part}
 use Rattle.law_clean_count.specs.CountLaws.{or_size_slots, WritesAreRuns, FileTakesRuns}
 use Rattle.law_clean_count.proofs.Totals.{total, total-none, total-more, total-same, over, over-none, over-same, length-flat_map, turned}
@@ -30,42 +29,8 @@ runs_total : (c : ℕ → Option KeptMapping) (n : ℕ) → total (begins_at c) 
 runs_total c zero = total-none (begins_at c) ∙ sym (runs_below-none c)
 runs_total c (suc n) = total-more (begins_at c) n ∙ ap (λ m. m + begins_at c n) (runs_total c n) ∙ sym (runs_below-more c n)
 
--- items have different slots
+-- just one item is at the slot of an item
 module _ (g : Geometry) (log : Log) (paged : IsPaged g log) where
-  one_slot : (k l : ℕ) → k < count log → l < count log → slot_name log.pages k ≡ slot_name log.pages l → k ≡ l
-  one_slot k l kl ll e =
-      let page : slice_index log.pages (k / 63) ≡ slice_index log.pages (l / 63) = omega (arith, e) in
-      let place : k % 63 ≡ l % 63 = omega (arith, e) in
-      same_index k l (paged.apart (k / 63) (l / 63) (omega (arith, paged.fits)) (omega (arith, paged.fits)) page) place
-
-  -- where an item's first slot is
-  record Offset (k end : ℕ) (p : Placed) : Type 0 where
-    at : ℕ
-    low : k ≤ at
-    high : at < end
-    slot_is : p.slot ≡ slot_name log.pages at
-
-  offset : (k : ℕ) (items : List LogItem) (p : Placed) → Among p (placed_from log.pages k items) → Offset k (k + length (spelled items)) p
-  offset k [] p in' = absurd in'
-  offset k (item ∷ items) p (inl e) =
-      let long = length-spelled-cons item items in
-      let some = spelling_some item in
-      record { at = k; low = omega arith; high = omega (arith, long, some); slot_is = sym (ap (λ (q : Placed). q.slot) e) }
-  offset k (item ∷ items) p (inr in') =
-      let long = length-spelled-cons item items in
-      let rest = offset (k + length (spelling item)) items p in' in
-      record { at = rest.at; low = omega (arith, rest.low); high = omega (arith, rest.high, long); slot_is = rest.slot_is }
-
-  first_apart : (k : ℕ) (item : LogItem) (items : List LogItem) (q : Placed) → k + length (spelled (item ∷ items)) ≤ count log
-      → Among q (placed_from log.pages (k + length (spelling item)) items) → slot_name log.pages k ≢ q.slot
-  first_apart k item items q fits in' e =
-      let long = length-spelled-cons item items in
-      let some = spelling_some item in
-      let at = offset (k + length (spelling item)) items q in' in
-      let same : k ≡ at.at = one_slot k at.at (omega (arith, long, some)) (omega (arith, at.high, long)) (e ∙ at.slot_is) in
-      omega (arith, same, at.low, some)
-
-  -- just one item is at the slot of an item
   abbrev at_slot : ℕ → ℕ → Placed → ℕ
   at_slot slot n p = if slot == p.slot then n else 0
 
@@ -91,12 +56,12 @@ module _ (g : Geometry) (log : Log) (paged : IsPaged g log) where
       let here : first.slot ≡ slot = ap (λ (q : Placed). q.slot) e ∙ is in
       let one : at_slot slot n first ≡ n = ap (λ (b : Bool). if b then n else 0) (eq-eqb slot first.slot (sym here)) in
       plus_none (at_slot slot n first) (over (at_slot slot n) rest) n one
-      (over-none (at_slot slot n) rest (λ q in'. not_at slot n q (λ same. first_apart k item items q fits in' (here ∙ sym same))))
+      (over-none (at_slot slot n) rest (λ q in'. not_at slot n q (λ same. first_apart g log paged k item items q fits in' (here ∙ sym same))))
   just_one n slot k (item ∷ items) p fits (inr in') is =
       let first : Placed = record { slot = slot_name log.pages k; item = item } in
       let rest : List Placed = placed_from log.pages (k + length (spelling item)) items in
       none_plus (at_slot slot n first) (over (at_slot slot n) rest) n
-      (not_at slot n first (λ same. first_apart k item items p fits in' (same ∙ sym is)))
+      (not_at slot n first (λ same. first_apart g log paged k item items p fits in' (same ∙ sym is)))
       (just_one n slot (k + length (spelling item)) items p (omega (arith, fits, length-spelled-cons item items)) in' is)
 
 module _ (g : Geometry) (ino : ℕ) (log : Log) (good : IsLog g ino log) where
