@@ -63,6 +63,7 @@ keeps_but_history b b' is room = record {
       raised = ap (λ (p : Parts). p.reclaiming.raised) is;
       releases = ap (λ (p : Parts). p.reclaiming.releases.items) is;
       waiting = ap (λ (p : Parts). p.reclaiming.waiting) is;
+      cleaning = ap (λ (p : Parts). p.reclaiming.cleaning) is;
       trace = ap (λ (p : Parts). p.trace.items) is;
       stopped = ap (λ (p : Parts). p.stopped) is;
     };

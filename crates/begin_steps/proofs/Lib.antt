@@ -4,5 +4,6 @@ pub mod Loose
 pub mod Answered
 mod HoldsAll
 pub mod Members
+pub mod Cleanings
 pub mod Started
 pub mod Opened

@@ -1,11 +1,9 @@
 -- What is left of free pages.
-use Rattle.std.proofs.Common.{◌≡◌, ◌⊎◌, inl, inr, ⊎_elim, ℕ, ◌<◌, List, [], ◌∷◌, ◌++◌, sym, subst}
-use Rattle.std.specs.Prelude.{Contains, All}
-use Rattle.std.proofs.lemmas.Bool.{cases_eq}
+use Rattle.std.proofs.Common.{ℕ, ◌<◌, List, [], ◌∷◌, ◌++◌, sym, subst}
+use Rattle.std.specs.Prelude.{All}
 use Rattle.std.specs.List.Sorted.{IsStrictlyIncreasing}
 use Rattle.std.proofs.lemmas.List.Elements.{All-tail}
 use Rattle.page_alloc.specs.Free.{FreePages, IsInOrder}
-use Rattle.law_unique.proofs.Listings.{none_listed, here, later, cons_cases}
 use Rattle.file_write.specs.Take.{TakesFirst}
 use Rattle.file_write.proofs.Taking.{rising-behind}
 

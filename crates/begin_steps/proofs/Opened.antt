@@ -44,6 +44,7 @@ keeps_made_room b b' made =
           raised = ap (λ (p : Parts). p.reclaiming.raised) is;
           releases = made.releases;
           waiting = ap (λ (p : Parts). p.reclaiming.waiting) is;
+          cleaning = ap (λ (p : Parts). p.reclaiming.cleaning) is;
           trace = made.trace;
           stopped = ap (λ (p : Parts). p.stopped) is;
         };
@@ -77,6 +78,7 @@ keeps_place_room b b' made =
           raised = ap (λ (p : Parts). p.reclaiming.raised) is;
           releases = ap (λ (p : Parts). p.reclaiming.releases.items) is;
           waiting = ap (λ (p : Parts). p.reclaiming.waiting) is;
+          cleaning = ap (λ (p : Parts). p.reclaiming.cleaning) is;
           trace = ap (λ (p : Parts). p.trace.items) is;
           stopped = ap (λ (p : Parts). p.stopped) is;
         };
@@ -88,6 +90,7 @@ keeps_place_room b b' made =
               used = ap (λ (m : InodeState). m.used) more.node;
               size = ap (λ (m : InodeState). m.size) more.node;
               places = more.map;
+              log_pages = ap (λ (m : InodeState). m.log_pages) more.node;
               round = ap (λ (m : InodeState). m.round) more.node;
             };
             holder = ap (λ (m : InodeState). m.holder) more.node;
@@ -151,6 +154,7 @@ module _ {D F : Type 0} (state : D → State) (who : ℕ) (op : Op) (left : ℕ)
     raised = ap (λ (p : Parts). p.reclaiming.raised) starts.parts;
     releases = ap (λ (p : Parts). p.reclaiming.releases.items) starts.parts;
     waiting = ap (λ (p : Parts). p.reclaiming.waiting) starts.parts;
+    cleaning = ap (λ (p : Parts). p.reclaiming.cleaning) starts.parts;
     trace = ap (λ (p : Parts). p.trace.items) starts.parts;
     stopped = ap (λ (p : Parts). p.stopped) starts.parts;
   }
@@ -165,6 +169,7 @@ module _ {D F : Type 0} (state : D → State) (who : ℕ) (op : Op) (left : ℕ)
       used = ap (λ (x : InodeState). x.used) two.node ∙ one.same.used;
       size = ap (λ (x : InodeState). x.size) two.node ∙ one.same.size;
       places = ap (λ (x : InodeState). x.map.map) two.node ∙ one.same.places;
+      log_pages = ap (λ (x : InodeState). x.log_pages) two.node ∙ one.same.log_pages;
       round = ap (λ (x : InodeState). x.round) two.node ∙ one.same.round;
     };
     loose = λ has. sym one.holder ∙ may.loose ino m has at;
@@ -208,6 +213,7 @@ module _ {D F : Type 0} (state : D → State) (who : ℕ) (op : Op) (left : ℕ)
     now = starts.flight;
     others = λ k other. starts.others k other ∙ ap (λ fs. flight_at fs k) keeps.same.flights;
     sharing = ap (λ (p : Parts). p.sharing) starts.parts ∙ keeps.same.work.sharing;
+    cleaning = ap (λ (p : Parts). p.reclaiming.cleaning) starts.parts ∙ keeps.same.work.cleaning;
   }
 
   pub begun : HasAll d v.parts op → f.op ≡ op → left ≡ left_of f → IsFreshChange f.change

@@ -22,17 +22,18 @@ use Rattle.dn_volume.specs.declared.background.DyingPlace.{DyingPlace}
 use Rattle.dn_volume.specs.declared.volume.InodeState.{InodeState}
 use Rattle.dn_volume.specs.declared.volume.Parts.{Parts}
 use Rattle.dn_volume.specs.declared.volume.Room.{Room}
-use Rattle.dn_volume.specs.Parties.{Flies, Holds, by_client, by_daemon, Takes, for_client}
+use Rattle.dn_volume.specs.Parties.{Flies, Holds, by_client, by_daemon, by_cleaning, Takes, for_client, for_cleaning}
 use Rattle.dn_volume.specs.Inodes.{AreHolders, as_use}
 use Rattle.dn_volume.specs.Space.{HasSpace, AreSlotsOf}
 use Rattle.dn_volume.specs.Balance.{times, AreCounted}
 use Rattle.dn_volume.specs.Flights.{IsFlight}
 use Rattle.dn_volume.specs.Shares.{IsWaiting, in_queue, is_begun}
 use Rattle.dn_volume.specs.Reclaims.{one_if}
-use Rattle.dn_volume.specs.Reserve.{HasRoom, owed_sum, units_to_share, changes_to_share}
+use Rattle.dn_volume.specs.Reserve.{HasRoom, owed_sum, units_to_share, changes_to_share, units_to_clean, queue_to_clean}
 use Rattle.dn_volume.specs.Kept.{OfInodes, IsSameInode}
 use Rattle.dn_volume.specs.Agrees.{StandsFast, IsVolume}
 use Rattle.dn_volume.specs.Rely.{LeavesRest, IsFor, IsWordOf, StayInHand}
+use Rattle.dn_volume.proofs.Lefts.{left_still}
 use Rattle.dn_volume.proofs.Stills.{still_same}
 use Rattle.dn_volume.proofs.OthersStay.{others_stay}
 use Rattle.dn_volume.proofs.MappingsMoved.{mappings_counted}
@@ -100,16 +101,20 @@ module _ (d : Disk) (b b' : Parts) (s t : State) (v : IsVolume d b s) (agree : A
   holds_still : (q ino : ℕ) → Holds b q ino → Holds b' q ino
   holds_still q ino (by_client f flies has) = by_client f (still' q f flies) has
   holds_still q ino (by_daemon item him is same) = by_daemon item him (keeps.same.work.sharing ∙ is) same
+  holds_still q ino (by_cleaning c him is same) = by_cleaning c him (keeps.same.work.cleaning ∙ is) same
 
   holds_before : (q ino : ℕ) → Holds b' q ino → Holds b q ino
   holds_before q ino (by_client f flies has) = by_client f (before q f flies) has
   holds_before q ino (by_daemon item him is same) = by_daemon item him (sym keeps.same.work.sharing ∙ is) same
+  holds_before q ino (by_cleaning c him is same) = by_cleaning c him (sym keeps.same.work.cleaning ∙ is) same
 
   takes_still : (q page : ℕ) → Takes b q page → Takes b' q page
   takes_still q page (for_client f flies has) = for_client f (still' q f flies) has
+  takes_still q page (for_cleaning c him is has) = for_cleaning c him (keeps.same.work.cleaning ∙ is) has
 
   takes_before : (q page : ℕ) → Takes b' q page → Takes b q page
   takes_before q page (for_client f flies has) = for_client f (before q f flies) has
+  takes_before q page (for_cleaning c him is has) = for_cleaning c him (sym keeps.same.work.cleaning ∙ is) has
 
   waits_still : (ino slot : ℕ) → IsWaiting b ino slot → IsWaiting b' ino slot
   waits_still ino slot (in_queue work n has at_ino at_slot at round) =
@@ -118,9 +123,9 @@ module _ (d : Disk) (b b' : Parts) (s t : State) (v : IsVolume d b s) (agree : A
       (round ∙ sym now.2.same.round)
   waits_still ino slot (is_begun item is at_ino at_slot) = is_begun item (keeps.same.work.sharing ∙ is) at_ino at_slot
 
-  stay : ((q : ℕ) (f : Flight) → q ≢ 0 → Flies b' q f → IsFlight d q f t) × StayInHand 0 d b'
+  stay : ((q : ℕ) (f : Flight) → q ≢ 0 → Flies b' q f → IsFlight d q f t) × StayInHand 0 d b' t
   stay = others_stay 0 [] [] d d b b' s t v (fast_same d b.geometry s t agree device v.fast) (for_none d b.geometry s t agree device b 0)
-      (leaves_same d b.geometry s t agree device 0) (others_same b b' keeps.same.flights keeps.same.work.sharing 0)
+      (leaves_same d b.geometry s t agree device 0) (others_same b b' keeps.same.flights keeps.same.work.sharing keeps.same.work.cleaning 0)
       (λ other. keeps.same.work.raised)
 
   holders : AreHolders d b'
@@ -143,7 +148,8 @@ module _ (d : Disk) (b b' : Parts) (s t : State) (v : IsVolume d b s) (agree : A
     takes = λ who page takes. v.space.takes who page (takes_before who page takes);
     taken = λ page some. takes_still (v.space.taker page) page (v.space.taken page some);
     unused = v.space.unused;
-    left = subst (λ (x : FreePages). 2 ≤ length x.free) (sym keeps.same.free) v.space.left;
+    some = subst (λ (x : FreePages). 1 ≤ length x.free) (sym keeps.same.free) v.space.some;
+    left = left_still b b' keeps.same.free (takes_still 16) v.space.left;
   }
 
   releases_long : length b'.reclaiming.releases.items ≡ length b.reclaiming.releases.items
@@ -187,6 +193,8 @@ module _ (d : Disk) (b b' : Parts) (s t : State) (v : IsVolume d b s) (agree : A
       let o_releases = owed_as (λ r. r.releases) in
       let share_units = ap units_to_share keeps.same.work.sharing in
       let share_trace = ap changes_to_share keeps.same.work.sharing in
+      let clean_units = ap units_to_clean keeps.same.work.cleaning in
+      let clean_queue = ap queue_to_clean keeps.same.work.cleaning in
       let w_units = was.owes.units in
       let w_trace = was.owes.trace in
       let w_history = was.owes.history in
@@ -201,10 +209,10 @@ module _ (d : Disk) (b b' : Parts) (s t : State) (v : IsVolume d b s) (agree : A
       let q_names = keeps.names in
       record {
         owes = record {
-          units = omega (arith, w_units, sums_units, o_units, share_units, raised_if, check_if);
+          units = omega (arith, w_units, sums_units, o_units, share_units, raised_if, check_if, clean_units);
           trace = omega (arith, w_trace, sums_trace, o_trace, share_trace);
           history = omega (arith, w_history, sums_history, o_history);
-          queue = omega (arith, w_queue, sums_queue, o_queue);
+          queue = omega (arith, w_queue, sums_queue, o_queue, clean_queue);
           releases = omega (arith, w_releases, sums_releases, o_releases, raised_if);
         };
         units = omega (arith, o_units, units);
@@ -233,6 +241,7 @@ module _ (d : Disk) (b b' : Parts) (s t : State) (v : IsVolume d b s) (agree : A
             use_is = was.use_is ∙ ap as_use (sym from.2.same.used);
             size_is = λ used. was.size_is used ∙ sym from.2.same.size;
             small = let few = was.small in let same = from.2.same.size in omega (arith, few, same);
+            log_pages = λ used. was.log_pages used ∙ sym from.2.same.log_pages;
             places = λ idx. ap (λ (m : FinMap nat_cmp Mapping). get m idx) from.2.same.places ∙ was.places idx;
           };
     };
@@ -252,6 +261,7 @@ module _ (d : Disk) (b b' : Parts) (s t : State) (v : IsVolume d b s) (agree : A
       zero_check = λ slot is. v.reclaiming.zero_check slot (sym keeps.same.work.zero_check ∙ is);
       raised = stay.1.raised (λ e. omega (arith, e));
     };
+    cleaning = stay.1.cleaning (λ e. omega (arith, e));
     pointers = v.pointers;
     room = room;
     trace = subst (λ (g : Geometry). All (λ (x : CountChange). x.slot < slots g) b'.trace.items) (sym keeps.same.work.geometry)

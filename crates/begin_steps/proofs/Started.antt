@@ -30,7 +30,7 @@ use Rattle.std.specs.FinMap.{get}
 use Rattle.pm_device.specs.State.{State, Agree}
 use Rattle.page_alloc.specs.Free.{FreePages}
 use Rattle.law_write.specs.Events.{IsUnused}
-use Rattle.file_write.proofs.Taking.{taken-free, left-free, taken-left, taken-or_left}
+use Rattle.file_write.proofs.Taking.{taken-free, left-free, taken-left, taken-or_left, untaken-all}
 use Rattle.dn_model.specs.Disk.{Disk}
 use Rattle.dn_volume.specs.declared.flight.Flight.{Flight}
 use Rattle.dn_volume.specs.declared.flight.Change.{Change}
@@ -38,17 +38,18 @@ use Rattle.dn_volume.specs.declared.flight.Change.TheVariants.{Data}
 use Rattle.dn_volume.specs.declared.flight.DataChange.{DataChange}
 use Rattle.dn_volume.specs.declared.volume.InodeState.{InodeState}
 use Rattle.dn_volume.specs.declared.volume.Parts.{Parts}
-use Rattle.dn_volume.specs.declared.volume.Room.{Room}
-use Rattle.dn_volume.specs.Parties.{Flies, Holds, Takes, for_client, flight_at, taken_by, blocks_of}
+use Rattle.dn_volume.specs.Parties.{Flies, taken_by, blocks_of}
 use Rattle.dn_volume.specs.Inodes.{AreHolders, as_use}
 use Rattle.dn_volume.specs.Space.{HasSpace}
+use Rattle.dn_volume.specs.Cleans.{TwoLeft}
 use Rattle.dn_volume.specs.Balance.{raised_by, times, AreCounted}
 use Rattle.dn_volume.specs.Flights.{IsFlight}
 use Rattle.dn_volume.specs.Shares.{IsWaiting, in_queue, is_begun}
 use Rattle.dn_volume.specs.Replaces.{Replaces, MovesOwed}
-use Rattle.dn_volume.specs.Reserve.{HasRoom, owed_sum, owed_to}
+use Rattle.dn_volume.specs.Reserve.{HasRoom, owed_to}
 use Rattle.dn_volume.specs.Agrees.{IsVolume}
 use Rattle.dn_volume.specs.Rely.{StayInHand}
+use Rattle.dn_volume.proofs.Lefts.{left_still, two_left}
 use Rattle.dn_volume.proofs.Stills.{still_same}
 use Rattle.dn_volume.proofs.OthersStay.{others_stay}
 use Rattle.dn_volume.proofs.MappingsMoved.{mappings_counted}
@@ -59,6 +60,7 @@ use Rattle.begin_steps.specs.Room.{add_room}
 use Rattle.begin_steps.specs.Starting.{TakesHold, Starts}
 use Rattle.begin_steps.specs.Begun.{MayStart, HasPlacesFor}
 use Rattle.begin_steps.proofs.RoomKept.{inode_was, inode_is, leaves_same, for_none}
+use Rattle.begin_steps.proofs.Cleanings.{cleaning_takes}
 use Rattle.begin_steps.proofs.Members.{left_in_order}
 
 module _ (d : Disk) (who : ℕ) (f : Flight) (free' : FreePages) (b b' : Parts) (s : State) (v : IsVolume d b s) (agree : Agree s.now s.past)
@@ -80,6 +82,7 @@ module _ (d : Disk) (who : ℕ) (f : Flight) (free' : FreePages) (b b' : Parts) 
     now = starts.flight;
     others = starts.others;
     sharing = refl;
+    cleaning = refl;
   }
 
   client : 1 ≤ who
@@ -104,9 +107,22 @@ module _ (d : Disk) (who : ℕ) (f : Flight) (free' : FreePages) (b b' : Parts) 
   taker_other : (page : ℕ) → (Contains (taken_by f) page → ⊥) → taker' page ≡ v.space.taker page
   taker_other page out = taker_kept who client None (Some f) b n replaces d v.space page out (no_element page)
 
+  -- two pages are left where it takes some, and those that there were where it takes none
+  left_by : (pages : List ℕ) → taken_by f ≡ pages → (1 ≤ length free'.free) × TwoLeft n
+  left_by [] is =
+      let same : free' ≡ b.free = untaken-all b.free free' (taken_by f) may.takes is in
+      (subst (λ (x : FreePages). 1 ≤ length x.free) (sym same) v.space.some, left_still b n same (cleaning_takes who client None (Some f) b n replaces) v.space.left)
+  left_by (page ∷ pages) is =
+      let long = ap (λ (xs : List ℕ). length xs) is in
+      let two = may.left (omega (arith, long)) in
+      (omega (arith, two), two_left n (left_in_order b.free free' (taken_by f) may.takes v.space.in_order) two)
+
+  left_now : (1 ≤ length free'.free) × TwoLeft n
+  left_now = left_by (taken_by f) refl
+
   space : HasSpace d n
   space = space_moved who client None (Some f) b n replaces d v.space (λ page has. inr (fresh_loose page has)) d (may.takes.same ∙ v.space.pages)
-      (left_in_order b.free free' (taken_by f) may.takes v.space.in_order) may.left
+      (left_in_order b.free free' (taken_by f) may.takes v.space.in_order) left_now.0 left_now.1
       (λ page. ((λ has. still_free page has), (λ is. free_now page is.0 is.1 (contains_or_not page (taken_by f)))))
       (λ page has. ((v.space.free page).0 (fresh_free page has)).0)
       (λ page out unused. unused)
@@ -171,7 +187,7 @@ module _ (d : Disk) (who : ℕ) (f : Flight) (free' : FreePages) (b b' : Parts) 
   }) v.counts
 
   -- What is in flight.
-  stay : ((q : ℕ) (g : Flight) → q ≢ who → Flies n q g → IsFlight d q g s) × StayInHand who d n
+  stay : ((q : ℕ) (g : Flight) → q ≢ who → Flies n q g → IsFlight d q g s) × StayInHand who d n s
   stay = others_stay who [] [] d d b n s s v v.fast (for_none d b.geometry s s agree (record { now = refl; past = refl; faults = refl }) b who)
       (leaves_same d b.geometry s s agree (record { now = refl; past = refl; faults = refl }) who)
       (others_same who client None (Some f) b n replaces) (λ other. refl)
@@ -230,6 +246,7 @@ module _ (d : Disk) (who : ℕ) (f : Flight) (free' : FreePages) (b b' : Parts) 
         use_is = was.use_is ∙ ap (λ (m : InodeState). as_use m.used) (sym from.2.node);
         size_is = λ used. was.size_is used ∙ ap (λ (m : InodeState). m.size) (sym from.2.node);
         small = let few = was.small in let same = ap (λ (m : InodeState). m.size) from.2.node in omega (arith, few, same);
+        log_pages = λ used. was.log_pages used ∙ ap (λ (m : InodeState). m.log_pages) (sym from.2.node);
         places = λ idx. ap (λ (m : InodeState). get m.map.map idx) from.2.node ∙ was.places idx;
       };
     };
@@ -245,6 +262,7 @@ module _ (d : Disk) (who : ℕ) (f : Flight) (free' : FreePages) (b b' : Parts) 
       zero_check = v.reclaiming.zero_check;
       raised = stay.1.raised (λ same. let few = may.begins.few in omega (arith, few, same));
     };
+    cleaning = stay.1.cleaning (λ same. let few = may.begins.few in omega (arith, few, same));
     pointers = v.pointers;
     room = room;
     trace = v.trace;

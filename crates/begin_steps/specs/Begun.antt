@@ -20,15 +20,16 @@ abbrev pub HasPlacesFor : Flight → Change → Parts → Type 0
 HasPlacesFor f (Data c) b = HasPlaceRoom f.ino (length c.blocks.items) b
 HasPlacesFor f (Names c) b = Unit {0}
 
--- The operation is planned for this disk; its pages are the least free ones; the inodes that it
--- holds are held by nobody; and there is room for all that it is owed.
+-- The operation is planned for this disk; its pages are the least free ones, and two are left where
+-- it takes some; the inodes that it holds are held by nobody; and there is room for all that it is
+-- owed.
 pub record MayStart (d : Disk) (who : ℕ) (f : Flight) (free : FreePages) (b : Parts) (s : State) :
     Type 0 where
   pub begins : MayBegin b who
   pub plans : IsFlight d who f s
   pub unraised : f.raised ≡ 0
   pub takes : TakesFirst b.free free (taken_by f)
-  pub left : 2 ≤ length free.free
+  pub left : 0 < length (taken_by f) → 2 ≤ length free.free
   pub inside : (ino : ℕ) → Contains f.held.items ino → ino < length b.inodes.items
   pub loose : AreLooseAmong b.inodes.items f.held.items
   pub few : length b.reclaiming.releases.items + length f.rows.items ≤ 1048576

@@ -1,6 +1,5 @@
 -- The event of a release, from what its calls give.
-use Rattle.std.proofs.Common.{◌≡◌, ◌⊎◌, ⊎_elim, ℕ, ◌+◌, ◌<◌, ◌≤◌, Bool, true, false, List, [], ◌∷◌, length, refl, sym, ◌∙◌, ap, arith}
-use Rattle.dedupe_queue.specs.declared.Work.{Work}
+use Rattle.std.proofs.Common.{◌≡◌, ◌⊎◌, ⊎_elim, ℕ, ◌+◌, ◌^◌, ◌<◌, ◌≤◌, Bool, true, false, List, [], ◌∷◌, length, refl, sym, ◌∙◌, ap, arith}
 use Rattle.std.specs.Prelude.{if◌then◌else◌, ◌==◌, Option, Some, None, IsSome, Result, Ok, Err, IsErr, slice_index_or, vec_len, vec_capacity}
 use Rattle.std.specs.VecDeque.{deque_len}
 use Rattle.pm_device.specs.State.{State, Agree, Rose}
@@ -17,9 +16,11 @@ use Rattle.count_events.specs.declared.release.TheConstants.{RELEASE_UNITS}
 use Rattle.dn_volume.specs.Reclaims.{one_if}
 use Rattle.dn_volume.specs.Agrees.{IsVolume, Agrees, agrees_with, is_stopped}
 use Rattle.dn_volume.specs.Events.{MovesOn, Breaks}
-use Rattle.dn_volume.specs.Works.{MayWork, ReclaimLowers, reclaim_stand}
+use Rattle.dn_volume.specs.Works.{MayWork, ReleaseLowers, release_stand, cleaning_events}
 use Rattle.dn_volume.proofs.Tables.{running_disk}
 use Rattle.count_events.specs.Released.{SettlesRelease, Stops, IsWordAfter}
+use Rattle.count_events.proofs.EventsLeft.{left_falls}
+use Rattle.count_events.proofs.UsedPages.{used_same}
 use Rattle.count_events.proofs.Event.{event_moves, event_stopped, event_breaks}
 use Rattle.count_events.proofs.Front.{front_row, front_with}
 use Rattle.count_events.proofs.Settled.{front_down, release_event}
@@ -38,7 +39,7 @@ first_and_rest (y ∷ ys) x some is = ap (λ (z : ℕ). z ∷ ys) (sym is)
 
 -- a release that waits is work, and nothing is begun
 pub release_work : (d : Disk) (b : Parts) (s : State) → IsVolume d b s → 0 < deque_len b.reclaiming.releases
-    → b.reclaiming.raised ≡ None → MayWork (reclaim_stand b)
+    → b.reclaiming.raised ≡ None → MayWork (release_stand b)
 release_work d b s v some unraised = record {
   some = λ rests.
       let waits = v.reclaiming.waiting in
@@ -77,25 +78,37 @@ module _ {D F : Type 0} (state : D → State) (w : Volume D F) (slot : ℕ) (som
 
   -- there is work, and less of it afterwards
   pub may_work : Agrees state w → w.parts.stopped ≡ false → w.parts.reclaiming.raised ≡ None
-      → MayWork (reclaim_stand w.parts)
+      → MayWork (release_stand w.parts)
   may_work agrees running unraised = record {
     some = λ rests. let two = two_wait agrees running unraised in omega (arith, two, rests);
     loose = λ holder none. none;
   }
 
-  pub lowers : (b' : Parts) (word : ℕ) → SettlesRelease slot word w.parts b'
-      → ReclaimLowers w.parts b' b'.reclaiming.waiting
-  lowers b' word change = record {
-    left_is = refl;
-    less = falls (word == 0) change.waiting;
-    queue = change.kept.queue;
-    sharing = change.sharing;
-  }
+  pub waits_less : (b' : Parts) (word : ℕ) → SettlesRelease slot word w.parts b'
+      → b'.reclaiming.waiting < w.parts.reclaiming.waiting
+  waits_less b' word change = falls (word == 0) change.waiting
     where
       falls : (t : Bool) → b'.reclaiming.waiting + (if t then 1 else 2) ≡ w.parts.reclaiming.waiting
           → b'.reclaiming.waiting < w.parts.reclaiming.waiting
       falls true is = omega (arith, is)
       falls false is = omega (arith, is)
+
+  pub lowers : (b' : Parts) (word left : ℕ) → SettlesRelease slot word w.parts b'
+      → left ≡ b'.reclaiming.waiting + cleaning_events b'.reclaiming.cleaning → ReleaseLowers w.parts b' left
+  lowers b' word left change told = record {
+    left_is = told;
+    less = waits_less b' word change;
+    cleaning = change.kept.cleaning;
+    sharing = change.sharing;
+    queue = change.kept.queue;
+    pages = used_same w.parts b' change.kept.free change.kept.cleaning;
+  }
+
+  pub left_small : (b' : Parts) (word : ℕ) → SettlesRelease slot word w.parts b' → Agrees state w → w.parts.stopped ≡ false
+      → b'.reclaiming.waiting + cleaning_events b'.reclaiming.cleaning < 2 ^ 64
+  left_small b' word change agrees running =
+      let less = waits_less b' word change in
+      left_falls state w agrees running b' (omega (arith, less)) change.kept.cleaning
 
   module _ (w' : Volume D F) (only : StoresOnly (λ a. a ≡ slot_word w.parts.fact.geometry slot 4) (state w.device) (state w'.device))
       (agree : Agree (state w'.device).now (state w'.device).past) (leaves : LeavesTables down w.parts.fact slot (state w.device) (state w'.device))

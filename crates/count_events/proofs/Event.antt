@@ -60,6 +60,7 @@ use Rattle.count_events.proofs.CountDisk.{
   leaves_after,
   no_stale_after,
 }
+use Rattle.count_events.proofs.CleaningKept.{cleaning_kept}
 use Rattle.dn_volume.proofs.Hands.{SameHands, names_stay, inodes_stay, holders_stay, space_stays, queue_stays, dying_same, table_stays}
 
 -- the row at the slot gets the counts that f makes of it, by a call of the table that succeeded
@@ -133,7 +134,7 @@ module _ (f : Row → CountWord) (who : ℕ) (d : Disk) (b b' : Parts) (s u : St
   for_it : IsFor d b who [] []
   for_it = record { inode = λ i has. absurd (omega (arith, has.1)); page = λ page has. absurd (omega (arith, has.1)) }
 
-  stay : ((q : ℕ) (fl : Flight) → q ≢ who → Flies b' q fl → IsFlight e q fl u) × StayInHand who e b'
+  stay : ((q : ℕ) (fl : Flight) → q ≢ who → Flies b' q fl → IsFlight e q fl u) × StayInHand who e b' u
   stay = others_stay who [] [] d e b b' s u v fast for_it leaves_rest is.same is.dying
 
   flights_after : AreFlights e b' u
@@ -174,6 +175,8 @@ module _ (f : Row → CountWord) (who : ℕ) (d : Disk) (b b' : Parts) (s u : St
       zero_check = λ x at. row_kept d slot (f row).rfc (f row).uc x (is.checked x at);
       raised = raised_after;
     };
+    cleaning = cleaning_kept [] [] d e b b' s u v leaves_rest.rest leaves_rest.only is.kept.cleaning
+        (λ c at has. absurd (omega (arith, has.1))) (λ c at page took has. absurd (omega (arith, has.1)));
     pointers = no_stale_after f who d t row slot s u b.geometry is.counted.at_slot v.fast (is_table d b s v) may is.counted.only v.pointers;
     room = is.room;
     trace = names_more b b' (record { slot = slot; word = word }) is.kept.geometry is.trace
@@ -248,6 +251,7 @@ module _ {D F : Type 0} (state : D → State) (print : Print) (f : Row → Count
       others = record {
         flights = λ q some other. ap (λ (fs : List (Option Flight)). flight_at fs (q - 1)) stops.flights;
         sharing = λ other. stops.sharing;
+        cleaning = λ other. stops.cleaning;
       };
       trace = record { more = []; trace = stops.trace ∙ sym (append-nil w.parts.trace.items) };
       geometry = stops.geometry;

@@ -10,3 +10,6 @@ pub mod RaiseParts
 pub mod RaiseEnds
 pub mod ShareParts
 pub mod ShareEnds
+pub mod CleaningKept
+pub mod EventsLeft
+pub mod UsedPages

@@ -9,7 +9,7 @@ use Rattle.dedupe_queue.specs.declared.Work.{Work}
 use Rattle.dn_model.specs.Table.{Row}
 use Rattle.dn_model.specs.Disk.{Disk, rows}
 use Rattle.law_write.specs.Events.{IsUnused}
-use Rattle.law_write.proofs.Counting.{total-change, term-le}
+use Rattle.law_write.proofs.Counting.{term-le}
 use Rattle.law_table_on_disk.specs.BalanceLaws.{RecountsBalanced}
 use Rattle.law_table_on_disk.proofs.Balanced.{raise_balance}
 use Rattle.fact_table.specs.Table.{HasRow}
@@ -22,12 +22,12 @@ use Rattle.dn_volume.specs.declared.background.DyingPlace.{DyingPlace}
 use Rattle.dn_volume.specs.declared.volume.InodeState.{InodeState}
 use Rattle.dn_volume.specs.declared.volume.Parts.{Parts}
 use Rattle.dn_volume.specs.declared.volume.Room.{Room}
-use Rattle.dn_volume.specs.Parties.{Flies, flight_at, Holds, by_client, by_daemon, Takes, for_client, taken_by}
+use Rattle.dn_volume.specs.Parties.{Flies, flight_at, for_client, taken_by}
 use Rattle.dn_volume.specs.Balance.{times, raised, added, dropped, added_to_share}
 use Rattle.dn_volume.specs.Flights.{IsFlight, left_by, left_of}
 use Rattle.dn_volume.specs.Shares.{IsWaiting, in_queue, is_begun}
 use Rattle.dn_volume.specs.Reclaims.{one_if}
-use Rattle.dn_volume.specs.Reserve.{owed_to, owed_sum, units_by, units_to_share, changes_to_share, Owes, HasRoom}
+use Rattle.dn_volume.specs.Reserve.{owed_to, owed_sum, units_by, HasRoom}
 use Rattle.dn_volume.specs.Agrees.{IsVolume}
 use Rattle.dn_volume.specs.Rely.{LeavesRest}
 use Rattle.dn_volume.proofs.FlightsStay.{flights_stay}
@@ -132,6 +132,7 @@ module _ (d : Disk) (b b' : Parts) (s u : State) (v : IsVolume d b s) (who slot 
     now = flies_after.is;
     others = change.others;
     sharing = change.sharing;
+    cleaning = change.kept.cleaning;
   }
 
   further : IsFurther f (one_more f)

@@ -15,6 +15,7 @@ use Rattle.fact_counts.specs.Counted.{down}
 use Rattle.dn_volume.specs.declared.flight.Flight.{Flight}
 use Rattle.dn_volume.specs.declared.background.Sharing.{Sharing}
 use Rattle.dn_volume.specs.declared.background.DyingPlace.{DyingPlace}
+use Rattle.dn_volume.specs.declared.background.Cleaning.{Cleaning}
 use Rattle.dn_volume.specs.declared.volume.InodeState.{InodeState}
 use Rattle.dn_volume.specs.declared.volume.Parts.{Parts}
 use Rattle.dn_volume.specs.declared.volume.Room.{Room}
@@ -23,7 +24,7 @@ use Rattle.dn_volume.specs.declared.units.TheConstants.{ZERO_CHECK_UNITS}
 use Rattle.count_events.specs.declared.release.TheConstants.{RELEASE_UNITS}
 use Rattle.dn_volume.specs.Balance.{times, raised, added, dropped}
 use Rattle.dn_volume.specs.Reclaims.{one_if, dying_units}
-use Rattle.dn_volume.specs.Reserve.{owed_sum, units_to_share, changes_to_share, Owes, HasRoom}
+use Rattle.dn_volume.specs.Reserve.{owed_sum, units_to_share, changes_to_share, units_to_clean, queue_to_clean, Owes, HasRoom}
 use Rattle.dn_volume.specs.Agrees.{IsVolume}
 use Rattle.dn_volume.proofs.Kept.{ops_same}
 use Rattle.dn_volume.proofs.Tables.{is_table}
@@ -195,6 +196,12 @@ module _ (d : Disk) (b b' : Parts) (s u : State) (v : IsVolume d b s) (slot word
     changes_still : changes_to_share b'.sharing ≡ changes_to_share b.sharing
     changes_still = ap (λ (x : Option Sharing). changes_to_share x) change.sharing
 
+    clean_still : units_to_clean b'.reclaiming.cleaning ≡ units_to_clean b.reclaiming.cleaning
+    clean_still = ap (λ (x : Option Cleaning). units_to_clean x) change.kept.cleaning
+
+    due_still : queue_to_clean b'.reclaiming.cleaning ≡ queue_to_clean b.reclaiming.cleaning
+    due_still = ap (λ (x : Option Cleaning). queue_to_clean x) change.kept.cleaning
+
     owed_trace : b'.owed.trace ≡ b.owed.trace
     owed_trace = ap (λ (r : Room). r.trace) change.owed
 
@@ -215,6 +222,7 @@ module _ (d : Disk) (b b' : Parts) (s u : State) (v : IsVolume d b s) (slot word
             v.room.owes.units,
             owed_still (λ room. room.units),
             units_still,
+            clean_still,
             one_raised,
             no_raised,
             no_zero,
@@ -226,6 +234,7 @@ module _ (d : Disk) (b b' : Parts) (s u : State) (v : IsVolume d b s) (slot word
             v.room.owes.units,
             owed_still (λ room. room.units),
             units_still,
+            clean_still,
             one_raised,
             no_raised,
             no_zero,
@@ -234,7 +243,7 @@ module _ (d : Disk) (b b' : Parts) (s u : State) (v : IsVolume d b s) (slot word
           )) cases;
       trace = omega (arith, v.room.owes.trace, owed_still (λ room. room.trace), changes_still, owed_trace);
       history = omega (arith, v.room.owes.history, owed_still (λ room. room.history), owed_history);
-      queue = omega (arith, v.room.owes.queue, owed_still (λ room. room.queue), owed_queue);
+      queue = omega (arith, v.room.owes.queue, owed_still (λ room. room.queue), due_still, owed_queue);
       releases = omega (arith, v.room.owes.releases, owed_still (λ room. room.releases), one_raised, no_raised, owed_releases);
     }
 
@@ -256,8 +265,8 @@ module _ (d : Disk) (b b' : Parts) (s u : State) (v : IsVolume d b s) (slot word
       counted = counted;
       moves = moves;
       kept = change.kept;
-      hands = hands_same b b' change.flights change.sharing change.kept.inodes change.kept.queue;
-      same = others_same b b' change.flights change.sharing 16;
+      hands = hands_same b b' change.flights change.sharing change.kept.cleaning change.kept.inodes change.kept.queue;
+      same = others_same b b' change.flights change.sharing change.kept.cleaning 16;
       ops = ops_same b b' change.flights;
       running = change.stopped;
       clients = ap (λ (fs : List (Option Flight)). length fs) change.flights;

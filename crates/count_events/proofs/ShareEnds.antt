@@ -21,6 +21,7 @@ use Rattle.std.proofs.lemmas.Bool.Decides.{nat_tests}
 use Rattle.dn_volume.proofs.Tables.{running_disk}
 use Rattle.count_events.specs.Released.{Stops, IsWordAfter}
 use Rattle.count_events.specs.Shared.{IsAtSettle, SettlesShare}
+use Rattle.count_events.proofs.UsedPages.{used_same}
 use Rattle.count_events.proofs.Event.{event_moves, event_stopped, event_breaks}
 use Rattle.count_events.proofs.ShareParts.{
   same_sharing,
@@ -85,6 +86,7 @@ module _ {D F : Type 0} (state : D → State) (w : Volume D F) (slot : ℕ) (to 
         let one = falls to.sharing to.inserted to.step (share_some agrees running to.sharing to.begun) in
         omega (arith, queued, before, after, one);
     waiting = change.waiting;
+    pages = used_same w.parts b' change.kept.free change.kept.cleaning;
   }
     where
       some_left : (inserted : Bool) → 1 ≤ step_events (Settle slot inserted)

@@ -49,14 +49,15 @@ use Rattle.dn_volume.specs.declared.background.Sharing.{Sharing}
 use Rattle.dn_volume.specs.declared.background.SharingStep.{SharingStep}
 use Rattle.dn_volume.specs.declared.background.SharingStep.TheVariants.{Look}
 use Rattle.dn_volume.specs.declared.background.DyingPlace.{DyingPlace}
+use Rattle.dn_volume.specs.declared.background.Cleaning.{Cleaning}
 use Rattle.dn_volume.specs.declared.volume.InodeState.{InodeState}
 use Rattle.dn_volume.specs.declared.volume.Parts.{Parts}
 use Rattle.dn_volume.specs.declared.volume.Room.{Room}
-use Rattle.dn_volume.specs.Parties.{flight_at, Holds, by_client, by_daemon, Takes, for_client}
+use Rattle.dn_volume.specs.Parties.{flight_at, Holds, by_client, by_daemon, by_cleaning, Takes, for_client, for_cleaning}
 use Rattle.dn_volume.specs.Balance.{times, raised_by, raised_at, added_at, raised_to_share, added_to_share, raised_to_die, raised, added, dropped}
 use Rattle.dn_volume.specs.Shares.{IsAtStep, IsBegun, IsSharing, IsToSettle, Shares, IsWaiting, in_queue, is_begun}
 use Rattle.dn_volume.specs.Reclaims.{one_if}
-use Rattle.dn_volume.specs.Reserve.{owed_sum, units_to_share, changes_to_share, units_spent, changes_spent, Owes, HasRoom}
+use Rattle.dn_volume.specs.Reserve.{owed_sum, units_to_share, changes_to_share, units_spent, changes_spent, units_to_clean, queue_to_clean, Owes, HasRoom}
 use Rattle.dn_volume.specs.Agrees.{IsVolume}
 use Rattle.dn_volume.proofs.Kept.{ops_same}
 use Rattle.dn_volume.proofs.Tables.{is_table}
@@ -229,6 +230,7 @@ module _ (d : Disk) (b : Parts) (s : State) (v : IsVolume d b s) (slot : ℕ) (t
     holds_still who ino (by_client f flies has) = by_client f (flies_still b b' change.flights who f flies) has
     holds_still who ino (by_daemon item him is same) = by_daemon now him now_is
         (ap (λ (x : Sharing). x.work.ino) (same_sharing b to.sharing item to.begun is) ∙ same)
+    holds_still who ino (by_cleaning c him is same) = by_cleaning c him (change.kept.cleaning ∙ is) same
 
     same_now : (item : Sharing) → b'.sharing ≡ Some item → now ≡ item
     same_now item is = same_sharing b' now item now_is is
@@ -236,12 +238,15 @@ module _ (d : Disk) (b : Parts) (s : State) (v : IsVolume d b s) (slot : ℕ) (t
     holds_before : (who ino : ℕ) → Holds b' who ino → Holds b who ino
     holds_before who ino (by_client f flies has) = by_client f (flies_before b b' change.flights who f flies) has
     holds_before who ino (by_daemon item him is same) = by_daemon to.sharing him to.begun (ap (λ (x : Sharing). x.work.ino) (same_now item is) ∙ same)
+    holds_before who ino (by_cleaning c him is same) = by_cleaning c him (sym change.kept.cleaning ∙ is) same
 
     takes_still : (who page : ℕ) → Takes b who page → Takes b' who page
     takes_still who page (for_client f flies has) = for_client f (flies_still b b' change.flights who f flies) has
+    takes_still who page (for_cleaning c him is has) = for_cleaning c him (change.kept.cleaning ∙ is) has
 
     takes_before : (who page : ℕ) → Takes b' who page → Takes b who page
     takes_before who page (for_client f flies has) = for_client f (flies_before b b' change.flights who f flies) has
+    takes_before who page (for_cleaning c him is has) = for_cleaning c him (sym change.kept.cleaning ∙ is) has
 
     waits_still : (ino at : ℕ) → IsWaiting b ino at → IsWaiting b' ino at
     waits_still ino at (in_queue work n has of_ino of_slot is round) =
@@ -308,6 +313,12 @@ module _ (d : Disk) (b : Parts) (s : State) (v : IsVolume d b s) (slot : ℕ) (t
     changes_now : changes_to_share b'.sharing ≡ 2 * (to.sharing.count - (to.sharing.done + 1)) - 0
     changes_now = ap (λ (r : Option Sharing). changes_to_share r) now_is
 
+    clean_still : units_to_clean b'.reclaiming.cleaning ≡ units_to_clean b.reclaiming.cleaning
+    clean_still = ap (λ (x : Option Cleaning). units_to_clean x) change.kept.cleaning
+
+    due_still : queue_to_clean b'.reclaiming.cleaning ≡ queue_to_clean b.reclaiming.cleaning
+    due_still = ap (λ (x : Option Cleaning). queue_to_clean x) change.kept.cleaning
+
     owed_units : b'.owed.units ≡ b.owed.units - 3
     owed_units = ap (λ (r : Room). r.units) change.owed
 
@@ -325,10 +336,10 @@ module _ (d : Disk) (b : Parts) (s : State) (v : IsVolume d b s) (slot : ℕ) (t
 
     owes : Owes b'
     owes = record {
-      units = omega (arith, v.room.owes.units, owed_still (λ room. room.units), units_was, units_now, settle_some, one_raised, one_zero, owed_units);
+      units = omega (arith, v.room.owes.units, owed_still (λ room. room.units), units_was, units_now, clean_still, settle_some, one_raised, one_zero, owed_units);
       trace = omega (arith, v.room.owes.trace, owed_still (λ room. room.trace), changes_was, changes_now, settle_some, owed_trace);
       history = omega (arith, v.room.owes.history, owed_still (λ room. room.history), owed_history);
-      queue = omega (arith, v.room.owes.queue, owed_still (λ room. room.queue), owed_queue);
+      queue = omega (arith, v.room.owes.queue, owed_still (λ room. room.queue), due_still, owed_queue);
       releases = omega (arith, v.room.owes.releases, owed_still (λ room. room.releases), one_raised, owed_releases);
     }
 
@@ -356,6 +367,7 @@ module _ (d : Disk) (b : Parts) (s : State) (v : IsVolume d b s) (slot : ℕ) (t
           flights = λ q some ne. ap (λ (fs : List (Option Flight)). flight_at fs (q - 1)) change.flights;
           sharing = λ ne. absurd
               (ne refl);
+          cleaning = λ ne. change.kept.cleaning;
         };
         ops = ops_same b b' change.flights;
         running = change.stopped;

@@ -37,6 +37,7 @@ pub record KeepsParts (b b' : Parts) : Type 0 where
   pub history : b'.history.items ≡ b.history.items
   pub history_len : vec_len b'.history ≡ vec_len b.history
   pub history_capacity : vec_capacity b'.history ≡ vec_capacity b.history
+  pub cleaning : b'.reclaiming.cleaning ≡ b.reclaiming.cleaning
 
 -- the first release is settled, and its row has this word
 pub record SettlesRelease (slot word : ℕ) (b b' : Parts) : Type 0 where
@@ -64,6 +65,7 @@ pub record Stops (b b' : Parts) : Type 0 where
   pub stopped : b'.stopped ≡ true
   pub flights : b'.flights.items ≡ b.flights.items
   pub sharing : b'.sharing ≡ b.sharing
+  pub cleaning : b'.reclaiming.cleaning ≡ b.reclaiming.cleaning
   pub trace : b'.trace.items ≡ b.trace.items
   pub history : b'.history.items ≡ b.history.items
   pub made : Counts b b'

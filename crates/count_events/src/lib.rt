@@ -9,5 +9,5 @@ pub mod release;
 pub mod share;
 
 pub use raise::raise_row;
-pub use release::settle_release;
+pub use release::{left_to_reclaim, settle_release};
 pub use share::settle_share;

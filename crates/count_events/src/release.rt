@@ -8,7 +8,7 @@ ghost use Rattle.dn_model.specs.Disk.{Disk};
 ghost use Rattle.fact_counts.specs.Standing.{HasRowWith};
 ghost use Rattle.fact_counts.specs.Counted.{down, MaySettleDown, SettlesTable, LeavesTables};
 ghost use Rattle.dn_volume.specs.Agrees.{Agrees, IsVolume};
-ghost use Rattle.dn_volume.specs.Works.{ReclaimWorks};
+ghost use Rattle.dn_volume.specs.Works.{ReleaseWorks, cleaning_events};
 ghost use Rattle.count_events.specs.Released.{SettlesRelease, Stops, IsWordAfter};
 
 use dn_volume::units::ZERO_CHECK_UNITS;
@@ -79,6 +79,23 @@ pub fn stop(parts: &mut Parts)
     parts.stopped = true;
 }
 
+/// How many events reclaim has left: the units that wait, and where a cleaning is begun, its pages that aren't written and
+/// its end.
+pub fn left_to_reclaim(parts: &Parts) -> u64
+    requires { parts.now.reclaiming.waiting + cleaning_events parts.now.reclaiming.cleaning
+        < 2 ^ 64 }
+    ensures { result ≡ parts.now.reclaiming.waiting
+        + cleaning_events parts.now.reclaiming.cleaning }
+{
+    match &parts.reclaiming.cleaning {
+        Some(cleaning) => {
+            let pages = (cleaning.pages.len() as u64).saturating_sub(cleaning.written);
+            parts.reclaiming.waiting + (pages + 1)
+        }
+        None => parts.reclaiming.waiting,
+    }
+}
+
 /// The first of the waiting releases is settled: its row has one update less under way, and one reference less. Where
 /// the row's counts are 0 then, it is to be looked at.
 pub fn settle_release<D: Pm, F: Fingerprint>(v: &mut Volume<D, F>) -> Outcome
@@ -93,14 +110,14 @@ pub fn settle_release<D: Pm, F: Fingerprint>(v: &mut Volume<D, F>) -> Outcome
         v.old.parts.trace }
     ensures agrees { Agrees D.state v.new }
     ensures event { (d : Disk) → IsVolume d v.old.parts (D.state v.old.device)
-        → ReclaimWorks D.state F.print v.old v.new d result }
+        → ReleaseWorks D.state F.print v.old v.new d result }
 {
     let slot = v.parts.reclaiming.releases[0];
     match settle_row(&v.parts.fact, &mut v.device, slot) {
         Ok(word) => {
             note_release(&mut v.parts, slot, word);
             Outcome::Running {
-                left: v.parts.reclaiming.waiting,
+                left: left_to_reclaim(&v.parts),
             }
         }
         Err(_) => {

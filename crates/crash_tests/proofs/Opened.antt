@@ -23,6 +23,7 @@ module _ {D F : Type 0} (state : D → State) (print : Print) (words : List ℕ)
         loose = record {
           landed = λ who f flies. none_is_none f (sym (m.flights.none (who - 1)) ∙ flies.is);
           none_begun = m.sharing;
+          none_cleaned = m.cleaning;
         };
         running = m.running;
       }

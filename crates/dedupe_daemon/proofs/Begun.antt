@@ -23,7 +23,7 @@ use Rattle.dn_volume.specs.declared.background.Sharing.{Sharing}
 use Rattle.dn_volume.specs.declared.background.SharingStep.TheVariants.{Look}
 use Rattle.dn_volume.specs.declared.volume.InodeState.{InodeState}
 use Rattle.dn_volume.specs.declared.volume.Parts.{Parts}
-use Rattle.dn_volume.specs.Parties.{Holds, by_client, by_daemon}
+use Rattle.dn_volume.specs.Parties.{Holds, by_client, by_daemon, by_cleaning}
 use Rattle.dn_volume.specs.Inodes.{AreHolders}
 use Rattle.dn_volume.specs.Balance.{times, raised_at, added_at, raised_to_share, added_to_share}
 use Rattle.dn_volume.specs.Shares.{IsAtStep, IsWaiting, in_queue, is_begun, IsQueued, IsBegun, IsSharing, Shares}
@@ -34,7 +34,8 @@ use Rattle.dn_volume.proofs.HandsKept.{flies_before, flies_still}
 use Rattle.dn_volume.proofs.Stills.{still_settles}
 use Rattle.dedupe_daemon.specs.Daemon.{BeginsItem}
 use Rattle.dedupe_daemon.specs.Fronts.{item_at}
-use Rattle.dedupe_daemon.proofs.DaemonEvent.{DaemonEvent, flights_same, others_kept}
+use Rattle.count_events.proofs.UsedPages.{used_same}
+use Rattle.dedupe_daemon.proofs.DaemonEvent.{DaemonEvent, flights_same, cleaning_same, others_kept}
 use Rattle.dedupe_daemon.proofs.DaemonRoom.{room_kept}
 use Rattle.dedupe_daemon.proofs.Holding.{was_held, round_on, room_on, inodes_on}
 use Rattle.dedupe_daemon.proofs.ItemAt.{item_spelled, placed_change}
@@ -113,16 +114,19 @@ module _ (d : Disk) (b : Parts) (s : State) (v : IsVolume d b s) (sharing : Shar
     holds_on : (i who : ℕ) → Holds b who i → Holds b' who i
     holds_on i who (by_client f flies held) = by_client f (flies_still b b' (flights_same b b' change.kept) who f flies) held
     holds_on i who (by_daemon x him is same) = absurd (none_some b.sharing x none_begun is)
+    holds_on i who (by_cleaning c him is same) = by_cleaning c him (cleaning_same b b' change.kept ∙ is) same
 
     holds_back : (i who : ℕ) → i ≢ ino → Holds b' who i → Holds b who i
     holds_back i who ne (by_client f flies held) = by_client f (flies_before b b' (flights_same b b' change.kept) who f flies) held
     holds_back i who ne (by_daemon x him is same) =
         absurd (ne (sym same ∙ ap (λ (y : Sharing). y.work.ino) (one_item b'.sharing x sharing is change.begun)))
+    holds_back i who ne (by_cleaning c him is same) = by_cleaning c him (sym (cleaning_same b b' change.kept) ∙ is) same
 
     holds_it : (who : ℕ) → Holds b' who ino → who ≡ 15
     holds_it who (by_client f flies held) = absurd (nobody_holds who (by_client f (flies_before b b' (flights_same b b' change.kept) who f flies)
         held))
     holds_it who (by_daemon x him is same) = him
+    holds_it who (by_cleaning c him is same) = absurd (nobody_holds who (by_cleaning c him (sym (cleaning_same b b' change.kept) ∙ is) same))
 
     told_after : (i who : ℕ) (n : InodeState) → slice_get b'.inodes.items i ≡ Some n → (n.holder ≡ Some who) ↔ Holds b' who i
     told_after i who n at = elim (cases_eq i ino) [
@@ -229,6 +233,7 @@ module _ (d : Disk) (b : Parts) (s : State) (v : IsVolume d b s) (sharing : Shar
           let before = ap (λ (o : Option Sharing). sharing_events o) none_begun in
           omega (arith, queued, before, events_now, (count_some).1);
       waiting = ap (λ (r : _). r.waiting) change.kept.reclaiming;
+      pages = used_same b b' change.kept.free (cleaning_same b b' change.kept);
     }
 
     module _ (u : State) (only : StoresOnly (λ a. a ≡ flag_word slot) s u) (others : KeepsFlushed (Others 15) (λ a. a ≡ flag_word slot) s u)
@@ -258,6 +263,8 @@ module _ (d : Disk) (b : Parts) (s : State) (v : IsVolume d b s) (sharing : Shar
         live = it_lives d ino log (flag_word slot) 2 (flagged slot InProcess) begin_retags;
         loose = λ q f flies i held has. nobody_holds q (by_client f flies
             (subst (Contains f.held.items) (only_it d ino log (flag_word slot) 2 (flagged slot InProcess) begin_retags i has) held));
+        apart = λ c at has. nobody_holds 16 (by_cleaning c refl at
+            (only_it d ino log (flag_word slot) 2 (flagged slot InProcess) begin_retags c.ino has));
         disk = disk_kept d ino log (flag_word slot) 2 (flagged slot InProcess) begin_retags;
         kept = change.kept;
         inodes_are = inodes_on (Some 15) ino b.inodes.items b'.inodes.items change.inodes ino_inside e

@@ -46,6 +46,7 @@ module _ {D F : Type 0} (state : D → State) (w w' : Volume D F) (d : Disk) (v 
     others = record {
       flights = λ q some other. ap (λ (fs : List (Option Flight)). flight_at fs (q - 1)) stops.flights;
       sharing = λ other. stops.sharing;
+      cleaning = λ other. stops.cleaning;
     };
     trace = record { more = []; trace = stops.trace ∙ sym (append-nil w.parts.trace.items) };
     geometry = stops.geometry;

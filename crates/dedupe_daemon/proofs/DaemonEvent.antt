@@ -1,7 +1,7 @@
 -- An event of the daemon that leaves rows, mappings and free pages: the volume of after, from what the event has to
 -- show of the disk and of what is kept in memory.
 use Rattle.std.proofs.Common.{◌≡◌, ◌≢◌, ℕ, ◌+◌, ◌-◌, ◌*◌, ◌<◌, ◌≤◌, List, [], length, refl, sym, ◌∙◌, ap, subst, arith}
-use Rattle.std.specs.Prelude.{Option, None, All, Contains, IsNone}
+use Rattle.std.specs.Prelude.{Option, Some, None, All, Contains, IsNone}
 use Rattle.std.specs.FinMap.{get}
 use Rattle.std.proofs.lemmas.List.{append-nil}
 use Rattle.pm_device.specs.State.{State, Rose}
@@ -18,9 +18,10 @@ use Rattle.dn_model.specs.declared.op.CountChange.{CountChange}
 use Rattle.law_write.specs.Events.{IsUnused}
 use Rattle.fact_table.specs.Table.{HasRow}
 use Rattle.dn_volume.specs.declared.flight.Flight.{Flight}
+use Rattle.dn_volume.specs.declared.background.Cleaning.{Cleaning}
 use Rattle.dn_volume.specs.declared.volume.Parts.{Parts}
 use Rattle.dn_volume.specs.declared.volume.Volume.{Volume}
-use Rattle.dn_volume.specs.Parties.{Flies, Takes, for_client, SameOthers, flight_at}
+use Rattle.dn_volume.specs.Parties.{Flies, Takes, for_client, for_cleaning, SameOthers, flight_at}
 use Rattle.dn_volume.specs.Inodes.{AreInodesOf, AreHolders}
 use Rattle.dn_volume.specs.Space.{HasSpace}
 use Rattle.dn_volume.specs.Balance.{times, raised_by, raised_to_die, raised_to_share, added_to_share, raised, AreCounted}
@@ -40,6 +41,8 @@ use Rattle.dn_volume.proofs.FlightsStay.{flights_stay}
 use Rattle.dn_volume.proofs.InHand.{raised_stays}
 use Rattle.dn_volume.proofs.MappingsMoved.{mappings_counted}
 use Rattle.count_events.specs.Released.{Stops}
+use Rattle.dn_volume.proofs.Lefts.{left_still}
+use Rattle.count_events.proofs.CleaningKept.{cleaning_kept}
 use Rattle.count_events.proofs.Settled.{no_client}
 use Rattle.reclaim.proofs.SpaceGained.{slots_stay}
 use Rattle.dedupe_daemon.specs.Daemon.{KeepsAll}
@@ -56,12 +59,14 @@ pub record KeepsDisk (d e : Disk) : Type 0 where
   pub units : total e.geometry.inodes (dying_units e) ≡ total d.geometry.inodes (dying_units d)
   pub files_same : IsSameFiles (files e) (files d)
 
--- What holds of every such event. The inodes that it changes are live, and no operation holds one of them.
+-- What holds of every such event. The inodes that it changes are live, no operation holds one of them, and the log of
+-- none is being cleaned.
 pub record DaemonEvent (inodes : List ℕ) (d e : Disk) (b b' : Parts) (s u : State) : Type 0 where
   pub fast : StandsFast e b.geometry u
   pub leaves : LeavesRest 15 inodes [] d e s u
   pub live : (i : ℕ) → Contains inodes i → (d.inode i).use_of ≡ Live
   pub loose : (q : ℕ) (f : Flight) → Flies b q f → (i : ℕ) → Contains f.held.items i → Contains inodes i → ⊥
+  pub apart : (c : Cleaning) → b.reclaiming.cleaning ≡ Some c → Contains inodes c.ino → ⊥
   pub disk : KeepsDisk d e
   pub kept : KeepsAll b b'
   pub inodes_are : AreInodesOf e b'.inodes.items
@@ -90,17 +95,23 @@ module _ (b b' : Parts) (kept : KeepsAll b b') where
   pub flights_same : b'.flights.items ≡ b.flights.items
   flights_same = ap (λ (fs : _). fs.items) kept.flights
 
+  pub cleaning_same : b'.reclaiming.cleaning ≡ b.reclaiming.cleaning
+  cleaning_same = ap (λ (r : _). r.cleaning) kept.reclaiming
+
   pub others_kept : SameOthers 15 b b'
   others_kept = record {
     flights = λ q some ne. ap (λ (fs : List (Option Flight)). flight_at fs (q - 1)) flights_same;
     sharing = λ ne. absurd (ne refl);
+    cleaning = λ ne. cleaning_same;
   }
 
   takes_on : (who page : ℕ) → Takes b who page → Takes b' who page
   takes_on who page (for_client f flies has) = for_client f (flies_still b b' flights_same who f flies) has
+  takes_on who page (for_cleaning c him is has) = for_cleaning c him (cleaning_same ∙ is) has
 
   takes_back : (who page : ℕ) → Takes b' who page → Takes b who page
   takes_back who page (for_client f flies has) = for_client f (flies_before b b' flights_same who f flies) has
+  takes_back who page (for_cleaning c him is has) = for_cleaning c him (sym cleaning_same ∙ is) has
 
   pub raised_kept : ((slot : ℕ) → times slot (raised_to_share b'.sharing) ≡ times slot (raised_to_share b.sharing)) → (slot : ℕ) → raised b' slot ≡
       raised b slot
@@ -123,7 +134,8 @@ module _ (b b' : Parts) (kept : KeepsAll b b') where
     takes = λ who page takes. space.takes who page (takes_back who page takes);
     taken = λ page some. takes_on (space.taker page) page (space.taken page some);
     unused = λ page some. unused_on d e disk page (space.unused page some);
-    left = let long = ap (λ (f : FreePages). length f.free) kept.free in omega (arith, space.left, long);
+    some = let long = ap (λ (f : FreePages). length f.free) kept.free in omega (arith, space.some, long);
+    left = left_still b b' kept.free (takes_on 16) space.left;
   }
 
 module _ (inodes : List ℕ) (d e : Disk) (b b' : Parts) (s u : State) (v : IsVolume d b s) (is : DaemonEvent inodes d e b b' s u) where
@@ -194,6 +206,8 @@ module _ (inodes : List ℕ) (d e : Disk) (b b' : Parts) (s u : State) (v : IsVo
     queue = is.queue;
     sharing = is.sharing;
     reclaiming = reclaiming_after;
+    cleaning = cleaning_kept inodes [] d e b b' s u v is.leaves.rest is.leaves.only (cleaning_same b b' is.kept) is.apart
+        (λ c at page took has. absurd (omega (arith, has.1)));
     pointers = none_stale_kept d e is.disk.geometry is.disk.pointer
         (λ row has. record { row = row; there = subst (λ (rs : List Row). Contains rs row) (sym is.disk.rows_same) has; page_is = refl }) v.pointers;
     room = is.room;
@@ -258,6 +272,7 @@ module _ {D F : Type 0} (state : D → State) (print : Print) (w w' : Volume D F
       others = record {
         flights = λ q some other. ap (λ (fs : List (Option Flight)). flight_at fs (q - 1)) stops.flights;
         sharing = λ other. stops.sharing;
+        cleaning = λ other. stops.cleaning;
       };
       trace = record { more = []; trace = stops.trace ∙ sym (append-nil w.parts.trace.items) };
       geometry = stops.geometry;

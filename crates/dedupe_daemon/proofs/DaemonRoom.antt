@@ -11,7 +11,7 @@ use Rattle.dn_volume.specs.declared.volume.Parts.{Parts}
 use Rattle.dn_volume.specs.declared.volume.Room.{Room}
 use Rattle.dn_volume.specs.Parties.{Flies}
 use Rattle.dn_volume.specs.Reclaims.{one_if}
-use Rattle.dn_volume.specs.Reserve.{owed_sum, units_to_reclaim, units_to_share, changes_to_share, Owes, HasRoom}
+use Rattle.dn_volume.specs.Reserve.{owed_sum, units_to_reclaim, units_to_share, changes_to_share, units_to_clean, queue_to_clean, Owes, HasRoom}
 use Rattle.dn_volume.proofs.HandsKept.{owed_same, flies_before}
 use Rattle.dedupe_daemon.specs.Daemon.{KeepsAll}
 use Rattle.dedupe_daemon.proofs.DaemonEvent.{flights_same}
@@ -34,14 +34,16 @@ module _ (b b' : Parts) (s u : State) (kept : KeepsAll b b') (moves : MovesRoom 
   to_reclaim =
       let one = ap (λ (r : _). one_if r.raised) kept.reclaiming in
       let zero = ap (λ (r : _). one_if r.zero_check) kept.reclaiming in
-      omega (arith, one, zero)
+      let clean = ap (λ (r : _). units_to_clean r.cleaning) kept.reclaiming in
+      omega (arith, one, zero, clean)
 
   owes : Owes b'
   owes = record {
     units = omega (arith, was.owes.units, sum_same (λ room. room.units), to_reclaim, moves.units);
     trace = omega (arith, was.owes.trace, sum_same (λ room. room.trace), moves.changes);
     history = omega (arith, was.owes.history, sum_same (λ room. room.history), kept.owed_history);
-    queue = omega (arith, was.owes.queue, sum_same (λ room. room.queue), kept.owed_queue);
+    queue = let due = ap (λ (r : _). queue_to_clean r.cleaning) kept.reclaiming in
+        omega (arith, was.owes.queue, sum_same (λ room. room.queue), due, kept.owed_queue);
     releases = let one = ap (λ (r : _). one_if r.raised) kept.reclaiming in
         omega (arith, was.owes.releases, sum_same (λ room. room.releases), one, kept.owed_releases);
   }

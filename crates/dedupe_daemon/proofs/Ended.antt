@@ -15,13 +15,14 @@ use Rattle.law_log_swap.specs.Relogged.{relogged}
 use Rattle.law_flags.specs.FlagLaws.{IsDoneAt, flagged}
 use Rattle.law_flags.proofs.Tags.{flag_own}
 use Rattle.dn_volume.specs.declared.units.TheConstants.{END_UNITS}
+use Rattle.dn_volume.specs.declared.background.Cleaning.{Cleaning}
 use Rattle.dn_volume.specs.declared.background.Sharing.{Sharing}
 use Rattle.dn_volume.specs.declared.background.SharingStep.{SharingStep}
 use Rattle.dn_volume.specs.declared.background.SharingStep.TheVariants.{Look}
 use Rattle.dn_volume.specs.declared.flight.Flight.{Flight}
 use Rattle.dn_volume.specs.declared.volume.InodeState.{InodeState}
 use Rattle.dn_volume.specs.declared.volume.Parts.{Parts}
-use Rattle.dn_volume.specs.Parties.{Flies, Holds, by_client, by_daemon}
+use Rattle.dn_volume.specs.Parties.{Flies, Holds, by_client, by_daemon, by_cleaning}
 use Rattle.dn_volume.specs.Inodes.{AreHolders}
 use Rattle.dn_volume.specs.Balance.{times, raised_at, added_at, raised_to_share, added_to_share}
 use Rattle.dn_volume.specs.Shares.{IsWaiting, in_queue, is_begun, IsQueued, IsBegun}
@@ -32,7 +33,8 @@ use Rattle.dn_volume.proofs.HandsKept.{flies_before, flies_still}
 use Rattle.dn_volume.proofs.Stills.{still_settles}
 use Rattle.count_events.proofs.Settled.{no_client}
 use Rattle.dedupe_daemon.specs.Daemon.{EndsItem}
-use Rattle.dedupe_daemon.proofs.DaemonEvent.{DaemonEvent, flights_same, others_kept}
+use Rattle.count_events.proofs.UsedPages.{used_same}
+use Rattle.dedupe_daemon.proofs.DaemonEvent.{DaemonEvent, flights_same, cleaning_same, others_kept}
 use Rattle.dedupe_daemon.proofs.DaemonRoom.{room_kept}
 use Rattle.dedupe_daemon.proofs.Holding.{held_once, was_held, round_on, room_on, inodes_on}
 use Rattle.dedupe_daemon.proofs.ItemAt.{places_of}
@@ -95,20 +97,28 @@ module _ (d : Disk) (b : Parts) (s : State) (v : IsVolume d b s) (sharing : Shar
   not_client q f flies held = no_client b q f v.flights.clients
       (omega (arith, held_once d b v.holders ino ino_inside q 15 (by_client f flies held) daemon_holds)) flies
 
+  not_cleaned : (c : Cleaning) → b.reclaiming.cleaning ≡ Some c → c.ino ≢ ino
+  not_cleaned c at same =
+      let one = held_once d b v.holders ino ino_inside 16 15 (by_cleaning c refl at same) daemon_holds in
+      omega (arith, one)
+
   module _ (b' : Parts) (change : EndsItem ino b b') where
     -- who holds inodes then
     holds_on : (i who : ℕ) → i ≢ ino → Holds b who i → Holds b' who i
     holds_on i who ne (by_client f flies held) = by_client f (flies_still b b' (flights_same b b' change.kept) who f flies) held
     holds_on i who ne (by_daemon item him is same) =
         absurd (ne (sym same ∙ ap (λ (x : Sharing). x.work.ino) (one_item b.sharing item sharing is begun_is)))
+    holds_on i who ne (by_cleaning c him is same) = by_cleaning c him (cleaning_same b b' change.kept ∙ is) same
 
     holds_back : (i who : ℕ) → Holds b' who i → Holds b who i
     holds_back i who (by_client f flies held) = by_client f (flies_before b b' (flights_same b b' change.kept) who f flies) held
     holds_back i who (by_daemon item him is same) = absurd (none_some b'.sharing item change.ended is)
+    holds_back i who (by_cleaning c him is same) = by_cleaning c him (sym (cleaning_same b b' change.kept) ∙ is) same
 
     none_holds : (who : ℕ) → Holds b' who ino → ⊥
     none_holds who (by_client f flies held) = not_client who f (flies_before b b' (flights_same b b' change.kept) who f flies) held
     none_holds who (by_daemon item him is same) = absurd (none_some b'.sharing item change.ended is)
+    none_holds who (by_cleaning c him is same) = not_cleaned c (sym (cleaning_same b b' change.kept) ∙ is) same
 
     told_after : (i who : ℕ) (n : InodeState) → slice_get b'.inodes.items i ≡ Some n → (n.holder ≡ Some who) ↔ Holds b' who i
     told_after i who n at = elim (cases_eq i ino) [
@@ -174,6 +184,7 @@ module _ (d : Disk) (b : Parts) (s : State) (v : IsVolume d b s) (sharing : Shar
           let some = some_left in
           omega (arith, queued, before, after, some);
       waiting = ap (λ (r : _). r.waiting) change.kept.reclaiming;
+      pages = used_same b b' change.kept.free (cleaning_same b b' change.kept);
     }
       where
         some_left : 1 ≤ sharing_events (Some sharing)
@@ -205,6 +216,7 @@ module _ (d : Disk) (b : Parts) (s : State) (v : IsVolume d b s) (sharing : Shar
         live = it_lives d ino log (flag_word slot) 3 (flagged slot Complete) end_retags;
         loose = λ q f flies i held has. not_client q f flies
             (subst (Contains f.held.items) (only_it d ino log (flag_word slot) 3 (flagged slot Complete) end_retags i has) held);
+        apart = λ c at has. not_cleaned c at (only_it d ino log (flag_word slot) 3 (flagged slot Complete) end_retags c.ino has);
         disk = disk_kept d ino log (flag_word slot) 3 (flagged slot Complete) end_retags;
         kept = change.kept;
         inodes_are = inodes_on None ino b.inodes.items b'.inodes.items change.inodes ino_inside e

@@ -100,6 +100,7 @@ module _ (d : Disk) (valid : IsValid d) (ino slot first n block size : ℕ) (fla
     live = has.live;
     one = flag_one_word d ino new slot (flag_log new) (may_flag new);
     pages = flag_pages d ino new slot (flag_log new) (may_flag new);
+    same_pages = refl;
     now_maps = flag_maps d ino new slot (flag_log new) (may_flag new);
     same_kept = λ m. (flag_bits slot new m).0;
     page = page;
@@ -128,6 +129,7 @@ module _ (d : Disk) (valid : IsValid d) (ino slot first n block size : ℕ) (fla
     live = has.live;
     one = mask_one_word d ino new slot (mask_log new) (may_mask new small);
     pages = mask_pages d ino new slot (mask_log new) (may_mask new small);
+    same_pages = refl;
     now_maps = mask_maps d ino new slot (mask_log new) (may_mask new small);
     same_kept = λ m. (mask_bits slot new m).0;
     page = page;

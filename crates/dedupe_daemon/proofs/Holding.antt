@@ -70,6 +70,7 @@ module _ (holder : Option ℕ) (ino : ℕ) (old new : List InodeState) (change :
             use_is = is.use_is ∙ ap as_use (sym was.2.used);
             size_is = λ used. is.size_is used ∙ sym was.2.size;
             small = subst (λ (n : ℕ). n ≤ 16777216) (sym was.2.size) is.small;
+            log_pages = λ used. is.log_pages used ∙ sym was.2.log_pages;
             places = λ idx. ap (λ m. get m.map idx) was.2.map ∙ is.places idx;
           })
       | inr ne ↦ are.each i y (sym (change.others i ne) ∙ at)

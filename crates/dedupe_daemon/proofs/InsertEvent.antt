@@ -197,9 +197,10 @@ module _ (d : Disk) (b : Parts) (s : State) (v : IsVolume d b s) (fp : List ℕ)
     same = record {
       flights = λ q some ne. ap (λ (fs : List (Option Flight)). flight_at fs (q - 1)) change.flights;
       sharing = λ ne. absurd (ne refl);
+      cleaning = λ ne. change.cleaning;
     }
 
-    stay : ((q : ℕ) (f : Flight) → q ≢ 15 → Flies b' q f → IsFlight e q f u) × StayInHand 15 e b'
+    stay : ((q : ℕ) (f : Flight) → q ≢ 15 → Flies b' q f → IsFlight e q f u) × StayInHand 15 e b' u
     stay = others_stay 15 (its_item.work.ino ∷ []) [] d e b b' s u v fast for_it leaves same (λ ne. change.raised)
 
     flights_after : AreFlights e b' u
@@ -309,6 +310,7 @@ module _ (d : Disk) (b : Parts) (s : State) (v : IsVolume d b s) (fp : List ℕ)
         zero_check = λ x is. row_still x (v.reclaiming.zero_check x (sym change.zero_check ∙ is));
         raised = stay.1.raised (omega arith);
       };
+      cleaning = stay.1.cleaning (omega arith);
       pointers = none_stale;
       room = look_room b at.looks b' (Settle slot true) slot 1 (LOOK_UNITS + REMAP_UNITS) change d s u v refl (omega arith) refl (omega (arith, spare));
       trace = trace_after;

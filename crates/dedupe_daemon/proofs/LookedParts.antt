@@ -9,22 +9,24 @@ use Rattle.dn_model.specs.Disk.{Disk}
 use Rattle.dn_model.specs.Counts.{total}
 use Rattle.dn_volume.specs.declared.units.TheConstants.{END_UNITS, PLACE_UNITS}
 use Rattle.dn_volume.specs.declared.flight.Flight.{Flight}
+use Rattle.dn_volume.specs.declared.background.Cleaning.{Cleaning}
 use Rattle.dn_volume.specs.declared.background.Sharing.{Sharing}
 use Rattle.dn_volume.specs.declared.background.SharingStep.{SharingStep}
 use Rattle.dn_volume.specs.declared.background.DyingPlace.{DyingPlace}
 use Rattle.dn_volume.specs.declared.volume.InodeState.{InodeState}
 use Rattle.dn_volume.specs.declared.volume.Parts.{Parts}
 use Rattle.dn_volume.specs.declared.volume.Room.{Room}
-use Rattle.dn_volume.specs.Parties.{flight_at, Holds, by_client, by_daemon, Takes, for_client}
+use Rattle.dn_volume.specs.Parties.{flight_at, Holds, by_client, by_daemon, by_cleaning, Takes, for_client, for_cleaning}
 use Rattle.dn_volume.specs.Balance.{times, raised_by, raised_at, added_at, raised_to_share, added_to_share, raised_to_die, raised, added, dropped}
 use Rattle.dn_volume.specs.Shares.{IsWaiting, in_queue, is_begun}
 use Rattle.dn_volume.specs.Reclaims.{one_if}
-use Rattle.dn_volume.specs.Reserve.{owed_sum, units_to_share, changes_to_share, units_spent, changes_spent, Owes, HasRoom}
+use Rattle.dn_volume.specs.Reserve.{owed_sum, units_to_share, changes_to_share, units_spent, changes_spent, units_to_clean, queue_to_clean, Owes, HasRoom}
 use Rattle.dn_volume.specs.Agrees.{IsVolume}
 use Rattle.dn_volume.specs.Works.{MayWork, DaemonLowers, daemon_stand, sharing_events, step_events}
 use Rattle.dn_volume.proofs.Hands.{SameHands}
 use Rattle.dn_volume.proofs.HandsKept.{flies_still, flies_before, owed_same}
 use Rattle.count_events.proofs.ShareParts.{same_sharing}
+use Rattle.count_events.proofs.UsedPages.{used_same}
 use Rattle.dedupe_daemon.proofs.AtPlace.{IsAtLook}
 use Rattle.dedupe_daemon.specs.Stepped.{Looks}
 
@@ -51,6 +53,7 @@ looks_since next slot word units b t b' is = record {
   raised = is.raised;
   zero_check = is.zero_check;
   waiting = is.waiting;
+  cleaning = is.cleaning;
   trace = is.trace;
   trace_len = is.trace_len;
   trace_capacity = is.trace_capacity;
@@ -146,16 +149,20 @@ module _ (b : Parts) (looks : IsAtLook b) where
     holds_still who ino (by_client f flies has) = by_client f (flies_still b b' change.flights who f flies) has
     holds_still who ino (by_daemon x him is same) = by_daemon now him now_is
         (ap (λ (y : Sharing). y.work.ino) (same_sharing b item x looks.begun is) ∙ same)
+    holds_still who ino (by_cleaning c him is same) = by_cleaning c him (change.cleaning ∙ is) same
 
     holds_before : (who ino : ℕ) → Holds b' who ino → Holds b who ino
     holds_before who ino (by_client f flies has) = by_client f (flies_before b b' change.flights who f flies) has
     holds_before who ino (by_daemon x him is same) = by_daemon item him looks.begun (ap (λ (y : Sharing). y.work.ino) (same_now x is) ∙ same)
+    holds_before who ino (by_cleaning c him is same) = by_cleaning c him (sym change.cleaning ∙ is) same
 
     takes_still : (who page : ℕ) → Takes b who page → Takes b' who page
     takes_still who page (for_client f flies has) = for_client f (flies_still b b' change.flights who f flies) has
+    takes_still who page (for_cleaning c him is has) = for_cleaning c him (change.cleaning ∙ is) has
 
     takes_before : (who page : ℕ) → Takes b' who page → Takes b who page
     takes_before who page (for_client f flies has) = for_client f (flies_before b b' change.flights who f flies) has
+    takes_before who page (for_cleaning c him is has) = for_cleaning c him (sym change.cleaning ∙ is) has
 
     waits_still : (ino at : ℕ) → IsWaiting b ino at → IsWaiting b' ino at
     waits_still ino at (in_queue work n has of_ino of_slot is round) =
@@ -174,6 +181,12 @@ module _ (b : Parts) (looks : IsAtLook b) where
 
     changes_now : changes_to_share b'.sharing ≡ 2 * (item.count - item.done) - changes_spent next
     changes_now = ap (λ (r : Option Sharing). changes_to_share r) now_is
+
+    clean_still : units_to_clean b'.reclaiming.cleaning ≡ units_to_clean b.reclaiming.cleaning
+    clean_still = ap (λ (x : Option Cleaning). units_to_clean x) change.cleaning
+
+    due_still : queue_to_clean b'.reclaiming.cleaning ≡ queue_to_clean b.reclaiming.cleaning
+    due_still = ap (λ (x : Option Cleaning). queue_to_clean x) change.cleaning
 
     owed_units : b'.owed.units ≡ b.owed.units - units
     owed_units = ap (λ (r : Room). r.units) change.owed
@@ -200,6 +213,7 @@ module _ (b : Parts) (looks : IsAtLook b) where
           owed_still (λ room. room.units),
           units_was,
           units_now,
+          clean_still,
           looks.some,
           one_raised,
           one_zero,
@@ -209,7 +223,7 @@ module _ (b : Parts) (looks : IsAtLook b) where
         );
         trace = omega (arith, v.room.owes.trace, owed_still (λ room. room.trace), changes_was, changes_now, looks.some, owed_trace, one);
         history = omega (arith, v.room.owes.history, owed_still (λ room. room.history), owed_history);
-        queue = omega (arith, v.room.owes.queue, owed_still (λ room. room.queue), owed_queue);
+        queue = omega (arith, v.room.owes.queue, owed_still (λ room. room.queue), due_still, owed_queue);
         releases = omega (arith, v.room.owes.releases, owed_still (λ room. room.releases), one_raised, owed_releases);
       }
 
@@ -249,4 +263,5 @@ module _ (b : Parts) (looks : IsAtLook b) where
       left_is = refl;
       less = let queued = ap (λ (ws : List Work). length ws) change.queue in omega (arith, queued, events_was, events_now, fewer);
       waiting = change.waiting;
+      pages = used_same b b' change.free change.cleaning;
     }

@@ -19,11 +19,12 @@ use Rattle.law_log_swap.specs.Relogged.{relogged}
 use Rattle.law_log_swap.proofs.Relogged.{log_here, use_same}
 use Rattle.law_flags.specs.FlagLaws.{KeepsAlone, masked}
 use Rattle.law_flags.proofs.Tags.{mask_own}
+use Rattle.dn_volume.specs.declared.background.Cleaning.{Cleaning}
 use Rattle.dn_volume.specs.declared.background.Sharing.{Sharing}
 use Rattle.dn_volume.specs.declared.flight.Flight.{Flight}
 use Rattle.dn_volume.specs.declared.volume.InodeState.{InodeState}
 use Rattle.dn_volume.specs.declared.volume.Parts.{Parts}
-use Rattle.dn_volume.specs.Parties.{Flies, by_client, by_daemon}
+use Rattle.dn_volume.specs.Parties.{Flies, by_client, by_daemon, by_cleaning}
 use Rattle.dn_volume.specs.Inodes.{AreInodesOf}
 use Rattle.dn_volume.specs.Shares.{IsWaiting, IsBegun}
 use Rattle.dn_volume.specs.Accounts.{WasAloneOn, HasTwinRow, AccountsFor}
@@ -242,6 +243,12 @@ module _ (d : Disk) (b : Parts) (s : State) (v : IsVolume d b s) (sharing : Shar
               (by_daemon sharing refl looking.begun refl),
         )) flies
 
+    not_cleaned : (c : Cleaning) → b.reclaiming.cleaning ≡ Some c → c.ino ≢ ino
+    not_cleaned c at same =
+        let one = held_once d b v.holders ino (omega (arith, begun.in_table, v.inodes.all)) 16 15 (by_cleaning c refl at same)
+        (by_daemon sharing refl looking.begun refl) in
+        omega (arith, one)
+
     module _ (u : State) (only : StoresOnly (λ a. a ≡ mask_word slot) s u) (others : KeepsFlushed (Others 15) (λ a. a ≡ mask_word slot) s u)
         (done : IsDone 15 (mask_word slot) new_mask s u) (settles : SettlesAll 15 s u) (spare : s.spare ≤ u.spare + 3) where
       pub mask_event : DaemonEvent (ino ∷ []) d e b b' s u
@@ -251,6 +258,7 @@ module _ (d : Disk) (b : Parts) (s : State) (v : IsVolume d b s) (sharing : Shar
         live = it_lives d ino log (mask_word slot) new_mask (masked slot new_mask) retags;
         loose = λ q f flies i held has. not_client q f flies
             (subst (Contains f.held.items) (only_it d ino log (mask_word slot) new_mask (masked slot new_mask) retags i has) held);
+        apart = λ c at has. not_cleaned c at (only_it d ino log (mask_word slot) new_mask (masked slot new_mask) retags c.ino has);
         disk = disk_kept d ino log (mask_word slot) new_mask (masked slot new_mask) retags;
         kept = change.kept;
         inodes_are = inodes_kept d ino log (mask_word slot) new_mask (masked slot new_mask) retags b'.inodes.items

@@ -11,7 +11,7 @@ use Rattle.dn_volume.specs.declared.background.SharingStep.{SharingStep}
 use Rattle.dn_volume.specs.declared.background.SharingStep.TheVariants.{Look}
 use Rattle.dn_volume.specs.declared.volume.InodeState.{InodeState}
 use Rattle.dn_volume.specs.declared.volume.Parts.{Parts}
-use Rattle.dn_volume.specs.Parties.{Holds, by_client, by_daemon}
+use Rattle.dn_volume.specs.Parties.{Holds, by_client, by_daemon, by_cleaning}
 use Rattle.dn_volume.specs.Inodes.{AreInodesOf}
 use Rattle.dn_volume.specs.Balance.{times, raised_at, added_at, raised_to_share, added_to_share}
 use Rattle.dn_volume.specs.Shares.{IsWaiting, in_queue, is_begun, IsBegun, IsSharing, Shares}
@@ -22,7 +22,8 @@ use Rattle.dn_volume.proofs.HandsKept.{flies_before, flies_still}
 use Rattle.dn_volume.proofs.Stills.{still_same}
 use Rattle.dedupe_daemon.specs.Daemon.{PassesPlace, after_place}
 use Rattle.dedupe_daemon.specs.Looked.{IsLooking, IsPassed}
-use Rattle.dedupe_daemon.proofs.DaemonEvent.{DaemonEvent, flights_same}
+use Rattle.count_events.proofs.UsedPages.{used_same}
+use Rattle.dedupe_daemon.proofs.DaemonEvent.{DaemonEvent, flights_same, cleaning_same}
 use Rattle.dedupe_daemon.proofs.DaemonRoom.{room_kept}
 use Rattle.dedupe_daemon.proofs.QuietEvent.{disk_same, leaves_same}
 
@@ -70,12 +71,14 @@ module _ (b : Parts) (sharing : Sharing) (looking : IsLooking b sharing) where
     holds_on who ino (by_client f flies has) = by_client f (flies_still b b' (flights_same b b' change.kept) who f flies) has
     holds_on who ino (by_daemon item him is same) =
         by_daemon (after_place sharing) him change.passed (ap (λ (x : Sharing). x.work.ino) (one_item b.sharing sharing item looking.begun is) ∙ same)
+    holds_on who ino (by_cleaning c him is same) = by_cleaning c him (cleaning_same b b' change.kept ∙ is) same
 
     pub holds_back : (who ino : ℕ) → Holds b' who ino → Holds b who ino
     holds_back who ino (by_client f flies has) = by_client f (flies_before b b' (flights_same b b' change.kept) who f flies) has
     holds_back who ino (by_daemon item him is same) =
         by_daemon sharing him looking.begun (ap (λ (x : Sharing). x.work.ino) (one_item b'.sharing (after_place sharing) item change.passed is) ∙
         same)
+    holds_back who ino (by_cleaning c him is same) = by_cleaning c him (sym (cleaning_same b b' change.kept) ∙ is) same
 
     pub waits_on : (ino slot : ℕ) → IsWaiting b ino slot → IsWaiting b' ino slot
     waits_on ino slot (in_queue work n has of_ino of_slot at round) =
@@ -119,6 +122,7 @@ module _ (b : Parts) (sharing : Sharing) (looking : IsLooking b sharing) where
           let one = falls in
           omega (arith, queued, before, after, one);
       waiting = ap (λ (r : _). r.waiting) change.kept.reclaiming;
+      pages = used_same b b' change.kept.free (cleaning_same b b' change.kept);
     }
       where
         falls : sharing_events (Some (after_place sharing)) < sharing_events (Some sharing)
@@ -160,6 +164,7 @@ module _ (d : Disk) (b b' : Parts) (s : State) (v : IsVolume d b s) (sharing : S
     leaves = leaves_same d s agree;
     live = λ i has. absurd (omega (arith, has.1));
     loose = λ q f flies i held has. absurd (omega (arith, has.1));
+    apart = λ c at has. absurd (omega (arith, has.1));
     disk = disk_same d;
     kept = change.kept;
     inodes_are = subst (λ (ns : List InodeState). AreInodesOf d ns) (sym (nodes_same b sharing looking b' change)) v.inodes;

@@ -1,5 +1,5 @@
 -- The place that is to be mapped to the page of the row that was raised for it.
-use Rattle.std.proofs.Common.{◌≡◌, ◌≢◌, ℕ, ◌+◌, ◌-◌, ◌*◌, ◌<◌, ◌≤◌, List, [], ◌∷◌, length, refl, sym, ◌∙◌, ap, subst, arith}
+use Rattle.std.proofs.Common.{◌≡◌, ◌≢◌, inl, inr, ℕ, ◌+◌, ◌-◌, ◌*◌, ◌<◌, ◌≤◌, List, [], ◌∷◌, length, refl, sym, ◌∙◌, ap, subst, arith}
 use Rattle.std.specs.Prelude.{Option, Some, None, IsNone, Contains, slice_get, slice_index}
 use Rattle.std.specs.Option.{option_map}
 use Rattle.std.specs.FinMap.{get}
@@ -18,7 +18,7 @@ use Rattle.dn_model.specs.Own.{page_bytes}
 use Rattle.law_write.specs.Events.{IsUnused}
 use Rattle.law_write.proofs.MappedPlaces.{maps-in_file}
 use Rattle.law_write.proofs.WriteValid.{mapped_counts}
-use Rattle.law_table.proofs.Rows.{distinct_same, none_listed, listed_here}
+use Rattle.law_table.proofs.Rows.{distinct_same, none_listed}
 use Rattle.law_share.specs.Sharing.{MayShare, was_free, was_place}
 use Rattle.fact_table.specs.Table.{IsAtSlot}
 use Rattle.fact_counts.proofs.Counting.{row_small}
@@ -31,6 +31,7 @@ use Rattle.dn_volume.specs.declared.volume.Parts.{Parts}
 use Rattle.dn_volume.specs.Balance.{times, raised_at, raised_to_share, raised}
 use Rattle.dn_volume.specs.Shares.{IsAtStep, IsBegun, IsToRemap}
 use Rattle.dn_volume.specs.Reserve.{units_to_share, units_spent}
+use Rattle.dn_volume.specs.Cleans.{IsLeft}
 use Rattle.dn_volume.specs.Agrees.{IsVolume}
 use Rattle.dn_volume.proofs.RowSlots.{balance_at}
 use Rattle.dn_volume.proofs.Tables.{is_table}
@@ -38,7 +39,12 @@ use Rattle.dn_volume.proofs.Times.{times_first}
 use Rattle.reclaim.proofs.NodesChanged.{same_some}
 use Rattle.dedupe_daemon.specs.declared.remap.NewPlace.{NewPlace}
 use Rattle.dedupe_daemon.specs.Remapped.{IsNewPlace, taken_pages, TakesFor}
-use Rattle.dedupe_daemon.proofs.ShareTaken.{AreTaken, are_taken, has_room}
+use Rattle.dedupe_daemon.proofs.ShareTaken.{AreTaken, are_taken, left_apart, has_room}
+
+-- a page that is left is unused
+left_unused : (d : Disk) (b : Parts) (s : State) → IsVolume d b s → (p : ℕ) → IsLeft b p → IsUnused d p
+left_unused d b s v p (inl has) = ((v.space.free p).0 has).0
+left_unused d b s v p (inr took) = v.space.unused p (λ none. let his = v.space.takes 16 p took in omega (arith, his, none))
 
 pub no_mapping : (o : Option KeptMapping) (m : KeptMapping) → o ≡ None → o ≡ Some m → ⊥
 no_mapping o m none some = cc
@@ -109,7 +115,7 @@ module _ (d : Disk) (b : Parts) (s : State) (v : IsVolume d b s) (sharing : Shar
   remap_spare = omega (arith, remap_owes, v.room.units)
 
   pub some_free : b.free.free ≢ []
-  some_free none = let long = ap (λ (ps : List ℕ). length ps) none in omega (arith, long, v.space.left)
+  some_free none = let long = ap (λ (ps : List ℕ). length ps) none in omega (arith, long, v.space.some)
 
   raised_one : 1 ≤ raised b slot
   raised_one =
@@ -165,15 +171,12 @@ module _ (d : Disk) (b : Parts) (s : State) (v : IsVolume d b s) (sharing : Shar
       pub fresh_unused : (p : ℕ) → Contains (taken_pages fresh) p → IsUnused d p
       fresh_unused p has = ((v.space.free p).0 (taken.listed p has)).0
 
-      head_of : (ps : List ℕ) → 1 ≤ length ps → (q : ℕ) × Contains ps q
-      head_of [] some = absurd (omega (arith, some))
-      head_of (p ∷ ps) some = (p, listed_here p ps)
+      -- a page is left still, by which the row's page isn't the only free one
+      abbrev pub other : (q : ℕ) × IsLeft b q × (Contains (taken_pages fresh) q → ⊥)
+      other = left_apart b fresh v.space.left
 
-      abbrev other : (q : ℕ) × Contains free'.free q
-      other = head_of free'.free (omega (arith, taken.long, taken.few, v.space.left))
-
-      other_unused : IsUnused d other.0
-      other_unused = ((v.space.free other.0).0 (taken.back other.0 other.1)).0
+      pub other_unused : IsUnused d other.0
+      other_unused = left_unused d b s v other.0 other.1
 
       pub may_share : MayShare d n.ino n.idx is.row (taken_pages fresh)
       may_share = record {
@@ -196,7 +199,7 @@ module _ (d : Disk) (b : Parts) (s : State) (v : IsVolume d b s) (sharing : Shar
           other.0,
           is.by.block,
           not_was other.0 other_unused.free,
-          was_free other_unused.free (λ has. taken.gone other.0 has other.1) (not_row other.0 other_unused),
+          was_free other_unused.free other.2 (not_row other.0 other_unused),
           was_place refl,
         );
       }

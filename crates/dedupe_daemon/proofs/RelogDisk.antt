@@ -24,7 +24,7 @@ use Rattle.law_table.proofs.Words.{nothing_ready}
 use Rattle.law_table_on_disk.specs.OneWord.{IsOneWord}
 use Rattle.law_table_on_disk.proofs.OneWord.{one_word_stands, one_word_any_order, one_word_may_commit}
 use Rattle.law_log_swap.specs.Relogged.{relogged}
-use Rattle.law_log_swap.proofs.Relogged.{at_other, use_same, same_word, maps_others}
+use Rattle.law_log_swap.proofs.Relogged.{log_here, at_other, use_same, same_word, maps_others}
 use Rattle.law_flags.specs.FlagLaws.{KeepsPages}
 use Rattle.dn_volume.specs.declared.volume.InodeState.{InodeState}
 use Rattle.dn_volume.specs.Inodes.{IsInodeOf, AreInodesOf}
@@ -43,6 +43,7 @@ pub record IsRetagged (d : Disk) (ino : ℕ) (log : Log) (at value : ℕ) (r : M
   pub live : (d.inode ino).use_of ≡ Live
   pub one : IsOneWord d (relogged d ino log) 0 [] at value
   pub pages : KeepsPages d (relogged d ino log) ino
+  pub same_pages : log.pages ≡ (d.inode ino).log.pages
   pub now_maps : (idx : ℕ) → maps (relogged d ino log) ino idx ≡ option_map r (maps d ino idx)
   pub same_kept : (m : Mapping) → kept (r m) ≡ kept m
   pub page : ℕ
@@ -165,11 +166,19 @@ module _ (d : Disk) (ino : ℕ) (log : Log) (at value : ℕ) (r : Mapping → Ma
       both None = refl
       both (Some m) = ap Some (is.same_kept m)
 
+  log_long : (i : ℕ) → length (e.inode i).log.pages ≡ length (d.inode i).log.pages
+  log_long i = elim (cases_eq i ino) [
+    | inl here ↦ subst (λ (j : ℕ). length (e.inode j).log.pages ≡ length (d.inode j).log.pages) (sym here)
+        (ap (λ (l : Log). length l.pages) (log_here d ino log) ∙ ap (λ (ps : List ℕ). length ps) is.same_pages)
+    | inr ne ↦ ap (λ (n : _). length n.log.pages) (at_other d ino log i ne)
+  ]
+
   pub inode_kept : (i : ℕ) (n : InodeState) → IsInodeOf d i n → IsInodeOf e i n
   inode_kept i n was = record {
     use_is = use_same d ino log i ∙ was.use_is;
     size_is = λ used. is.pages.places.sizes i ∙ was.size_is (subst IsUsed (use_same d ino log i) used);
     small = was.small;
+    log_pages = λ used. log_long i ∙ was.log_pages (subst IsUsed (use_same d ino log i) used);
     places = λ idx. was.places idx ∙ sym (kept_each i idx);
   }
 

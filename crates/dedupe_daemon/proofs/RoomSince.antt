@@ -1,5 +1,5 @@
 -- An event of the daemon after room was made for it.
-use Rattle.std.proofs.Common.{◌≡◌, ℕ, ◌-◌, ◌<◌, List, sym, ◌∙◌, ap, subst}
+use Rattle.std.proofs.Common.{◌≡◌, ℕ, ◌-◌, ◌<◌, ◌≤◌, List, sym, ◌∙◌, ap, subst}
 use Rattle.std.specs.Prelude.{None, IsSome, slice_get}
 use Rattle.pm_device.specs.State.{State, Agree}
 use Rattle.dn_model.specs.Disk.{Disk}
@@ -9,10 +9,10 @@ use Rattle.dn_volume.specs.declared.outcome.Outcome.TheVariants.{Running, Done, 
 use Rattle.dn_volume.specs.declared.volume.InodeState.{InodeState}
 use Rattle.dn_volume.specs.declared.volume.Parts.{Parts}
 use Rattle.dn_volume.specs.declared.volume.Volume.{Volume}
-use Rattle.dn_volume.specs.Parties.{Holds, by_client, by_daemon, flight_at}
+use Rattle.dn_volume.specs.Parties.{Holds, by_client, by_daemon, by_cleaning, flight_at}
 use Rattle.dn_volume.specs.Agrees.{IsVolume}
 use Rattle.dn_volume.specs.Begins.{IsUntouched}
-use Rattle.dn_volume.specs.Works.{IsHeldUp, DaemonRests, MayWork, DaemonLowers, DaemonWorks, daemon_stand, daemon_work}
+use Rattle.dn_volume.specs.Works.{IsHeldUp, DaemonRests, MayWork, DaemonLowers, DaemonWorks, daemon_stand, daemon_work, used_pages}
 use Rattle.dn_volume.proofs.SameRoom.{room_joins}
 use Rattle.reclaim.specs.RoomMade.{MakesRoom}
 use Rattle.reclaim.proofs.RoomThen.{room_untouched, moves_on_since, breaks_since}
@@ -24,6 +24,7 @@ pub record SameStand (b c : Parts) : Type 0 where
   pub inodes : c.inodes.items ≡ b.inodes.items
   pub flights : c.flights.items ≡ b.flights.items
   pub waiting : c.reclaiming.waiting ≡ b.reclaiming.waiting
+  pub cleaning : c.reclaiming.cleaning ≡ b.reclaiming.cleaning
 
 module _ (b c : Parts) (same : SameStand b c) where
   rests_on : DaemonRests b → DaemonRests c
@@ -33,6 +34,7 @@ module _ (b c : Parts) (same : SameStand b c) where
   holds_on who ino (by_client f flies has) = by_client f
       (record { client = flies.client; is = ap (λ fs. flight_at fs (who - 1)) same.flights ∙ flies.is }) has
   holds_on who ino (by_daemon x him is at) = by_daemon x him (same.sharing ∙ is) at
+  holds_on who ino (by_cleaning x him is at) = by_cleaning x him (same.cleaning ∙ is) at
 
   held_on : (d : Disk) (holder : ℕ) → IsHeldUp d b holder → IsHeldUp d c holder
   held_on d holder is = record {
@@ -60,6 +62,7 @@ same_back b c same = record {
   inodes = sym same.inodes;
   flights = sym same.flights;
   waiting = sym same.waiting;
+  cleaning = sym same.cleaning;
 }
 
 pub may_on : (d : Disk) (b c : Parts) → SameStand b c → MayWork (daemon_stand d c) → MayWork (daemon_stand d b)
@@ -76,6 +79,7 @@ module _ {D F : Type 0} (state : D → State) (w w1 : Volume D F) (made : MakesR
     inodes = ap (λ (p : Parts). p.inodes.items) made.parts;
     flights = ap (λ (p : Parts). p.flights.items) made.parts;
     waiting = ap (λ (p : Parts). p.reclaiming.waiting) made.parts;
+    cleaning = ap (λ (p : Parts). p.reclaiming.cleaning) made.parts;
   }
 
   module _ (agree : Agree (state w.device).now (state w.device).past) (w2 : Volume D F) (print : Print) (d : Disk)
@@ -100,6 +104,7 @@ module _ {D F : Type 0} (state : D → State) (w w1 : Volume D F) (made : MakesR
       left_is = is.left_is;
       less = subst (λ (k : ℕ). daemon_work w2.parts < k) work_same is.less;
       waiting = is.waiting ∙ stand_made.waiting;
+      pages = subst (λ (k : ℕ). used_pages w2.parts ≤ k) (ap (λ (p : Parts). used_pages p) made.parts) is.pages;
     }
       where
         work_same : daemon_work w1.parts ≡ daemon_work w.parts

@@ -47,6 +47,7 @@ use Rattle.dn_volume.specs.declared.background.Sharing.{Sharing}
 use Rattle.dn_volume.specs.declared.background.SharingStep.{SharingStep}
 use Rattle.dn_volume.specs.declared.background.SharingStep.TheVariants.{Remap}
 use Rattle.dn_volume.specs.declared.volume.InodeState.{InodeState}
+use Rattle.dn_volume.specs.declared.volume.Parts.{Parts}
 use Rattle.dn_volume.specs.declared.volume.Volume.{Volume}
 use Rattle.dn_volume.specs.Agrees.{IsVolume, Agrees, agrees_with, is_stopped}
 use Rattle.dn_volume.specs.Events.{IsBetween, MovesOn, Breaks, word_in}
@@ -57,6 +58,8 @@ use Rattle.dn_volume.proofs.Kept.{ops_same}
 use Rattle.dn_volume.proofs.Owned.{in_data, regions}
 use Rattle.dn_volume.proofs.Tables.{running_disk}
 use Rattle.count_events.specs.Released.{Stops}
+use Rattle.count_events.proofs.UsedPages.{used_less}
+use Rattle.reclaim.proofs.LogWalk.{log_few}
 use Rattle.dedupe_daemon.specs.declared.remap.NewPlace.{NewPlace}
 use Rattle.dedupe_daemon.specs.Remapped.{
   IsNewPlace,
@@ -117,6 +120,11 @@ tail_small pages (suc n) fits small = let page = small (n / 63) (omega (arith, f
 fresh_small : (fresh : Option ℕ) → ((p : ℕ) → Contains (taken_pages fresh) p → p < 65536) → IfSome fresh (λ page. page < 65536)
 fresh_small None small = tt
 fresh_small (Some p) small = small p (0, omega arith, refl)
+
+-- by the number of pages that it is equal to
+pub remapped_by : (n : NewPlace) (m : KeptMapping) (more long slot : ℕ) (b b' : Parts) → more ≡ long → RemapsPart n m more slot b b'
+    → RemapsPart n m long slot b b'
+remapped_by n m more long slot b b' same = subst (λ (k : ℕ). RemapsPart n m k slot b b') same
 
 module _ {D F : Type 0} (state : D → State) (w : Volume D F) (sharing : Sharing) (begun : w.parts.sharing ≡ Some sharing) (slot : ℕ)
     (step : sharing.step ≡ Remap slot) (n : NewPlace) (is : (d : Disk) → IsVolume d w.parts (state w.device) → IsNewPlace d sharing slot n)
@@ -201,6 +209,14 @@ module _ {D F : Type 0} (state : D → State) (w : Volume D F) (sharing : Sharin
         (ap (slice_get w.parts.inodes.items) (sym (at found.0 found.1).ino) ∙ there) in
         subst (λ (r : Option KeptMapping). IsSome r) (sym (ap (get node.map.map) (at found.0 found.1).idx ∙ mapped)) refl
 
+    pub remap_long : (node : InodeState) → slice_get w.parts.inodes.items n.ino ≡ Some node
+        → node.log_pages + length (taken_pages fresh) < 2 ^ 64
+    remap_long node there =
+        let long = (found.1.inodes.each n.ino node there).log_pages (share_used found.0 n.ino n.idx (at found.0 found.1).row (taken_pages fresh)
+        (may found.0 found.1)) in
+        let most = log_few found.0.geometry (found.0.inode n.ino).log (paged found.0 found.1) in
+        omega (arith, long, most, few found.0 found.1, its.few)
+
     pub remap_few : sharing.count < 2 ^ 32
     remap_few = item_few found.0 found.1.fast.valid sharing (found.1.sharing sharing begun).begun
 
@@ -236,7 +252,8 @@ module _ {D F : Type 0} (state : D → State) (w : Volume D F) (sharing : Sharin
     module _ (done : SharesNew w.parts.geometry n.ino n.idx n.size n.page (taken_pages fresh) (state w.device) (state w'.device))
         (own : SettlesAll 15 (state w.device) (state w'.device)) (spare : (state w.device).spare ≤ (state w'.device).spare + REMAP_UNITS)
         (item : ℕ) (item_is : IsItemSlot n.tail (taken_pages fresh) item)
-        (change : RemapsPart n (record { block = n.page; slot = item; bit = 0 }) slot (record w.parts { free = free' }) w'.parts) where
+        (change : RemapsPart n (record { block = n.page; slot = item; bit = 0 }) (length (taken_pages fresh)) slot (record w.parts { free = free' })
+        w'.parts) where
       volume : IsVolume e w'.parts (state w'.device)
       volume = remap_volume d w.parts (state w.device) v sharing begun slot step n (at d v) free' fresh takes item item_is w'.parts change
           (state w'.device) (done d (at d v).row (ready d v)) stores own spare
@@ -288,4 +305,8 @@ module _ {D F : Type 0} (state : D → State) (w : Volume D F) (sharing : Sharin
             ∙ ap (λ (t : Bool). if t then 3 * (sharing.count - sharing.done - 1) + 1 + 1 else 1) test in
             omega (arith, queued, was, now);
         waiting = ap (λ (r : _). r.waiting) change.reclaiming;
+        pages =
+            let its' = taken d w.parts (state w.device) v sharing begun slot step n (at d v) free' fresh takes in
+            used_less w.parts w'.parts (change.free.pages ∙ its'.pages) (omega (arith, change.free.count, its'.long, its'.few))
+            (ap (λ (r : _). r.cleaning) change.reclaiming);
       }

@@ -1,5 +1,5 @@
 -- The event of a place that comes to share a page: the volume of after.
-use Rattle.std.proofs.Common.{◌≡◌, ◌≢◌, inl, inr, ⊎_elim, ℕ, ◌+◌, ◌-◌, ◌*◌, ◌<◌, ◌≤◌, false, List, [], ◌∷◌, length, refl, sym, ◌∙◌, ap, subst, arith}
+use Rattle.std.proofs.Common.{◌≡◌, ◌≢◌, inl, inr, ⊎_elim, ℕ, ◌+◌, ◌-◌, ◌*◌, ◌<◌, ◌≤◌, false, List, [], ◌∷◌, length, length-append, refl, sym, ◌∙◌, ap, subst, arith}
 use Rattle.std.specs.Prelude.{Option, Some, IsSome, All, Contains, slice_get, vec_len, vec_capacity}
 use Rattle.std.specs.VecDeque.{deque_len, deque_capacity}
 use Rattle.std.specs.Option.{option_map}
@@ -15,7 +15,7 @@ use Rattle.log_entry.specs.declared.item.Flag.TheVariants.{InProcess}
 use Rattle.log_entry.specs.declared.item.LogItem.TheVariants.{Write}
 use Rattle.file_index.specs.declared.page_map.Mapping.{Mapping as KeptMapping}
 use Rattle.file_content.specs.Content.{kept}
-use Rattle.dn_model.specs.Log.{Placed, placed}
+use Rattle.dn_model.specs.Log.{Log, Placed, placed}
 use Rattle.dn_model.specs.Maps.{Mapping}
 use Rattle.dn_model.specs.Table.{Row, row_of}
 use Rattle.dn_model.specs.Disk.{Disk, DiskSays, IsUsed, maps, rows}
@@ -24,7 +24,7 @@ use Rattle.dn_model.specs.Own.{IsAlone, LivePlace, HasRow as PageHasRow}
 use Rattle.dn_model.specs.declared.op.CountChange.{CountChange}
 use Rattle.law_write.specs.Events.{IsUnused}
 use Rattle.law_table.proofs.Rows.{none_listed, distinct_same, listed_cases}
-use Rattle.law_log_swap.proofs.Relogged.{at_other, use_same, maps_others}
+use Rattle.law_log_swap.proofs.Relogged.{log_here, at_other, use_same, maps_others}
 use Rattle.law_share.specs.Sharing.{MayShare, shared_disk}
 use Rattle.law_share.proofs.Shared.{shared_valid, names_same}
 use Rattle.dn_volume.specs.declared.units.TheConstants.{END_UNITS, PLACE_UNITS, LOOK_UNITS, REMAP_UNITS}
@@ -37,14 +37,15 @@ use Rattle.dn_volume.specs.declared.background.SharingStep.TheVariants.{Remap, S
 use Rattle.dn_volume.specs.declared.volume.InodeState.{InodeState}
 use Rattle.dn_volume.specs.declared.volume.Parts.{Parts}
 use Rattle.dn_volume.specs.declared.volume.Room.{Room}
-use Rattle.dn_volume.specs.Parties.{Flies, Holds, by_client, by_daemon, Takes, for_client, SameOthers, flight_at}
+use Rattle.dn_volume.specs.Parties.{Flies, Holds, by_client, by_daemon, by_cleaning, Takes, for_client, for_cleaning, SameOthers, flight_at}
 use Rattle.dn_volume.specs.Inodes.{as_use, IsInodeOf, AreInodesOf, AreHolders}
 use Rattle.dn_volume.specs.Space.{HasSpace}
 use Rattle.dn_volume.specs.Balance.{times, raised_by, raised_at, added_at, raised_to_share, added_to_share, raised_to_die, added, AreCounted}
 use Rattle.dn_volume.specs.Flights.{IsFlight, AreFlights}
 use Rattle.dn_volume.specs.Shares.{IsWaiting, in_queue, is_begun, IsQueued, IsSharing, IsBegun, Shares}
 use Rattle.dn_volume.specs.Reclaims.{one_if, IsReclaiming}
-use Rattle.dn_volume.specs.Reserve.{owed_sum, units_to_share, changes_to_share, units_spent, changes_spent, Owes, HasRoom}
+use Rattle.dn_volume.specs.Reserve.{owed_sum, units_to_share, changes_to_share, units_spent, changes_spent, units_to_clean, queue_to_clean, Owes, HasRoom}
+use Rattle.dn_volume.specs.Cleans.{IsLeft, TwoLeft}
 use Rattle.dn_volume.specs.Agrees.{StandsFast, NamesSlots, IsVolume}
 use Rattle.dn_volume.specs.Rely.{LeavesRest, IsFor, StayInHand}
 use Rattle.dn_volume.proofs.Heads.{none_stale_kept}
@@ -62,7 +63,7 @@ use Rattle.dedupe_daemon.specs.declared.remap.NewPlace.{NewPlace}
 use Rattle.dedupe_daemon.specs.Remapped.{IsNewPlace, taken_pages, TakesFor, IsItemSlot, SharesOnly, MapsPlace, RemapsPart}
 use Rattle.dedupe_daemon.proofs.ShareTaken.{AreTaken}
 use Rattle.dedupe_daemon.proofs.ShareAppended.{share_used}
-use Rattle.dedupe_daemon.proofs.PlaceFound.{to_remap, remap_begun, remap_owes, not_was, taken, may_share, may_by}
+use Rattle.dedupe_daemon.proofs.PlaceFound.{to_remap, remap_begun, remap_owes, not_was, taken, other, other_unused, may_share, may_by}
 use Rattle.dedupe_daemon.proofs.ShareDisk as disk
 
 module _ (d : Disk) (b : Parts) (s : State) (v : IsVolume d b s) (sharing : Sharing) (begun : b.sharing ≡ Some sharing) (slot : ℕ)
@@ -87,7 +88,7 @@ module _ (d : Disk) (b : Parts) (s : State) (v : IsVolume d b s) (sharing : Shar
   some_done = (to_remap d b s v sharing begun slot step).some
 
   module _ (item : ℕ) (item_is : IsItemSlot n.tail pages item) (b' : Parts)
-      (change : RemapsPart n (record { block = n.page; slot = item; bit = 0 }) slot (record b { free = free' }) b') where
+      (change : RemapsPart n (record { block = n.page; slot = item; bit = 0 }) (length pages) slot (record b { free = free' }) b') where
     abbrev m : KeptMapping
     m = record { block = n.page; slot = item; bit = 0 }
 
@@ -114,21 +115,26 @@ module _ (d : Disk) (b : Parts) (s : State) (v : IsVolume d b s) (sharing : Shar
     ino_lt : n.ino < length b.inodes.items
     ino_lt = omega (arith, may.in_table, v.inodes.all)
 
-    holder_same : (x y : InodeState) → MapsPlace n.idx m x y → y.holder ≡ x.holder
+    holder_same : (x y : InodeState) → MapsPlace n.idx m (length pages) x y → y.holder ≡ x.holder
     holder_same x y maps_it = maps_it.holder
 
-    round_same : (x y : InodeState) → MapsPlace n.idx m x y → y.round ≡ x.round
+    round_same : (x y : InodeState) → MapsPlace n.idx m (length pages) x y → y.round ≡ x.round
     round_same x y maps_it = maps_it.round
 
     nodes : KeepsNodes b.inodes.items b'.inodes.items
-    nodes = nodes_kept (MapsPlace n.idx m) n.ino b.inodes.items b'.inodes.items change.inodes ino_lt holder_same round_same
+    nodes = nodes_kept (MapsPlace n.idx m (length pages)) n.ino b.inodes.items b'.inodes.items change.inodes ino_lt holder_same round_same
 
-    node_now : (x y : InodeState) → IsInodeOf d n.ino x → MapsPlace n.idx m x y → IsInodeOf e n.ino y
+    node_now : (x y : InodeState) → IsInodeOf d n.ino x → MapsPlace n.idx m (length pages) x y → IsInodeOf e n.ino y
     node_now x y was maps_it = record {
       use_is = use_same d n.ino (disk.log d n.ino n.idx is.row pages may) n.ino ∙ was.use_is ∙ ap as_use (sym maps_it.used_is);
       size_is = λ used. (disk.place d n.ino n.idx is.row pages may).size_same
           ∙ was.size_is (subst IsUsed (use_same d n.ino (disk.log d n.ino n.idx is.row pages may) n.ino) used) ∙ sym maps_it.size;
       small = subst (λ (k : ℕ). k ≤ 16777216) (sym maps_it.size) was.small;
+      log_pages = λ used.
+          let now = ap (λ (l : Log). length l.pages) (log_here d n.ino (disk.log d n.ino n.idx is.row pages may)) in
+          let long = length-append (d.inode n.ino).log.pages pages in
+          let old = was.log_pages (subst IsUsed (use_same d n.ino (disk.log d n.ino n.idx is.row pages may) n.ino) used) in
+          omega (arith, now, long, old, maps_it.log_pages);
       places = λ j. elim (cases_eq j n.idx) [
         | inl here ↦
             ap (get y.map.map) here ∙ maps_it.here ∙ ap Some (sym here_now)
@@ -141,19 +147,25 @@ module _ (d : Disk) (b : Parts) (s : State) (v : IsVolume d b s) (sharing : Shar
     }
 
     inodes_after : AreInodesOf e b'.inodes.items
-    inodes_after = nodes_are (MapsPlace n.idx m) n.ino b.inodes.items b'.inodes.items change.inodes ino_lt d e v.inodes
+    inodes_after = nodes_are (MapsPlace n.idx m (length pages)) n.ino b.inodes.items b'.inodes.items change.inodes ino_lt d e v.inodes
         (disk.geometry_still d n.ino n.idx is.row pages may) (at_other d n.ino (disk.log d n.ino n.idx is.row pages may))
         (maps_others d n.ino (disk.log d n.ino n.idx is.row pages may)) node_now
+
+    -- a cleaning that is begun
+    cleaning_same : b'.reclaiming.cleaning ≡ b.reclaiming.cleaning
+    cleaning_same = ap (λ (r : _). r.cleaning) change.reclaiming
 
     -- who holds and waits
     holds_still : (who i : ℕ) → Holds b who i → Holds b' who i
     holds_still who i (by_client f flies has) = by_client f (flies_still b b' flights_same who f flies) has
     holds_still who i (by_daemon x him at same) = by_daemon now him remapped_now
         (ap (λ (y : Sharing). y.work.ino) (same_sharing b sharing x begun at) ∙ same)
+    holds_still who i (by_cleaning c him at same) = by_cleaning c him (cleaning_same ∙ at) same
 
     holds_before : (who i : ℕ) → Holds b' who i → Holds b who i
     holds_before who i (by_client f flies has) = by_client f (flies_before b b' flights_same who f flies) has
     holds_before who i (by_daemon x him at same) = by_daemon sharing him begun (ap (λ (y : Sharing). y.work.ino) (same_now x at) ∙ same)
+    holds_before who i (by_cleaning c him at same) = by_cleaning c him (sym cleaning_same ∙ at) same
 
     holders_after : AreHolders e b'
     holders_after = record {
@@ -211,13 +223,38 @@ module _ (d : Disk) (b : Parts) (s : State) (v : IsVolume d b s) (sharing : Shar
 
     takes_before : (who p : ℕ) → Takes b' who p → Takes b who p
     takes_before who p (for_client f flies has) = for_client f (flies_before b b' flights_same who f flies) has
+    takes_before who p (for_cleaning c him at has) = for_cleaning c him (sym cleaning_same ∙ at) has
 
     takes_still : (who p : ℕ) → Takes b who p → Takes b' who p
     takes_still who p (for_client f flies has) = for_client f (flies_still b b' flights_same who f flies) has
+    takes_still who p (for_cleaning c him at has) = for_cleaning c him (cleaning_same ∙ at) has
 
     taken_unused : (p : ℕ) → v.space.taker p ≢ 0 → IsUnused e p
     taken_unused p some = disk.unused_on d n.ino n.idx is.row pages may p (v.space.unused p some)
         (λ has. some ((v.space.free p).0 (its.listed p has)).1)
+
+    -- the old page is left, and one that was
+    abbrev left_page : (q : ℕ) × IsLeft b q × (Contains pages q → ⊥)
+    left_page = other d b s v sharing begun slot step n is free' fresh takes
+
+    left_free : IsUnused d left_page.0
+    left_free = other_unused d b s v sharing begun slot step n is free' fresh takes
+
+    left_other : left_page.0 ≢ n.was
+    left_other same = not_was d b s v sharing begun slot step n is left_page.0 left_free.free (same ∙ sym is.was)
+
+    left_on : (p : ℕ) → p ≢ n.was → (Contains pages p → ⊥) → IsLeft b p → IsLeft b' p
+    left_on p ne out (inl has) = inl ((change.free.others p ne).1 (its.kept p has out))
+    left_on p ne out (inr took) = inr (takes_still 16 p took)
+
+    left_after : TwoLeft b'
+    left_after = record {
+      one = n.was;
+      other = left_page.0;
+      apart = λ same. left_other (sym same);
+      one_left = inl change.free.there;
+      other_left = left_on left_page.0 left_other left_page.2 left_page.1;
+    }
 
     space_after : HasSpace e b'
     space_after = record {
@@ -229,7 +266,8 @@ module _ (d : Disk) (b : Parts) (s : State) (v : IsVolume d b s) (sharing : Shar
       takes = λ who p has. v.space.takes who p (takes_before who p has);
       taken = λ p some. takes_still (v.space.taker p) p (v.space.taken p some);
       unused = taken_unused;
-      left = omega (arith, change.free.count, its.long, its.few, v.space.left);
+      some = omega (arith, change.free.count, its.long, its.few, v.space.some);
+      left = left_after;
     }
 
     -- counts
@@ -358,6 +396,12 @@ module _ (d : Disk) (b : Parts) (s : State) (v : IsVolume d b s) (sharing : Shar
     changes_now : changes_to_share b'.sharing ≡ 2 * (sharing.count - sharing.done) - 1
     changes_now = ap (λ (r : Option Sharing). changes_to_share r) remapped_now
 
+    clean_still : units_to_clean b'.reclaiming.cleaning ≡ units_to_clean b.reclaiming.cleaning
+    clean_still = ap (λ (x : _). units_to_clean x) cleaning_same
+
+    due_still : queue_to_clean b'.reclaiming.cleaning ≡ queue_to_clean b.reclaiming.cleaning
+    due_still = ap (λ (x : _). queue_to_clean x) cleaning_same
+
     owed_units : b'.owed.units ≡ b.owed.units - REMAP_UNITS
     owed_units = ap (λ (r : Room). r.units) change.owed
 
@@ -375,10 +419,21 @@ module _ (d : Disk) (b : Parts) (s : State) (v : IsVolume d b s) (sharing : Shar
 
     owes : Owes b'
     owes = record {
-      units = omega (arith, v.room.owes.units, owed_still (λ room. room.units), units_was, units_now, some_done, one_raised, one_zero, owed_units);
+      units = omega (
+        arith,
+        v.room.owes.units,
+        owed_still (λ room. room.units),
+        units_was,
+        units_now,
+        clean_still,
+        some_done,
+        one_raised,
+        one_zero,
+        owed_units,
+      );
       trace = omega (arith, v.room.owes.trace, owed_still (λ room. room.trace), changes_was, changes_now, owed_trace);
       history = omega (arith, v.room.owes.history, owed_still (λ room. room.history), owed_history);
-      queue = omega (arith, v.room.owes.queue, owed_still (λ room. room.queue), owed_queue);
+      queue = omega (arith, v.room.owes.queue, owed_still (λ room. room.queue), due_still, owed_queue);
       releases = omega (arith, v.room.owes.releases, owed_still (λ room. room.releases), one_raised, owed_releases);
     }
 
@@ -416,12 +471,13 @@ module _ (d : Disk) (b : Parts) (s : State) (v : IsVolume d b s) (sharing : Shar
       remap_others = record {
         flights = λ q some ne. ap (λ (fs : List (Option Flight)). flight_at fs (q - 1)) flights_same;
         sharing = λ ne. absurd (ne refl);
+        cleaning = λ ne. cleaning_same;
       }
 
       leaves : LeavesRest 15 (n.ino ∷ []) pages d e s u
       leaves = disk.share_leaves d n.ino n.idx is.row pages may s u only
 
-      stay : ((q : ℕ) (f : Flight) → q ≢ 15 → Flies b' q f → IsFlight e q f u) × StayInHand 15 e b'
+      stay : ((q : ℕ) (f : Flight) → q ≢ 15 → Flies b' q f → IsFlight e q f u) × StayInHand 15 e b' u
       stay = others_stay 15 (n.ino ∷ []) pages d e b b' s u v fast for_it leaves remap_others (λ ne. ap (λ (r : _). r.raised) change.reclaiming)
 
       flights_after : AreFlights e b' u
@@ -488,6 +544,7 @@ module _ (d : Disk) (b : Parts) (s : State) (v : IsVolume d b s) (sharing : Shar
         queue = queue_after;
         sharing = shares_after;
         reclaiming = reclaiming_after;
+        cleaning = stay.1.cleaning (omega arith);
         pointers = none_stale_kept d e (disk.geometry_still d n.ino n.idx is.row pages may) (disk.pointer_still d n.ino n.idx is.row pages may)
             (λ r has. record {
               row = r;

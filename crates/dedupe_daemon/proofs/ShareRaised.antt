@@ -80,6 +80,7 @@ looks_keeps next slot word units b b' is fact = record {
   history = is.history;
   history_len = is.history_len;
   history_capacity = is.history_capacity;
+  cleaning = is.cleaning;
 }
 
 module _ (d : Disk) (b : Parts) (s : State) (v : IsVolume d b s) (slot : ℕ) (to : IsToShare d b slot) where
@@ -198,6 +199,7 @@ module _ (d : Disk) (b : Parts) (s : State) (v : IsVolume d b s) (slot : ℕ) (t
       same = record {
         flights = λ q some ne. ap (λ (fs : List (Option Flight)). flight_at fs (q - 1)) change.flights;
         sharing = λ ne. absurd (ne refl);
+        cleaning = λ ne. change.cleaning;
       };
       ops = ops_same b b' change.flights;
       running = change.stopped;

@@ -21,6 +21,7 @@ use Rattle.std.proofs.Common.{
   length,
   refl,
   sym,
+  ◌∙◌,
   ap,
   subst,
   arith,
@@ -32,6 +33,8 @@ use Rattle.pm_layout.specs.declared.Geometry.{Geometry}
 use Rattle.page_alloc.specs.Free.{FreePages, IsInOrder}
 use Rattle.dn_model.specs.Log.{Log, IsPaged, count, tail_at}
 use Rattle.inode_log.specs.Prepare.{IsFull}
+use Rattle.dn_volume.specs.declared.volume.Parts.{Parts}
+use Rattle.dn_volume.specs.Cleans.{IsLeft, TwoLeft}
 use Rattle.law_table.proofs.Rows.{listed_here, listed_cases}
 use Rattle.dedupe_daemon.specs.Remapped.{taken_pages, TakesFor}
 
@@ -46,7 +49,7 @@ pub record AreTaken (fresh : List ℕ) (old new : FreePages) : Type 0 where
   pub long : length new.free + length fresh ≡ length old.free
   pub few : length fresh ≤ 1
 
-one_listed : (page p : ℕ) → Contains (page ∷ []) p → page ≡ p
+pub one_listed : (page p : ℕ) → Contains (page ∷ []) p → page ≡ p
 one_listed page p has = ⊎_elim (λ (first : page ≡ p). first) (λ (none : Contains [] p). absurd (omega (arith, none.1))) (listed_cases page [] p has)
 
 pub are_taken : (tail : ℕ) (old new : FreePages) (fresh : Option ℕ) → IsInOrder old → TakesFor tail old new fresh → AreTaken (taken_pages fresh) old
@@ -75,6 +78,14 @@ are_taken tail old new (Some page) order takes = record {
   long = let same = ap (λ (ps : List ℕ). length ps) takes.1.rest in omega (arith, same);
   few = omega arith;
 }
+
+-- of two pages that are left one is none of them
+pub left_apart : (b : Parts) (fresh : Option ℕ) → TwoLeft b → (p : ℕ) × IsLeft b p × (Contains (taken_pages fresh) p → ⊥)
+left_apart b None two = (two.one, two.one_left, λ has. absurd (omega (arith, has.1)))
+left_apart b (Some page) two = elim (cases_eq two.one page) [
+  | inl same ↦ (two.other, two.other_left, λ has. two.apart (same ∙ one_listed page two.other has))
+  | inr ne ↦ (two.one, two.one_left, λ has. ne (sym (one_listed page two.one has)))
+]
 
 -- the log has room for one slot more then
 full_end : (page n : ℕ) → ((page * 64 + n % 63 + 1 ≡ 0) ⊎ ((page * 64 + n % 63 + 1) % 64 ≡ 63)) → n % 63 ≡ 62

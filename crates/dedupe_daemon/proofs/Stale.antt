@@ -11,7 +11,7 @@ use Rattle.dn_volume.specs.declared.background.Sharing.{Sharing}
 use Rattle.dn_volume.specs.declared.volume.InodeState.{InodeState}
 use Rattle.dn_volume.specs.declared.volume.Parts.{Parts}
 use Rattle.dn_volume.specs.declared.volume.Volume.{Volume}
-use Rattle.dn_volume.specs.Parties.{Holds, by_client, by_daemon}
+use Rattle.dn_volume.specs.Parties.{Holds, by_client, by_daemon, by_cleaning}
 use Rattle.dn_volume.specs.Inodes.{AreInodesOf}
 use Rattle.dn_volume.specs.Balance.{times, raised_to_share, added_to_share}
 use Rattle.dn_volume.specs.Shares.{IsWaiting, in_queue, is_begun}
@@ -22,12 +22,13 @@ use Rattle.dn_volume.specs.Works.{IsFresh, IsHeldUp, MayWork, DaemonLowers, shar
 use Rattle.dn_volume.proofs.HandsKept.{flies_before, flies_still}
 use Rattle.dn_volume.proofs.Stills.{still_same}
 use Rattle.dn_volume.proofs.Tables.{running_disk}
+use Rattle.count_events.proofs.UsedPages.{used_same}
 use Rattle.reclaim.proofs.DyingFound.{read_at}
 use Rattle.reclaim.proofs.NextPlace.{inside_list}
 use Rattle.reclaim.proofs.NodesChanged.{same_some}
 use Rattle.dedupe_daemon.specs.Daemon.{PopsStale}
 use Rattle.dedupe_daemon.specs.Fronts.{IsFreshWork, item_at}
-use Rattle.dedupe_daemon.proofs.DaemonEvent.{DaemonEvent, flights_same, daemon_moves}
+use Rattle.dedupe_daemon.proofs.DaemonEvent.{DaemonEvent, flights_same, cleaning_same, daemon_moves}
 use Rattle.dedupe_daemon.proofs.DaemonRoom.{room_kept}
 use Rattle.dedupe_daemon.proofs.QuietEvent.{disk_same, leaves_same, shown_same}
 use Rattle.dedupe_daemon.proofs.Passed.{none_some}
@@ -54,10 +55,12 @@ module _ (d : Disk) (b b' : Parts) (s : State) (v : IsVolume d b s) (work : Work
   holds_on : (who ino : ℕ) → Holds b who ino → Holds b' who ino
   holds_on who ino (by_client f flies has) = by_client f (flies_still b b' (flights_same b b' change.kept) who f flies) has
   holds_on who ino (by_daemon x him is same) = by_daemon x him (change.sharing ∙ is) same
+  holds_on who ino (by_cleaning c him is same) = by_cleaning c him (cleaning_same b b' change.kept ∙ is) same
 
   holds_back : (who ino : ℕ) → Holds b' who ino → Holds b who ino
   holds_back who ino (by_client f flies has) = by_client f (flies_before b b' (flights_same b b' change.kept) who f flies) has
   holds_back who ino (by_daemon x him is same) = by_daemon x him (sym change.sharing ∙ is) same
+  holds_back who ino (by_cleaning c him is same) = by_cleaning c him (sym (cleaning_same b b' change.kept) ∙ is) same
 
   -- no place is mapped by it
   pub not_fresh : IsFresh d b work → ⊥
@@ -69,6 +72,7 @@ module _ (d : Disk) (b b' : Parts) (s : State) (v : IsVolume d b s) (work : Work
     leaves = leaves_same d s agree;
     live = λ i has. absurd (omega (arith, has.1));
     loose = λ q f flies i held has. absurd (omega (arith, has.1));
+    apart = λ c at has. absurd (omega (arith, has.1));
     disk = disk_same d;
     kept = change.kept;
     inodes_are = subst (λ (ns : List InodeState). AreInodesOf d ns) (sym nodes_same) v.inodes;
@@ -117,6 +121,7 @@ module _ (d : Disk) (b b' : Parts) (s : State) (v : IsVolume d b s) (work : Work
         let same = ap (λ (o : Option Sharing). sharing_events o) change.sharing in
         omega (arith, queued, same);
     waiting = ap (λ (r : _). r.waiting) change.kept.reclaiming;
+    pages = used_same b b' change.kept.free (cleaning_same b b' change.kept);
   }
 
   pub stale_work : MayWork (daemon_stand d b)

@@ -33,6 +33,7 @@ pub record IsHeldBy (holder : Option ℕ) (old new : InodeState) : Type 0 where
   pub size : new.size ≡ old.size
   pub round : new.round ≡ old.round
   pub map : new.map ≡ old.map
+  pub log_pages : new.log_pages ≡ old.log_pages
   pub holder_is : new.holder ≡ holder
 
 -- the front item, which was stale, is gone from the queue

@@ -108,23 +108,26 @@ SharesThere g ino idx size page fresh s t = (d : Disk) (row : Row)
     → IsReadyToShare g ino idx size page fresh d row s
     → SharesOnly ino idx row.page fresh d s t
 
--- this place of an inode leads there, and the rest of it is what it was
-pub record MapsPlace (idx : ℕ) (m : KeptMapping) (old new : InodeState) : Type 0 where
+-- this place of an inode leads there, its log has so many pages more, and the rest of it is what it
+-- was
+pub record MapsPlace (idx : ℕ) (m : KeptMapping) (more : ℕ) (old new : InodeState) : Type 0 where
   pub used_is : new.used ≡ old.used
   pub size : new.size ≡ old.size
   pub round : new.round ≡ old.round
   pub holder : new.holder ≡ old.holder
+  pub log_pages : new.log_pages ≡ old.log_pages + more
   pub here : get new.map.map idx ≡ Some m
   pub others : (j : ℕ) → j ≢ idx → get new.map.map j ≡ get old.map.map j
   pub room : old.map.room ≤ new.map.room
 
--- The place leads to the row's page, the old page is free, and the row is to be settled.
-pub record RemapsPart (n : NewPlace) (m : KeptMapping) (slot : ℕ) (b b' : Parts) : Type 0 where
+-- The place leads to the row's page, its log has so many pages more, the old page is free, and the
+-- row is to be settled.
+pub record RemapsPart (n : NewPlace) (m : KeptMapping) (more slot : ℕ) (b b' : Parts) : Type 0 where
   pub geometry : b'.geometry ≡ b.geometry
   pub free : GivesBack n.was b.free b'.free
   pub in_order : IsInOrder b'.free
   pub names : b'.names ≡ b.names
-  pub inodes : ChangesOne (MapsPlace n.idx m) n.ino b.inodes.items b'.inodes.items
+  pub inodes : ChangesOne (MapsPlace n.idx m more) n.ino b.inodes.items b'.inodes.items
   pub fact : b'.fact ≡ b.fact
   pub queue : b'.queue ≡ b.queue
   pub flights : b'.flights ≡ b.flights

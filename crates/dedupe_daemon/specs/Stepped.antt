@@ -40,6 +40,7 @@ pub record Looks (step : SharingStep) (slot word units : ℕ) (b b' : Parts) : T
   pub raised : b'.reclaiming.raised ≡ b.reclaiming.raised
   pub zero_check : b'.reclaiming.zero_check ≡ b.reclaiming.zero_check
   pub waiting : b'.reclaiming.waiting ≡ b.reclaiming.waiting
+  pub cleaning : b'.reclaiming.cleaning ≡ b.reclaiming.cleaning
   pub trace : b'.trace.items ≡ b.trace.items ++ record { slot = slot; word = word } ∷ []
   pub trace_len : vec_len b'.trace ≡ vec_len b.trace + 1
   pub trace_capacity : vec_capacity b'.trace ≡ vec_capacity b.trace

@@ -1,5 +1,5 @@
 // A place is mapped to the page of a row that has the same bytes.
-ghost use Rattle.std.specs.Prelude.{◌≡◌, ◌≢◌, ◌+◌, ◌*◌, ◌<◌, ◌≤◌, ℕ, [], ◌∷◌, length, false, Some, IsSome, Contains, IfSome, OnOk, IsErr, slice_get};
+ghost use Rattle.std.specs.Prelude.{◌≡◌, ◌≢◌, ◌+◌, ◌*◌, ◌^◌, ◌<◌, ◌≤◌, ℕ, [], ◌∷◌, length, false, Some, IsSome, Contains, IfSome, OnOk, IsErr, slice_get};
 ghost use Rattle.std.specs.FinMap.{get};
 ghost use Rattle.pm_device.specs.State.{Rose};
 ghost use Rattle.pm_device.specs.Settled.{SettlesAll};
@@ -136,37 +136,53 @@ fn item_slot(tail: u64, fresh: Option<u64>) -> u64
     }
 }
 
-// The place leads there.
-fn map_place(node: &mut InodeState, idx: u64, mapping: Mapping)
-    requires below { idx < 4096 }
-    requires there { IsSome (get node.old.map.map idx) }
-    ensures { MapsPlace idx mapping node.old node.new }
+// How many pages more a log has.
+fn pages_more(fresh: Option<u64>) -> u64
+    ensures { result ≡ length (taken_pages fresh) }
 {
-    node.map.set(idx, mapping);
+    match fresh {
+        Some(_) => 1,
+        None => 0,
+    }
 }
 
-// The place of an inode leads there.
-fn map_inode(inodes: &mut Vec<InodeState>, ino: u64, idx: u64, mapping: Mapping)
+// The place leads there, and the inode's log has so many pages more.
+fn map_place(node: &mut InodeState, idx: u64, mapping: Mapping, more: u64)
+    requires below { idx < 4096 }
+    requires there { IsSome (get node.old.map.map idx) }
+    requires few { node.old.log_pages + more < 2 ^ 64 }
+    ensures { MapsPlace idx mapping more node.old node.new }
+{
+    node.map.set(idx, mapping);
+    node.log_pages += more;
+}
+
+// So it is with the inode at a place of the list.
+fn map_inode(inodes: &mut Vec<InodeState>, ino: u64, idx: u64, mapping: Mapping, more: u64)
     requires ino { ino < length inodes.old.items }
     requires idx { idx < 4096 }
     requires there { (node : KeptState) → slice_get inodes.old.items ino ≡ Some node
         → IsSome (get node.map.map idx) }
-    ensures { ChangesOne (MapsPlace idx mapping) ino inodes.old.items inodes.new.items }
+    requires few { (node : KeptState) → slice_get inodes.old.items ino ≡ Some node
+        → node.log_pages + more < 2 ^ 64 }
+    ensures { ChangesOne (MapsPlace idx mapping more) ino inodes.old.items inodes.new.items }
 {
-    map_place(&mut inodes[ino as usize], idx, mapping);
+    map_place(&mut inodes[ino as usize], idx, mapping, more);
 }
 
-// The place leads to its new page, the old one is free, and the row is to be settled.
-fn note_remapped(parts: &mut Parts, n: &NewPlace, mapping: Mapping, slot: u64)
+// The place leads to its new page, its log has so many pages more, the old page is free, and the row is to be settled.
+fn note_remapped(parts: &mut Parts, n: &NewPlace, mapping: Mapping, more: u64, slot: u64)
     requires begun { IsSome parts.old.sharing }
     requires ino { n.now.ino < length parts.old.inodes.items }
     requires idx { n.now.idx < 4096 }
     requires there { (node : KeptState) → slice_get parts.old.inodes.items n.now.ino ≡ Some node
         → IsSome (get node.map.map n.now.idx) }
+    requires few { (node : KeptState) → slice_get parts.old.inodes.items n.now.ino ≡ Some node
+        → node.log_pages + more < 2 ^ 64 }
     requires below { n.now.was < parts.old.free.pages }
     requires taken { ¬ Contains parts.old.free.free n.now.was }
     requires units { REMAP_UNITS ≤ parts.old.owed.units }
-    ensures { RemapsPart n.now mapping slot parts.old parts.new }
+    ensures { RemapsPart n.now mapping more slot parts.old parts.new }
 {
     if let Some(sharing) = parts.sharing {
         let step = SharingStep::Settle {
@@ -175,7 +191,7 @@ fn note_remapped(parts: &mut Parts, n: &NewPlace, mapping: Mapping, slot: u64)
         };
         parts.sharing = Some(at_step(sharing, step));
     }
-    map_inode(&mut parts.inodes, n.ino, n.idx, mapping);
+    map_inode(&mut parts.inodes, n.ino, n.idx, mapping, more);
     parts.free.give_back(n.was);
     parts.made = parts.made.saturating_add(1);
     parts.owed.units -= REMAP_UNITS;
@@ -235,7 +251,8 @@ pub fn remap_place<D: Pm, F: Fingerprint>(
                 slot: item_slot(n.tail, fresh),
                 bit: 0,
             };
-            note_remapped(&mut v.parts, &n, mapping, slot);
+            let more = pages_more(fresh);
+            note_remapped(&mut v.parts, &n, mapping, more, slot);
             Outcome::Running {
                 left: events_left(&v.parts),
             }

@@ -49,6 +49,7 @@ module _ {D F : Type 0} (state : D → State) (print : Print) (d : Disk) (v : Vo
     history = is.history;
     landed = λ who f flies. none_is_some (flight_at v.parts.flights.items (who - 1)) f (is.flights.none (who - 1)) flies.is;
     none_begun = is.sharing;
+    none_cleaned = is.cleaning;
   }
 
   -- the volume is sound since before the mount

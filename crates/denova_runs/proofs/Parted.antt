@@ -229,7 +229,8 @@ module _ (print : Print) (scripts : List (ℕ × List Op)) (rises : Rises 0 scri
         legal = from_opening told (files e) sound.legal;
         short = short_in t v.parts (scripted_front scripts told scripted) (none_next landed) sound.short;
         after = e;
-        at_rest = at_rest e v.parts t volume landed drained.rests.daemon.none_begun drained.rests.reclaim;
+        at_rest = at_rest e v.parts t volume landed drained.rests.daemon.none_begun drained.rests.reclaim.none_waits
+            drained.rests.reclaim.none_begun;
         settled = settled e v.parts t volume landed drained.rests print sound.own;
         same = λ name. refl;
         left_by = left_by e volume sound;
@@ -237,7 +238,8 @@ module _ (print : Print) (scripts : List (ℕ × List Op)) (rises : Rises 0 scri
         free = length v.parts.free.free;
         has_free = (
           v.parts.free.free,
-          (λ page. let is = free_is e v.parts t volume landed drained.rests.daemon.none_begun drained.rests.reclaim page in (is.0, is.1)),
+          (λ page. let is = free_is e v.parts t volume landed drained.rests.daemon.none_begun drained.rests.reclaim.none_waits
+              drained.rests.reclaim.none_begun page in (is.0, is.1)),
           (λ i j x lt il. let less = AllPairs-from_increasing v.parts.free.free volume.space.in_order.rising i j x lt il in
               λ equal. omega (arith, less, equal)),
           refl,

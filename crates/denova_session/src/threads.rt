@@ -7,7 +7,7 @@ ghost use Rattle.dn_model.specs.declared.op.Op.{Op as MadeOp};
 ghost use Rattle.dn_volume.specs.Agrees.{Agrees};
 ghost use Rattle.dn_volume.specs.Resting.{AllLanded};
 ghost use Rattle.dn_volume.specs.Sound.{Sound};
-ghost use Rattle.dn_core.specs.Rest.{AllRest, Drained};
+ghost use Rattle.dn_core.specs.Rest.{KeepsCounts, Drained};
 ghost use Rattle.job_runs.specs.declared.script.RunFault.TheVariants.{Stopped};
 ghost use Rattle.job_runs.specs.Playing.{IsNew};
 ghost use Rattle.job_runs.specs.Scripts.{Rises};
@@ -51,7 +51,7 @@ fn drain_rest<D: Pm, F: Fingerprint>(alloc: Global, v: &mut Volume<D, F>) -> Res
     ensures history { v.new.parts.history.items ≡ v.old.parts.history.items }
     ensures landed { AllLanded v.new.parts }
     ensures faults { (D.state v.old.device).faults ≤ (D.state v.new.device).faults }
-    ensures nothing { AllRest v.old.parts → v.new.parts.trace.items ≡ v.old.parts.trace.items }
+    ensures keeps { OnOk result (KeepsCounts v.old.parts v.new.parts) }
     ensures drained { OnOk result (Drained D.state F.print v.new) }
     ensures stopped { IfErr result (λ fault. fault ≡ Stopped → (v.old.parts.stopped ≡ true)
         ⊎ Rose (D.state v.old.device).faults (D.state v.new.device).faults) }

@@ -1,6 +1,5 @@
 -- What an event adds to the history.
-use Rattle.std.proofs.Common.{◌≡◌, ◌⊎◌, ⊎_elim, ℕ, ◌-◌, ◌≤◌, Bool, true, false, List, [], ◌∷◌, ◌++◌, refl, sym, ◌∙◌, ap, subst}
-use Rattle.std.specs.Prelude.{Option, Some, None}
+use Rattle.std.proofs.Common.{◌≡◌, ⊎_elim, ℕ, List, [], ◌∷◌, ◌++◌, refl, sym, ◌∙◌, ap, subst}
 use Rattle.std.proofs.lemmas.List.{append-nil, append_assoc}
 use Rattle.pm_device.specs.State.{State}
 use Rattle.dn_model.specs.Disk.{Disk}
@@ -13,15 +12,15 @@ use Rattle.dn_volume.specs.declared.outcome.Outcome.{Outcome}
 use Rattle.dn_volume.specs.declared.outcome.Outcome.TheVariants as told
 use Rattle.dn_volume.specs.declared.volume.Parts.{Parts}
 use Rattle.dn_volume.specs.declared.volume.Volume.{Volume}
-use Rattle.dn_volume.specs.Agrees.{Agrees, agrees_with, is_stopped, IsVolume}
+use Rattle.dn_volume.specs.Agrees.{Agrees, agrees_with, is_stopped}
 use Rattle.dn_volume.specs.Events.{Advances}
 use Rattle.dn_volume.specs.Works.{Works, Stand, daemon_stand, DaemonLowers, reclaim_stand, ReclaimLowers}
 use Rattle.dn_volume.specs.Flights.{left_of}
 use Rattle.dn_volume.specs.Sound.{Sound}
 use Rattle.dn_core.specs.declared.event.Event.{Event}
 use Rattle.dn_core.specs.declared.event.Event.TheVariants.{Begin, Advance, Daemon, Reclaim}
-use Rattle.dn_core.specs.Steps.{Steps, Serves, Opens, GoesOn, IsNotYours, actor_of}
-use Rattle.dn_core.specs.Run.{Run, at_first, then_next, IsEntryOf, Adds, AreEntries, none_yet, added, Records}
+use Rattle.dn_core.specs.Steps.{Steps, Serves, Opens, IsNotYours}
+use Rattle.dn_core.specs.Run.{Run, at_first, then_next, Adds, none_yet, added, Records}
 use Rattle.dn_core.proofs.Sounds.{yours_or_not, steps_stay_sound}
 
 -- what one event adds

@@ -1,14 +1,12 @@
 -- Work event by event until none is left.
-use Rattle.std.proofs.Common.{◌≡◌, ◌⊎◌, inl, inr, ⊎_elim, ℕ, ◌+◌, ◌<◌, ◌≤◌, Bool, ◌&&◌, true, false, List, [], ◌∷◌, ◌++◌, length, refl, sym, ◌∙◌, ap, subst, arith}
-use Rattle.std.specs.Prelude.{Ok, Err}
-use Rattle.pm_device.specs.State.{State, Rose, Agree}
-use Rattle.dn_model.specs.Disk.{Disk}
+use Rattle.std.proofs.Common.{◌≡◌, inl, inr, ⊎_elim, ◌<◌, Bool, ◌&&◌, true, false, List, [], ◌∷◌, ◌++◌, refl, ◌∙◌, ap, arith}
+use Rattle.std.specs.Prelude.{Ok, Err, Option, Some, None, IsSome}
+use Rattle.dn_volume.specs.declared.background.Cleaning.{Cleaning}
+use Rattle.pm_device.specs.State.{State}
 use Rattle.dn_model.specs.Own.{Print}
-use Rattle.dn_volume.specs.declared.outcome.Outcome.{Outcome}
 use Rattle.dn_volume.specs.declared.volume.Parts.{Parts}
 use Rattle.dn_volume.specs.declared.volume.Volume.{Volume}
-use Rattle.dn_volume.specs.Agrees.{IsVolume}
-use Rattle.dn_volume.specs.Works.{sharing_events}
+use Rattle.dn_volume.specs.Works.{work_left}
 use Rattle.dn_volume.proofs.SoundStays.{rose_since}
 use Rattle.dn_core.specs.declared.event.Event.{Event}
 use Rattle.dn_core.specs.declared.event.Event.TheVariants.{Begin, Advance, Daemon, Reclaim}
@@ -16,8 +14,8 @@ use Rattle.dn_core.specs.declared.event.DrainFault.{DrainFault}
 use Rattle.dn_core.specs.declared.event.DrainFault.TheVariants as fault
 use Rattle.dn_core.specs.Run.{Run, at_first, then_next}
 use Rattle.dn_volume.specs.Resting.{AllLanded}
-use Rattle.dn_core.specs.Rest.{AllRest, IsWork, Rests, Drained, DrainFails, Rounds, AreRounds, AreFullRounds, no_round, one_more, full, half}
-use Rattle.dn_core.specs.Working.{work_left, SameTasks, WorksOnce, EndsOnce, Draining}
+use Rattle.dn_core.specs.Rest.{AllRest, IsWork, Rests, Drained, DrainFails}
+use Rattle.dn_core.specs.Working.{SameTasks, WorksOnce, Draining}
 use Rattle.dn_core.proofs.Rested.{drained}
 
 clash : (x : Bool) → x ≡ false → x ≡ true → ⊥
@@ -35,7 +33,11 @@ still_rests b b' same rests = record {
     none_begun = same.sharing ∙ rests.daemon.none_begun;
     none_waits = same.queue ∙ rests.daemon.none_waits;
   };
-  reclaim = same.waiting ∙ rests.reclaim;
+  reclaim = record {
+    none_waits = same.waiting ∙ rests.reclaim.none_waits;
+    none_begun = same.cleaning ∙ rests.reclaim.none_begun;
+    none_may = same.may ∙ rests.reclaim.none_may;
+  };
 }
 
 pub draining_none : {D F : Type 0} (state : D → State) (print : Print) (u : Volume D F) → AllLanded u.parts → Draining state print u u []
@@ -45,6 +47,7 @@ draining_none state print u landed = record {
   landed = landed;
   history = refl;
   quiet = λ rests. (rests, refl);
+  keeps = λ rests. (rests, refl);
   faults = omega arith;
   stopped = λ is. is;
 }
@@ -58,6 +61,7 @@ module _ {D F : Type 0} (state : D → State) (print : Print) (u v v' : Volume D
     landed = once.landed;
     history = once.history ∙ was.history;
     quiet = λ rests. let kept = was.quiet rests in by idle once kept.0 kept.1;
+    keeps = λ rests. let kept = was.keeps rests in let then = once.ends.2 kept.0 in (then.0, then.1 ∙ kept.1);
     faults = let one = was.faults in let two = once.faults in omega (arith, one, two);
     stopped = λ is. absurd (runs idle once is);
   }
@@ -95,16 +99,20 @@ pub both_rest : {D F : Type 0} (state : D → State) (print : Print) (v v1 v2 : 
 both_rest state print v v1 v2 first second =
     let d = second.ends.1 in
     let kept : SameTasks v1.parts v2.parts = second.ends.0.1 in
-    let rests : AllRest v1.parts = record { daemon = second.ends.0.0; reclaim = first.ends.0.1.waiting ∙ first.ends.0.0 } in
+    let was : SameTasks v.parts v1.parts = first.ends.0.1 in
+    let rests : AllRest v1.parts = record {
+      daemon = second.ends.0.0;
+      reclaim = record {
+        none_waits = was.waiting ∙ first.ends.0.0.none_waits;
+        none_begun = was.cleaning ∙ first.ends.0.0.none_begun;
+        none_may = was.may ∙ first.ends.0.0.none_may;
+      };
+    } in
     drained state print v2 d.0 d.1 second.landed (still_rests v1.parts v2.parts kept rests)
 
--- the same tasks are the same work
-left_same : (b b' : Parts) → SameTasks b b' → work_left b' ≡ work_left b
-left_same b b' same =
-    let queue : length b'.queue.items ≡ length b.queue.items = ap length same.queue in
-    let events : sharing_events b'.sharing ≡ sharing_events b.sharing = ap sharing_events same.sharing in
-    let waiting = same.waiting in
-    omega (arith, queue, events, waiting)
+no_some : (x : Option Cleaning) → x ≡ None → IsSome x → ⊥
+no_some None is some = cc
+no_some (Some c) is some = cc
 
 -- what is left is less after a round in which not both rest
 pub round_lowers : {D F : Type 0} (state : D → State) (print : Print) (v v1 v2 : Volume D F) (i j : Bool)
@@ -112,11 +120,17 @@ pub round_lowers : {D F : Type 0} (state : D → State) (print : Print) (v v1 v2
     → work_left v2.parts < work_left v.parts
 round_lowers state print v v1 v2 true true first second not = absurd (not refl refl)
 round_lowers state print v v1 v2 true false first second not =
-    let less = second.ends.0.1 in let same = left_same v.parts v1.parts first.ends.0.1 in omega (arith, less, same)
+    let same = first.ends.0.1.left in ⊎_elim
+    (λ less. omega (arith, less, same))
+    (λ waits. absurd (no_some v1.parts.reclaiming.cleaning (first.ends.0.1.cleaning ∙ first.ends.0.0.none_begun) waits.begun))
+    second.ends.0.1
 round_lowers state print v v1 v2 false true first second not =
-    let less = first.ends.0.1 in let same = left_same v1.parts v2.parts second.ends.0.1 in omega (arith, less, same)
+    let less = first.ends.0.1 in let same = second.ends.0.1.left in omega (arith, less, same)
 round_lowers state print v v1 v2 false false first second not =
-    let one = first.ends.0.1 in let two = second.ends.0.1 in omega (arith, one, two)
+    let one = first.ends.0.1 in ⊎_elim
+    (λ two. omega (arith, one, two))
+    (λ waits. let same = waits.same.left in omega (arith, one, same))
+    second.ends.0.1
 
 -- both of two, or not both
 pub first_of : (i j : Bool) → (i && j) ≡ true → i ≡ true

@@ -1,5 +1,5 @@
 -- The files that the images of an event hold.
-use Rattle.std.proofs.Common.{◌≡◌, ◌≢◌, ◌⊎◌, inl, inr, ⊎_elim, ℕ, zero, suc, ◌+◌, ◌-◌, ◌≤◌, Bool, true, false, List, refl, sym, ◌∙◌, ap, subst, arith, Some, None}
+use Rattle.std.proofs.Common.{◌≡◌, ◌≢◌, ◌⊎◌, inl, inr, ⊎_elim, ℕ, zero, suc, ◌+◌, ◌≤◌, Bool, false, List, refl, sym, ◌∙◌, ap, subst, arith, Some, None}
 use Rattle.std.specs.Prelude.{Option, if◌then◌else◌, ◌==◌}
 use Rattle.std.proofs.lemmas.Bool.{cases_eq}
 use Rattle.std.proofs.lemmas.Bool.Decides.{nat_tests}
@@ -9,10 +9,8 @@ use Rattle.pm_device.specs.Settled.{Extends, LeavesOnly, LeavesNow}
 use Rattle.pm_device.proofs.Moments.{started}
 use Rattle.dn_model.specs.Disk.{Disk}
 use Rattle.dn_model.specs.Files.{Files, files, IsSameFiles}
-use Rattle.dn_model.specs.Image.{StandsFor}
 use Rattle.dn_model.specs.Own.{Print, IsOwn}
-use Rattle.dn_model.specs.OnCourse.{IsImageOf}
-use Rattle.dn_model.specs.Apply.{after_op, IsGranted}
+use Rattle.dn_model.specs.Apply.{after_op}
 use Rattle.dn_model.specs.declared.op.Op.{Op}
 use Rattle.dn_model.specs.declared.op.Reply.{Reply}
 use Rattle.dn_volume.specs.declared.outcome.Outcome.{Outcome}
@@ -22,15 +20,14 @@ use Rattle.dn_volume.specs.declared.volume.Parts.{Parts}
 use Rattle.dn_volume.specs.declared.volume.Volume.{Volume}
 use Rattle.dn_volume.specs.Parties.{Flies, flight_of, flight_at}
 use Rattle.dn_volume.specs.Flights.{left_of}
-use Rattle.dn_volume.specs.Agrees.{IsVolume, StandsFast}
-use Rattle.dn_volume.specs.Events.{IsBetween, Moves, MovesOn, Answers, Breaks, Advances, answered_by}
-use Rattle.dn_volume.specs.Begins.{IsUntouched, Begins}
+use Rattle.dn_volume.specs.Agrees.{IsVolume}
+use Rattle.dn_volume.specs.Events.{IsBetween, MovesOn, Answers, Breaks, Advances, answered_by}
 use Rattle.dn_volume.specs.Works.{Works, Stand, daemon_stand, DaemonLowers, reclaim_stand, ReclaimLowers}
 use Rattle.dn_volume.proofs.LeftLater.{moment_later}
 use Rattle.dn_volume.proofs.SoundStays.{stands_left, image_now}
 use Rattle.dn_core.specs.declared.event.Event.{Event}
 use Rattle.dn_core.specs.declared.event.Event.TheVariants.{Begin, Advance, Daemon, Reclaim}
-use Rattle.dn_core.specs.Steps.{Steps, Serves, Opens, GoesOn, IsNotYours}
+use Rattle.dn_core.specs.Steps.{Serves, Opens, IsNotYours}
 use Rattle.dn_core.specs.Images.{answering, answers_in, IsOneMore, IsImageIn, IsOwnImage, flying_then, files_then, StepImages, StepsLeaveImages}
 use Rattle.dn_core.proofs.Sounds.{yours_or_not}
 

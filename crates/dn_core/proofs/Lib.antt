@@ -2,6 +2,7 @@ pub mod Served
 pub mod Sounds
 pub mod Leaves
 pub mod Adding
+pub mod Cleaned
 pub mod Worked
 pub mod Rested
 pub mod Drains

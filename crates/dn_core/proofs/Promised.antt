@@ -1,8 +1,6 @@
 -- The headline.
-use Rattle.std.proofs.Common.{◌≡◌, ℕ, Bool, true, false, List, [], ◌++◌, refl, sym, ◌∙◌, ap, subst}
-use Rattle.std.specs.Prelude.{Option, ◌↔◌, Contains}
-use Rattle.std.proofs.lemmas.List.{append-nil}
-use Rattle.pm_device.specs.Past.{Left, moment}
+use Rattle.std.proofs.Common.{ℕ, List, ◌++◌, refl, sym, ◌∙◌, ap, subst}
+use Rattle.std.specs.Prelude.{Option}
 use Rattle.pm_device.specs.State.{State, Agree}
 use Rattle.dn_model.specs.Disk.{Disk}
 use Rattle.dn_model.specs.Files.{Files, files, IsSameFiles}
@@ -14,16 +12,14 @@ use Rattle.dn_model.specs.declared.op.Entry.{Entry}
 use Rattle.law_unique.proofs.OneImage.{map_one}
 use Rattle.dn_volume.specs.declared.outcome.Outcome.{Outcome}
 use Rattle.dn_volume.specs.declared.volume.Volume.{Volume}
-use Rattle.dn_volume.specs.Agrees.{IsVolume, Agrees, agrees_with, is_stopped}
+use Rattle.dn_volume.specs.Agrees.{Agrees, agrees_with, is_stopped}
 use Rattle.dn_volume.specs.Sound.{Sound, is_sound, was_sound}
 use Rattle.dn_volume.proofs.Soundness.{sound_disk}
 use Rattle.dn_mount.specs.Mounted.{IsMounted}
 use Rattle.dn_core.specs.declared.event.Event.{Event}
-use Rattle.dn_core.specs.Steps.{Steps}
 use Rattle.dn_core.specs.Run.{Run, at_first, then_next, AreEntries, Records}
-use Rattle.dn_core.specs.Images.{IsOneMore, IsImageIn, IsOwnImage, answers_in, StepImages}
-use Rattle.dn_core.specs.Headline.{Recovered, IsLeftOf, Headline, HeadlineHolds}
-use Rattle.dn_core.proofs.Sounds.{steps_stay_sound}
+use Rattle.dn_core.specs.Images.{IsImageIn, IsOwnImage, answers_in}
+use Rattle.dn_core.specs.Headline.{Recovered, IsLeftOf, HeadlineHolds}
 use Rattle.dn_core.proofs.Leaves.{steps_leave_images}
 use Rattle.dn_core.proofs.Adding.{steps_add, records_none, records_next, runs_stay_sound}
 

@@ -1,6 +1,6 @@
 -- What is shared once all rest.
-use Rattle.std.proofs.Common.{◌≡◌, ◌⊎◌, inl, inr, ⊎_elim, ℕ, ◌<◌, List, length, refl, sym, ◌∙◌, ap, subst, arith}
-use Rattle.std.specs.Prelude.{Option, Some, None, Contains, All, slice_get}
+use Rattle.std.proofs.Common.{◌≡◌, inl, inr, ⊎_elim, ℕ, List, length, refl, sym, ◌∙◌, ap, subst, arith}
+use Rattle.std.specs.Prelude.{Some, None, Contains, All, slice_get}
 use Rattle.pm_device.specs.State.{State}
 use Rattle.log_entry.specs.declared.item.Flag.{Flag}
 use Rattle.log_entry.specs.declared.item.Flag.TheVariants.{Needed, InProcess, Complete}
@@ -93,7 +93,9 @@ drained state print v d volume landed rests = record {
   rests = rests;
   disk = d;
   volume = volume;
-  at_rest = at_rest d v.parts (state v.device) volume landed rests.daemon.none_begun rests.reclaim;
-  free = free_is d v.parts (state v.device) volume landed rests.daemon.none_begun rests.reclaim;
+  at_rest = at_rest d v.parts (state v.device) volume landed rests.daemon.none_begun rests.reclaim.none_waits
+      rests.reclaim.none_begun;
+  free = free_is d v.parts (state v.device) volume landed rests.daemon.none_begun rests.reclaim.none_waits
+      rests.reclaim.none_begun;
   settled = settled d v.parts (state v.device) volume landed rests print;
 }

@@ -1,6 +1,6 @@
 -- Which machine serves an event.
-use Rattle.std.proofs.Common.{◌≡◌, ◌≢◌, ◌⊎◌, inl, inr, ℕ, zero, suc, ◌-◌, ◌≤◌, Bool, true, false, refl, sym, ◌∙◌, ap, subst, arith}
-use Rattle.std.specs.Prelude.{Option, Some, None, IsSome, IsTrue, ◌↔◌}
+use Rattle.std.proofs.Common.{◌≡◌, ◌≢◌, inr, ℕ, zero, suc, Bool, true, false, refl, sym, ◌∙◌, ap, subst, arith}
+use Rattle.std.specs.Prelude.{Option, Some, None, IsSome}
 use Rattle.pm_device.specs.State.{State}
 use Rattle.dn_model.specs.Disk.{Disk}
 use Rattle.dn_model.specs.Own.{Print}
@@ -18,7 +18,7 @@ use Rattle.dn_volume.specs.Planned.{PlansData}
 use Rattle.dn_volume.specs.PlannedNames.{PlansNames}
 use Rattle.law_names.specs.NameChange.{NameChange as DiskChange}
 use Rattle.dn_volume.specs.declared.flight.DataChange.{DataChange}
-use Rattle.dn_volume.specs.Flights.{left_of, IsFlight, IsFlightOf}
+use Rattle.dn_volume.specs.Flights.{left_of, IsFlightOf}
 use Rattle.dn_volume.specs.Agrees.{IsVolume, Agrees, agrees_with, is_stopped}
 use Rattle.dn_volume.specs.Events.{Advances}
 use Rattle.dn_volume.specs.Begins.{MayBegin, FliesAs, IsUntouched, WaitsForRelease}
@@ -26,8 +26,9 @@ use Rattle.dn_core.specs.declared.event.Event.TheVariants.{Begin, Advance}
 use Rattle.dn_volume.specs.declared.kind.FlightKind.{FlightKind}
 use Rattle.dn_volume.specs.declared.kind.FlightKind.TheVariants.{Write, Cut, Names}
 use Rattle.dn_volume.specs.Kinds.{machine_of, IsServedBy}
-use Rattle.dn_core.specs.Steps.{Steps, Opens, GoesOn, ReleasesInstead, Releases}
-use Rattle.dn_volume.proofs.Since.{moves_on_since, breaks_since, untouched_since, lowers_since}
+use Rattle.dn_core.specs.Steps.{Steps, Opens, GoesOn, ReleasesInstead}
+use Rattle.dn_volume.proofs.Since.{moves_on_since, breaks_since, untouched_since}
+use Rattle.dn_core.proofs.Cleaned.{release_since}
 
 pub served_by : (done : Op) (k : FlightKind) → machine_of done ≡ Some k → IsServedBy k done
 served_by (op.Create name) k is = subst (λ (x : FlightKind). IsServedBy x (op.Create name)) (one Names k is) tt
@@ -133,7 +134,7 @@ opens_instead state print who op v v1 v2 d waiting (told.Busy holder) un waits i
 opens_instead state print who op v v1 v2 d waiting (told.Released left) un waits is = record {
   waits = subst (WaitsForRelease d v.parts op) waits.is waits;
   moves = moves_on_since state v v1 v2 print 16 d un is.0;
-  lowers = lowers_since state v v1 v2 print 16 d un left is.1;
+  lowers = release_since v.parts v1.parts v2.parts un.same left is.1;
 }
 opens_instead state print who op v v1 v2 d waiting told.Idle un waits is = absurd is
 opens_instead state print who op v v1 v2 d waiting told.NotYours un waits is = absurd is

@@ -1,5 +1,5 @@
 -- An event keeps a volume sound.
-use Rattle.std.proofs.Common.{◌≡◌, ◌⊎◌, inl, inr, ⊎_elim, ℕ, ◌-◌, ◌≤◌, Bool, true, false, refl, sym, ◌∙◌, ap, subst, arith}
+use Rattle.std.proofs.Common.{◌≡◌, ◌⊎◌, inl, inr, ⊎_elim, ℕ, ◌-◌, ◌≤◌, Bool, true, false, refl, sym, ◌∙◌, subst, arith}
 use Rattle.std.specs.Prelude.{Option, Some, None}
 use Rattle.std.proofs.lemmas.Bool.{cases_lt}
 use Rattle.pm_device.specs.State.{State, Agree}
@@ -15,7 +15,7 @@ use Rattle.dn_volume.specs.declared.volume.Volume.{Volume}
 use Rattle.dn_volume.specs.Parties.{Flies, flight_at}
 use Rattle.dn_volume.specs.Flights.{left_of}
 use Rattle.dn_volume.specs.Agrees.{IsVolume}
-use Rattle.dn_volume.specs.Begins.{MayBegin, Begins}
+use Rattle.dn_volume.specs.Begins.{MayBegin}
 use Rattle.dn_volume.specs.Events.{Advances, answered_by}
 use Rattle.dn_volume.specs.Works.{Works, Stand, daemon_stand, DaemonLowers, reclaim_stand, ReclaimLowers}
 use Rattle.dn_volume.specs.Sound.{Sound}

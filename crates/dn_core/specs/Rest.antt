@@ -1,19 +1,14 @@
 -- A volume on which all work is done.
-use Rattle.std.specs.Prelude.{◌≡◌, ◌≢◌, ◌⊎◌, ◌↔◌, ℕ, ◌<◌, List, [], ◌∷◌, ◌++◌, slice_index, Contains, Result, Ok, Err}
+use Rattle.std.specs.Prelude.{◌≡◌, ◌⊎◌, ◌↔◌, ℕ, List, [], ◌∷◌, ◌++◌, Contains}
 use Rattle.std.specs.Prelude.{true, false}
 use Rattle.pm_device.specs.State.{State, Rose}
-use Rattle.pm_device.specs.Settled.{Still}
-use Rattle.pm_layout.specs.Geometry.{gate_word}
-use Rattle.dn_model.specs.Disk.{Disk, Dying}
-use Rattle.dn_model.specs.Image.{StandsFor}
-use Rattle.dn_model.specs.Counts.{Exact, IsFree}
+use Rattle.dn_model.specs.Disk.{Disk}
+use Rattle.dn_model.specs.Counts.{IsFree}
 use Rattle.dn_model.specs.Own.{Print, IsOwn, Settled}
-use Rattle.dn_volume.specs.declared.flight.Flight.{Flight}
 use Rattle.dn_volume.specs.declared.outcome.Outcome.{Outcome}
 use Rattle.dn_volume.specs.declared.volume.Parts.{Parts}
 use Rattle.dn_volume.specs.declared.volume.Volume.{Volume}
-use Rattle.dn_volume.specs.Parties.{Flies}
-use Rattle.dn_volume.specs.Agrees.{IsVolume, HasNoStale}
+use Rattle.dn_volume.specs.Agrees.{IsVolume}
 use Rattle.dn_volume.specs.Works.{DaemonRests, ReclaimRests}
 use Rattle.dn_volume.specs.Resting.{IsAtRest}
 use Rattle.dn_core.specs.declared.event.Event.{Event}
@@ -26,6 +21,15 @@ use Rattle.dn_core.specs.Run.{Run}
 pub record AllRest (b : Parts) : Type 0 where
   pub daemon : DaemonRests b
   pub reclaim : ReclaimRests b
+
+-- The daemon has nothing to do, and nothing waits to be released: counts change no more.
+pub record CountsRest (b : Parts) : Type 0 where
+  pub daemon : DaemonRests b
+  pub none_waits : b.reclaiming.waiting ≡ 0
+
+-- where counts rest, they do so still, and no count has changed
+abbrev pub KeepsCounts : Parts → Parts → Type 0
+KeepsCounts b b' = CountsRest b → CountsRest b' × (b'.trace.items ≡ b.trace.items)
 
 -- an event of the daemon or of reclaim, and that it has nothing to do
 abbrev pub IsWork : Event → Type 0

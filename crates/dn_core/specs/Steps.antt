@@ -1,6 +1,6 @@
 -- What one event promises, by what it answers. It stands on what the machines promise; here are the
 -- causes that come before theirs, and the one event of reclaim that is made in place of a begin.
-use Rattle.std.specs.Prelude.{◌≡◌, ◌⊎◌, ℕ, ◌<◌, true, false, None}
+use Rattle.std.specs.Prelude.{◌≡◌, ◌⊎◌, ℕ, true, false, None}
 use Rattle.pm_device.specs.State.{State}
 use Rattle.dn_model.specs.Disk.{Disk}
 use Rattle.dn_model.specs.Own.{Print}
@@ -15,7 +15,7 @@ use Rattle.dn_volume.specs.Flights.{left_of}
 use Rattle.dn_volume.specs.Agrees.{IsVolume}
 use Rattle.dn_volume.specs.Events.{Advances, MovesOn, Breaks}
 use Rattle.dn_volume.specs.Begins.{MayBegin, Begins, WaitsForRelease, IsUntouched, IsLast}
-use Rattle.dn_volume.specs.Works.{DaemonWorks, ReclaimWorks, ReclaimLowers}
+use Rattle.dn_volume.specs.Works.{DaemonWorks, ReclaimWorks, ReleaseLowers}
 use Rattle.dn_core.specs.declared.event.Event.{Event}
 use Rattle.dn_core.specs.declared.event.Event.TheVariants.{Begin, Advance, Daemon, Reclaim}
 
@@ -38,7 +38,7 @@ pub record Releases {D F : Type 0} (state : D → State) (print : Print) (op : O
     (v v' : Volume D F) (d : Disk) : Type 0 where
   pub waits : WaitsForRelease d v.parts op v.parts.reclaiming.waiting
   pub moves : MovesOn state print 16 v v' d
-  pub lowers : ReclaimLowers v.parts v'.parts left
+  pub lowers : ReleaseLowers v.parts v'.parts left
 
 -- that event found no memory, or its fence failed; else the begin found no memory itself
 pub record ReleaseFails {D F : Type 0} (state : D → State) (print : Print) (op : Op)
@@ -96,7 +96,7 @@ ReleasesInstead state print v v' d (told.Running left) = ⊥
 ReleasesInstead state print v v' d (told.Done reply) = ⊥
 ReleasesInstead state print v v' d (told.Busy holder) = ⊥
 ReleasesInstead state print v v' d (told.Released left) =
-    MovesOn state print 16 v v' d × ReclaimLowers v.parts v'.parts left
+    MovesOn state print 16 v v' d × ReleaseLowers v.parts v'.parts left
 ReleasesInstead state print v v' d told.Idle = ⊥
 ReleasesInstead state print v v' d told.NotYours = ⊥
 ReleasesInstead state print v v' d told.NoMemory = IsUntouched state v v' d

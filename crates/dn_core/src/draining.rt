@@ -5,7 +5,7 @@ ghost use Rattle.dn_volume.specs.Agrees.{Agrees};
 ghost use Rattle.dn_volume.specs.Sound.{Sound};
 ghost use Rattle.dn_core.specs.declared.event.Event.{Event as MadeEvent};
 ghost use Rattle.dn_volume.specs.Resting.{AllLanded};
-ghost use Rattle.dn_core.specs.Rest.{AllRest, IsWork, Drained, DrainFails, Rounds};
+ghost use Rattle.dn_core.specs.Rest.{AllRest, KeepsCounts, IsWork, Drained, DrainFails, Rounds};
 ghost use Rattle.dn_core.specs.Working.{WorksOnce};
 
 use crate::event::{DrainFault, Event};
@@ -15,7 +15,8 @@ use fingerprint::Fingerprint;
 use pm_device::Pm;
 use std::alloc::Global;
 
-// One event of the daemon or of reclaim: whether it had nothing to do.
+// One event of the daemon or of reclaim: whether it had nothing to do. The daemon may be held up by a cleaning, with which
+// reclaim goes on.
 fn work_once<D: Pm, F: Fingerprint>(
     alloc: Global,
     v: &mut Volume<D, F>,
@@ -30,6 +31,7 @@ fn work_once<D: Pm, F: Fingerprint>(
     match step(alloc, v, event) {
         Outcome::Idle => Ok(true),
         Outcome::Running { .. } => Ok(false),
+        Outcome::Busy { .. } => Ok(false),
         Outcome::NoMemory => Err(DrainFault::NoMemory),
         Outcome::Stopped => Err(DrainFault::Stopped),
         _ => unreachable!(),
@@ -50,6 +52,7 @@ pub fn drain<D: Pm, F: Fingerprint>(alloc: Global, v: &mut Volume<D, F>) -> Resu
     ensures fails { IfErr result (DrainFails D.state v.old v.new) }
     ensures history { v.new.parts.history.items ≡ v.old.parts.history.items }
     ensures nothing { AllRest v.old.parts → v.new.parts.trace.items ≡ v.old.parts.trace.items }
+    ensures keeps { OnOk result (KeepsCounts v.old.parts v.new.parts) }
     ensures sound { (base : Base) → Sound D.state F.print base v.old
         → Sound D.state F.print base v.new }
 {

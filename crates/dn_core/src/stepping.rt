@@ -6,6 +6,7 @@ ghost use Rattle.dn_volume.specs.declared.flight.Flight.{Flight};
 ghost use Rattle.dn_volume.specs.Agrees.{Agrees, IsVolume};
 ghost use Rattle.dn_volume.specs.Parties.{Flies, flight_of};
 ghost use Rattle.dn_volume.specs.Begins.{MayBegin, Begins};
+ghost use Rattle.dn_volume.specs.Works.{ReclaimWorks};
 ghost use Rattle.dn_model.specs.Course.{Base};
 ghost use Rattle.dn_volume.specs.Sound.{Sound};
 ghost use Rattle.dn_core.specs.Images.{StepImages};
@@ -22,6 +23,7 @@ use dn_model::{CLIENTS, Op};
 use dn_volume::{FlightKind, Outcome, Volume};
 use file_ops::{advance_write, begin_write, read};
 use fingerprint::Fingerprint;
+use log_clean::clean;
 use name_ops::list::list;
 use name_ops::{advance_name, begin_name};
 use pm_device::Pm;
@@ -137,6 +139,20 @@ fn advance<D: Pm, F: Fingerprint>(v: &mut Volume<D, F>, who: u32) -> Outcome
     }
 }
 
+// One event of reclaim: what waits is released, and where nothing waits a log is cleaned.
+fn reclaim_or_clean<D: Pm, F: Fingerprint>(alloc: Global, v: &mut Volume<D, F>) -> Outcome
+    requires agrees { Agrees D.state v.old }
+    requires running { v.old.parts.stopped ≡ false }
+    ensures agrees { Agrees D.state v.new }
+    ensures event { (d : Disk) → IsVolume d v.old.parts (D.state v.old.device)
+        → ReclaimWorks D.state F.print v.old v.new d result }
+{
+    match reclaim(v) {
+        Outcome::Idle => clean(alloc, v),
+        outcome => outcome,
+    }
+}
+
 // Makes one event.
 fn step_once<D: Pm, F: Fingerprint>(alloc: Global, v: &mut Volume<D, F>, event: Event) -> Outcome
     requires agrees { Agrees D.state v.old }
@@ -150,7 +166,7 @@ fn step_once<D: Pm, F: Fingerprint>(alloc: Global, v: &mut Volume<D, F>, event: 
         Event::Begin { who, op } => begin(alloc, v, who, op),
         Event::Advance { who } => advance(v, who),
         Event::Daemon => daemon(v),
-        Event::Reclaim => reclaim(v),
+        Event::Reclaim => reclaim_or_clean(alloc, v),
     }
 }
 

@@ -11,7 +11,7 @@ use Rattle.dn_volume.specs.Agrees.{Agrees, IsVolume}
 use Rattle.dn_volume.specs.Accounts.{KeepsAlone, WasAloneOn}
 use Rattle.dn_volume.specs.Begins.{IsUntouched}
 use Rattle.dn_volume.specs.Events.{MovesOn, Breaks}
-use Rattle.dn_volume.specs.Works.{ReclaimWorks}
+use Rattle.dn_volume.specs.Works.{ReleaseWorks}
 use Rattle.dn_volume.proofs.SoundStays.{rose_since}
 use Rattle.dn_volume.proofs.Tables.{running_disk}
 use Rattle.table_repair.specs.Later.{HasLater}
@@ -44,7 +44,7 @@ module _ {D F : Type 0} (state : D → State) (print : Print) where
   -- one event, whatever it answers
   module _ (v w : Volume D F) (waits : 1 ≤ v.parts.reclaiming.waiting) where
     abbrev Event : Outcome → Type 0
-    Event o = (d : Disk) → IsVolume d v.parts (state v.device) → ReclaimWorks state print v w d o
+    Event o = (d : Disk) → IsVolume d v.parts (state v.device) → ReleaseWorks state print v w d o
 
     pub event_done : (o : Outcome) → Event o → OnOk (result_of o) ((d : Disk) → IsVolume d v.parts (state v.device) → Lowers state print v w d)
     event_done (told.Running left) event = λ d volume. let works = event d volume in record { on = works.0; left = left; lowers = works.2 }

@@ -18,14 +18,15 @@ use Rattle.dn_volume.specs.declared.volume.Parts.{Parts}
 use Rattle.dn_volume.specs.declared.volume.Room.{Room}
 use Rattle.dn_volume.specs.declared.volume.InodeState.{InodeState}
 use Rattle.dn_model.specs.declared.op.CountChange.{CountChange}
-use Rattle.dn_volume.specs.Parties.{Flies, flight_at, Holds, by_client, by_daemon, Takes, for_client}
+use Rattle.dn_volume.specs.Parties.{Flies, flight_at, Holds, by_client, by_daemon, by_cleaning, Takes, for_client, for_cleaning}
 use Rattle.dn_volume.specs.Agrees.{IsVolume, NamesSlots, StandsFast}
 use Rattle.dn_volume.specs.Inodes.{AreInodesOf, AreNamesOf, AreHolders}
 use Rattle.dn_volume.specs.Space.{HasSpace, AreSlotsOf}
 use Rattle.dn_volume.specs.Balance.{AreCounted, times, raised_by, raised_to_share, added_to_share, raised_to_die, raised, added, dropped}
 use Rattle.dn_volume.specs.Shares.{IsQueued, in_queue}
 use Rattle.dn_volume.specs.Reclaims.{IsReclaiming, one_if}
-use Rattle.dn_volume.specs.Reserve.{Owes, HasRoom, owed_to, owed_sum, units_to_share, changes_to_share}
+use Rattle.dn_volume.specs.Reserve.{Owes, HasRoom, owed_to, owed_sum, units_to_share, changes_to_share, units_to_clean, queue_to_clean}
+use Rattle.dn_volume.proofs.Lefts.{two_left}
 use Rattle.dn_mount.specs.declared.parts.Scan.{Scan}
 use Rattle.image_keep.specs.Free.{AreFreePages}
 use Rattle.dn_mount.specs.Scanned.{IsScanOf, IsFreshOf}
@@ -57,9 +58,11 @@ module _ (d : Disk) (scan : Scan) (s : State) (is : IsScanOf d scan s) (b : Part
   never_holds : (who ino : ℕ) → Holds b who ino → ⊥
   never_holds who ino (by_client f flies held) = never_flies who f flies
   never_holds who ino (by_daemon sharing is_daemon begun at) = none_is_some b.sharing sharing fresh.sharing begun
+  never_holds who ino (by_cleaning c is_reclaim begun at) = none_is_some b.reclaiming.cleaning c fresh.cleaning begun
 
   never_takes : (who page : ℕ) → Takes b who page → ⊥
   never_takes who page (for_client f flies taken) = never_flies who f flies
+  never_takes who page (for_cleaning c is_reclaim begun taken) = none_is_some b.reclaiming.cleaning c fresh.cleaning begun
 
   node_at : (ino : ℕ) (n : InodeState) → slice_get b.inodes.items ino ≡ Some n → slice_get scan.inodes.items ino ≡ Some n
   node_at ino n = subst (λ (xs : List InodeState). slice_get xs ino ≡ Some n) fresh.inodes
@@ -98,7 +101,8 @@ module _ (d : Disk) (scan : Scan) (s : State) (is : IsScanOf d scan s) (b : Part
     takes = λ who page taken. absurd (never_takes who page taken);
     taken = λ page some. absurd (some refl);
     unused = λ page some. absurd (some refl);
-    left = enough;
+    some = omega (arith, enough);
+    left = two_left b free_set.in_order enough;
   }
 
   -- nothing is counted
@@ -161,10 +165,17 @@ module _ (d : Disk) (scan : Scan) (s : State) (is : IsScanOf d scan s) (b : Part
 
   owes : Owes b
   owes = record {
-    units = omega (arith, owed_none (λ room. room.units) refl, ap (λ x. units_to_share x) fresh.sharing, unraised, unchecked);
+    units = omega (
+      arith,
+      owed_none (λ room. room.units) refl,
+      ap (λ x. units_to_share x) fresh.sharing,
+      ap (λ x. units_to_clean x) fresh.cleaning,
+      unraised,
+      unchecked,
+    );
     trace = omega (arith, owed_none (λ room. room.trace) refl, ap (λ x. changes_to_share x) fresh.sharing);
     history = omega (arith, owed_none (λ room. room.history) refl);
-    queue = omega (arith, owed_none (λ room. room.queue) refl);
+    queue = omega (arith, owed_none (λ room. room.queue) refl, ap (λ x. queue_to_clean x) fresh.cleaning);
     releases = omega (arith, owed_none (λ room. room.releases) refl, unraised);
   }
 
@@ -198,6 +209,7 @@ module _ (d : Disk) (scan : Scan) (s : State) (is : IsScanOf d scan s) (b : Part
     flights = record { clients = fresh.flights.clients; each = λ who f flies. absurd (never_flies who f flies) };
     queue = queue;
     sharing = λ sharing some. absurd (none_is_some b.sharing sharing fresh.sharing some);
+    cleaning = λ c some. absurd (none_is_some b.reclaiming.cleaning c fresh.cleaning some);
     reclaiming = reclaiming;
     pointers = is.pointers;
     room = room;

@@ -128,7 +128,7 @@ module _ {D F : Type 0} (state : D → State) (print : Print) where
     idle = opened_idle e v.parts s opened
 
     rest : IsAtRest left s
-    rest = (resting left v.parts s volume idle.landed idle.sharing none).0
+    rest = (resting left v.parts s volume idle.landed idle.sharing none opened.fresh.cleaning).0
 
     no_dying : HasNoDying left
     no_dying = record { none = rest.no_dying }
@@ -150,6 +150,7 @@ module _ {D F : Type 0} (state : D → State) (print : Print) where
       flights = opened.fresh.flights;
       sharing = opened.fresh.sharing;
       waiting = none;
+      cleaning = opened.fresh.cleaning;
       history = opened.fresh.history;
       trace = opened.fresh.trace;
       made = opened.fresh.made;

@@ -62,6 +62,7 @@ kept_with d chain pointer k kept are = record {
     use_is = is.use_is;
     size_is = is.size_is;
     small = is.small;
+    log_pages = is.log_pages;
     places = is.places;
   };
   queue = are.queue;

@@ -10,7 +10,7 @@ use Rattle.dn_volume.specs.declared.volume.Volume.{Volume}
 use Rattle.dn_volume.specs.Accounts.{KeepsAlone}
 use Rattle.dn_volume.specs.Events.{MovesOn}
 use Rattle.dn_volume.specs.Resting.{AllLanded}
-use Rattle.dn_volume.specs.Works.{ReclaimLowers}
+use Rattle.dn_volume.specs.Works.{ReleaseLowers}
 use Rattle.dn_mount.specs.declared.fault.MountFault.{MountFault}
 use Rattle.dn_mount.specs.declared.fault.MountFault.TheVariants.{NoMemory, Failed}
 use Rattle.dn_mount.specs.Kept.{StaysOn}
@@ -37,7 +37,7 @@ pub record Lowers {D F : Type 0} (state : D → State) (print : Print) (v v' : V
     (d : Disk) : Type 0 where
   pub on : MovesOn state print 16 v v' d
   pub left : ℕ
-  pub lowers : ReclaimLowers v.parts v'.parts left
+  pub lowers : ReleaseLowers v.parts v'.parts left
 
 -- Any number of them: the files are those of before, no place is left alone that wasn't, and the
 -- same items wait for the daemon.

@@ -105,6 +105,7 @@ pub record IsMounted {D F : Type 0} (state : D → State) (print : Print) (d : D
   pub flights : AreNoFlights v.parts.flights.items
   pub sharing : v.parts.sharing ≡ None
   pub waiting : v.parts.reclaiming.waiting ≡ 0
+  pub cleaning : v.parts.reclaiming.cleaning ≡ None
   -- nothing was answered
   pub history : v.parts.history.items ≡ []
   pub trace : v.parts.trace.items ≡ []

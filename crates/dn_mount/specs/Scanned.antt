@@ -81,6 +81,7 @@ pub record IsFreshOf (scan : Scan) (b : Parts) : Type 0 where
   pub unraised : b.reclaiming.raised ≡ None
   pub releases : b.reclaiming.releases.items ≡ []
   pub waiting : b.reclaiming.waiting ≡ scan.waiting
+  pub cleaning : b.reclaiming.cleaning ≡ None
   pub history : b.history.items ≡ []
   pub trace : b.trace.items ≡ []
   pub made : b.made ≡ 0

@@ -68,6 +68,7 @@ pub fn volume_of_scan(alloc: Global, scan: Scan) -> Result<Parts, AllocError>
             raised: None,
             releases: VecDeque::new(alloc),
             waiting: scan.waiting,
+            cleaning: None,
         },
         history: Vec::new(alloc),
         trace: Vec::new(alloc),

@@ -18,7 +18,7 @@ use Rattle.count_board.specs.Passes.{known, account, IsOf, Took, Becomes, MayGiv
 use Rattle.count_board.proofs.Giving.{gives_on}
 use Rattle.dn_shared.specs.declared.site.Site.{Site}
 use Rattle.dn_shared.specs.Left.{has_left, or_false, count_left, all_left}
-use Rattle.dn_shared.specs.Sites.{IsKept, IsShared, told_as, told_of, hand_of, is_landed, daemon_rests, reclaim_rests}
+use Rattle.dn_shared.specs.Sites.{IsKept, IsShared, told_as, told_of, hand_of, is_landed, daemon_rests, none_released}
 use Rattle.dn_shared.specs.Calls.{Leaves}
 use Rattle.dn_shared.proofs.Hands.{of_flies}
 use Rattle.dn_shared.proofs.Past.{and_cases, and_both, or_cases, or_left, or_right}
@@ -133,7 +133,7 @@ module _ {D F : Type 0} (state : D → State) (print : Print) (base x y : Site D
       makes = le_refl _;
       daemon = over_more x.volume.parts.stopped (all_left x.gone.items) (all_left then) (is_landed x.volume.parts) (daemon_rests x.volume.parts)
           (still_all x.gone.items (n - 1));
-      counts = over_more x.volume.parts.stopped (all_left x.gone.items) (all_left then) (is_landed x.volume.parts) (reclaim_rests x.volume.parts)
+      counts = over_more x.volume.parts.stopped (all_left x.gone.items) (all_left then) (is_landed x.volume.parts) (none_released x.volume.parts)
           (still_all x.gone.items (n - 1));
     };
   }

@@ -20,6 +20,9 @@ use Rattle.dn_core.specs.declared.event.Event.{Event}
 use Rattle.dn_core.specs.declared.event.Event.TheVariants.{Begin, Advance, Daemon, Reclaim}
 use Rattle.dn_core.specs.Steps.{Steps, Serves, Opens, IsNotYours}
 use Rattle.dn_core.proofs.Sounds.{yours_or_not}
+use Rattle.dn_core.proofs.Cleaned.{none_may_same}
+use Rattle.dn_volume.specs.declared.background.Cleaning.{Cleaning}
+use Rattle.dn_volume.specs.Cleans.{none_may_clean}
 use Rattle.count_board.specs.declared.told.Mark.{Mark}
 use Rattle.count_board.specs.declared.view.Seen.{Seen}
 use Rattle.count_board.specs.declared.view.Seen.TheVariants.{Count, Front, Turn}
@@ -27,10 +30,10 @@ use Rattle.count_board.specs.Told.{IsPast}
 use Rattle.count_board.specs.Reads.{AllPast}
 use Rattle.dn_shared.specs.Left.{has_left, all_left}
 use Rattle.dn_shared.specs.Marks.{last_mark_or}
-use Rattle.dn_shared.specs.Sites.{mark_of, is_landed, is_empty, daemon_rests, reclaim_rests, hand_in}
+use Rattle.dn_shared.specs.Sites.{mark_of, is_landed, is_empty, daemon_rests, none_released, reclaim_rests, hand_in}
 use Rattle.dn_shared.specs.Turns.{stops, IsOver}
 use Rattle.dn_shared.proofs.Hands.{all_none}
-use Rattle.dn_shared.proofs.Past.{not_all_left, or_right, and_both, same_daemon, same_reclaim}
+use Rattle.dn_shared.proofs.Past.{not_all_left, or_right, and_both, same_daemon}
 
 -- the last mark, after a turn and after a read
 pub last_turn : (o : Option Mark) (xs : List Seen) (n : ℕ) (m : Mark) → last_mark_or o (xs ++ Turn n m ∷ []) ≡ Some m
@@ -67,8 +70,14 @@ landed_if gone b others landed all = all_none b.flights.items (λ k. at k (fligh
 rests_daemon : (b : Parts) → DaemonRests b → daemon_rests b ≡ true
 rests_daemon b is = λ i. is_none (is.none_begun i) && is_empty (is.none_waits i)
 
+rests_released : (b : Parts) → b.reclaiming.waiting ≡ 0 → none_released b ≡ true
+rests_released b is = ap (λ (n : ℕ). n == 0) is
+
 rests_reclaim : (b : Parts) → ReclaimRests b → reclaim_rests b ≡ true
-rests_reclaim b is = ap (λ (n : ℕ). n == 0) is
+rests_reclaim b is =
+    and_both (none_released b && is_none b.reclaiming.cleaning) (none_may_clean b)
+    (and_both (none_released b) (is_none b.reclaiming.cleaning) (rests_released b is.none_waits)
+    (ap (λ (c : Option Cleaning). is_none c) is.none_begun)) is.none_may
 
 not_idle : told.Stopped ≡ told.Idle → ⊥
 not_idle e = cc
@@ -129,11 +138,17 @@ module _ {D F : Type 0} (state : D → State) (print : Print) (v w : Volume D F)
         (same_daemon v.parts w.parts un.same.work.sharing un.same.work.queue (rests_daemon v.parts rests)))
 
     reclaim_over : (d : Disk) → IsUntouched state v w d → ReclaimRests v.parts → IsOver Reclaim (mark_of gone w.parts)
-    reclaim_over d un rests = let now = same_reclaim v.parts w.parts un.same.work.waiting (rests_reclaim v.parts rests) in (
-      or_right w.parts.stopped ((all_left gone && is_landed w.parts) && reclaim_rests w.parts)
-          (and_both (all_left gone && is_landed w.parts) (reclaim_rests w.parts) (and_both (all_left gone) (is_landed w.parts) all landed) now),
-      now,
-    )
+    reclaim_over d un rests =
+        let now : ReclaimRests w.parts = record {
+          none_waits = un.same.work.waiting ∙ rests.none_waits;
+          none_begun = un.same.work.cleaning ∙ rests.none_begun;
+          none_may = none_may_same v.parts w.parts un.same ∙ rests.none_may;
+        } in (
+          or_right w.parts.stopped ((all_left gone && is_landed w.parts) && none_released w.parts)
+              (and_both (all_left gone && is_landed w.parts) (none_released w.parts) (and_both (all_left gone) (is_landed w.parts) all landed)
+              (rests_released w.parts now.none_waits)),
+          rests_reclaim w.parts now,
+        )
 
     serves_over : (d : Disk) (event : Event) → Serves state print event v w d told.Idle → IsOver event (mark_of gone w.parts)
     serves_over d (Begin who op) is = tt

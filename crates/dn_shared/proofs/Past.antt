@@ -2,12 +2,13 @@
 use Rattle.std.proofs.Common.{◌≡◌, ◌⊎◌, inl, inr, ⊎_elim, ℕ, zero, suc, ◌<◌, ◌≤◌, le_refl, Bool, true, false, List, [], ◌∷◌, length, refl, sym, ◌∙◌, ap, arith}
 use Rattle.std.specs.Prelude.{Option, Some, None, is_none, slice_get, ◌&&◌, ◌||◌, ◌==◌}
 use Rattle.std.specs.List.{list_all}
+use Rattle.std.proofs.lemmas.Bool.Decides.{nat_tests}
 use Rattle.dn_volume.specs.declared.background.Sharing.{Sharing}
 use Rattle.dn_volume.specs.declared.volume.Parts.{Parts}
 use Rattle.dn_volume.specs.Works.{DaemonRests}
 use Rattle.count_board.specs.Told.{IsPast}
 use Rattle.dn_shared.specs.Left.{has_left, or_false}
-use Rattle.dn_shared.specs.Sites.{is_empty, daemon_rests, reclaim_rests, is_landed, mark_of}
+use Rattle.dn_shared.specs.Sites.{is_empty, daemon_rests, none_released, is_landed, mark_of}
 
 false_is : false ≡ true → ⊥
 false_is e = cc
@@ -46,7 +47,7 @@ not_all_left gone (suc k) some few here all = false_is (sym here ∙ left_at gon
 pub record Quiets (b b' : Parts) : Type 0 where
   pub landed : is_landed b ≡ true → is_landed b' ≡ true
   pub daemon : daemon_rests b ≡ true → (b'.stopped ≡ true) ⊎ (daemon_rests b' ≡ true)
-  pub reclaim : reclaim_rests b ≡ true → (b'.stopped ≡ true) ⊎ (reclaim_rests b' ≡ true)
+  pub reclaim : none_released b ≡ true → (b'.stopped ≡ true) ⊎ (none_released b' ≡ true)
 
 over_on : (s s' all land land' rest rest' : Bool) → (s ≡ true → s' ≡ true) → (land ≡ true → land' ≡ true)
     → (rest ≡ true → (s' ≡ true) ⊎ (rest' ≡ true))
@@ -73,7 +74,7 @@ work_past gone b b' stops makes quiet = record {
   makes = makes;
   daemon = over_on b.stopped b'.stopped (list_all (λ g. g) gone) (is_landed b) (is_landed b') (daemon_rests b) (daemon_rests b') stops quiet.landed
       quiet.daemon;
-  counts = over_on b.stopped b'.stopped (list_all (λ g. g) gone) (is_landed b) (is_landed b') (reclaim_rests b) (reclaim_rests b') stops quiet.landed
+  counts = over_on b.stopped b'.stopped (list_all (λ g. g) gone) (is_landed b) (is_landed b') (none_released b) (none_released b') stops quiet.landed
       quiet.reclaim;
 }
 
@@ -85,7 +86,7 @@ client_past gone b b' stops makes here = record {
   leaves = le_refl _;
   makes = makes;
   daemon = never_over b.stopped b'.stopped (list_all (λ g. g) gone) (is_landed b) (is_landed b') (daemon_rests b) (daemon_rests b') stops here;
-  counts = never_over b.stopped b'.stopped (list_all (λ g. g) gone) (is_landed b) (is_landed b') (reclaim_rests b) (reclaim_rests b') stops here;
+  counts = never_over b.stopped b'.stopped (list_all (λ g. g) gone) (is_landed b) (is_landed b') (none_released b) (none_released b') stops here;
 }
 
 none_begun : (o : Option Sharing) → is_none o ≡ true → o ≡ None
@@ -103,5 +104,18 @@ daemon_rested b is = let two = and_cases (is_none b.sharing) (is_empty b.queue.i
 pub same_daemon : (b b' : Parts) → b'.sharing ≡ b.sharing → b'.queue.items ≡ b.queue.items → daemon_rests b ≡ true → daemon_rests b' ≡ true
 same_daemon b b' sharing queue rests = (λ i. is_none (sharing i) && is_empty (queue i)) ∙ rests
 
-pub same_reclaim : (b b' : Parts) → b'.reclaiming.waiting ≡ b.reclaiming.waiting → reclaim_rests b ≡ true → reclaim_rests b' ≡ true
+pub same_reclaim : (b b' : Parts) → b'.reclaiming.waiting ≡ b.reclaiming.waiting → none_released b ≡ true → none_released b' ≡ true
 same_reclaim b b' waiting rests = ap (λ (n : ℕ). n == 0) waiting ∙ rests
+
+pub empty_daemon : (b b' : Parts) → b'.sharing ≡ b.sharing → b'.queue.items ≡ [] → daemon_rests b ≡ true → daemon_rests b' ≡ true
+empty_daemon b b' sharing none rests = same_daemon b b' sharing (none ∙ sym (daemon_rested b rests).none_waits) rests
+
+pub released_none : (b : Parts) → none_released b ≡ true → b.reclaiming.waiting ≡ 0
+released_none b is = grind (arith, nat_tests, is)
+
+pub none_still : (b b' : Parts) → (b'.reclaiming.waiting < b.reclaiming.waiting) ⊎ ((b.reclaiming.waiting ≡ 0) × (b'.reclaiming.waiting ≡ 0))
+    → none_released b ≡ true → none_released b' ≡ true
+none_still b b' lowers none =
+    let zero = released_none b none in ⊎_elim
+    (λ less. absurd (omega (arith, less, zero)))
+    (λ both. same_reclaim b b' (both.1 ∙ sym both.0) none) lowers

@@ -1,6 +1,5 @@
 -- An event of the daemon or of reclaim, where all else is done.
-use Rattle.std.proofs.Common.{◌≡◌, inl, inr, true, arith}
-use Rattle.std.proofs.lemmas.Bool.Decides.{nat_tests}
+use Rattle.std.proofs.Common.{◌≡◌, inl, inr}
 use Rattle.pm_device.specs.State.{State}
 use Rattle.dn_model.specs.Disk.{Disk}
 use Rattle.dn_model.specs.Own.{Print}
@@ -9,13 +8,9 @@ use Rattle.dn_volume.specs.declared.outcome.Outcome.TheVariants as told
 use Rattle.dn_volume.specs.declared.volume.Parts.{Parts}
 use Rattle.dn_volume.specs.declared.volume.Volume.{Volume}
 use Rattle.dn_volume.specs.Begins.{IsUntouched}
-use Rattle.dn_volume.specs.Works.{DaemonWorks, ReclaimWorks, ReclaimRests}
-use Rattle.dn_shared.specs.Sites.{reclaim_rests}
+use Rattle.dn_volume.specs.Works.{DaemonWorks, ReclaimWorks}
 use Rattle.dn_shared.proofs.Hands.{landed_on, ops_hands, flights_hands}
-use Rattle.dn_shared.proofs.Past.{Quiets, daemon_rested, same_daemon, same_reclaim}
-
-reclaim_rested : (b : Parts) → reclaim_rests b ≡ true → ReclaimRests b
-reclaim_rested b is = grind (arith, nat_tests, is)
+use Rattle.dn_shared.proofs.Past.{Quiets, daemon_rested, same_daemon, same_reclaim, empty_daemon, none_still}
 
 module _ {D F : Type 0} (state : D → State) (print : Print) (v v' : Volume D F) (d : Disk) where
   untouched_quiet : IsUntouched state v v' d → Quiets v.parts v'.parts
@@ -46,8 +41,8 @@ module _ {D F : Type 0} (state : D → State) (print : Print) (v v' : Volume D F
   pub reclaim_quiet : (outcome : Outcome) → ReclaimWorks state print v v' d outcome → Quiets v.parts v'.parts
   reclaim_quiet (told.Running left) is = record {
     landed = landed_on v.parts v'.parts (ops_hands v.parts v'.parts is.0.ops);
-    daemon = λ rests. inr (same_daemon v.parts v'.parts is.2.sharing is.2.queue rests);
-    reclaim = λ rests. absurd (is.1.some (reclaim_rested v.parts rests));
+    daemon = λ rests. inr (empty_daemon v.parts v'.parts is.2.sharing (is.2.rests (daemon_rested v.parts rests)) rests);
+    reclaim = λ none. inr (none_still v.parts v'.parts is.2.waiting none);
   }
   reclaim_quiet (told.Done reply) is = absurd is
   reclaim_quiet (told.Busy holder) is = absurd is.1

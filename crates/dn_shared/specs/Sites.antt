@@ -10,6 +10,7 @@ use Rattle.dn_volume.specs.declared.flight.Flight.{Flight}
 use Rattle.dn_volume.specs.declared.volume.Parts.{Parts}
 use Rattle.dn_volume.specs.declared.volume.Volume.{Volume}
 use Rattle.dn_volume.specs.Parties.{Flies, flight_of}
+use Rattle.dn_volume.specs.Cleans.{none_may_clean}
 use Rattle.dn_volume.specs.Events.{word_at, word_after}
 use Rattle.dn_volume.specs.Agrees.{Agrees, IsVolume}
 use Rattle.dn_volume.specs.Sound.{Sound}
@@ -29,8 +30,8 @@ abbrev pub hand_of : Bool → Option Flight → Option Hand
 hand_of true flight = Some Gone
 hand_of false flight = hand_in flight
 
--- whether no operation is in flight, and whether an event of the daemon or of reclaim would find
--- nothing to do
+-- whether no operation is in flight, whether nothing waits to be released, and whether an event of the
+-- daemon or of reclaim would find nothing to do
 abbrev pub is_landed : Parts → Bool
 is_landed b = list_all is_none b.flights.items
 
@@ -41,8 +42,11 @@ is_empty (x ∷ xs) = false
 abbrev pub daemon_rests : Parts → Bool
 daemon_rests b = is_none b.sharing && is_empty b.queue.items
 
+abbrev pub none_released : Parts → Bool
+none_released b = b.reclaiming.waiting == 0
+
 abbrev pub reclaim_rests : Parts → Bool
-reclaim_rests b = b.reclaiming.waiting == 0
+reclaim_rests b = none_released b && is_none b.reclaiming.cleaning && none_may_clean b
 
 -- every client has left, and none has an operation in flight
 abbrev pub is_deserted : List Bool → Parts → Bool
@@ -54,7 +58,7 @@ mark_of gone b = record {
   left = count_left gone;
   made = b.made;
   daemon_over = b.stopped || (is_deserted gone b && daemon_rests b);
-  counts_over = b.stopped || (is_deserted gone b && reclaim_rests b);
+  counts_over = b.stopped || (is_deserted gone b && none_released b);
   reclaim_idle = reclaim_rests b;
 }
 

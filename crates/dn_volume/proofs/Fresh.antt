@@ -50,14 +50,15 @@ use Rattle.dn_volume.specs.declared.flight.Flight.{Flight}
 use Rattle.dn_model.specs.declared.op.CountChange.{CountChange}
 use Rattle.dn_volume.specs.declared.volume.Parts.{Parts}
 use Rattle.dn_volume.specs.declared.volume.Room.{Room}
-use Rattle.dn_volume.specs.Parties.{Flies, Holds, by_client, by_daemon, Takes, for_client, flight_at, opened}
+use Rattle.dn_volume.specs.Parties.{Flies, Holds, by_client, by_daemon, by_cleaning, Takes, for_client, for_cleaning, flight_at, opened}
 use Rattle.dn_volume.specs.Inodes.{as_use}
 use Rattle.dn_volume.specs.Balance.{raised, added, dropped, raised_by, times, raised_to_share, raised_to_die, added_to_share}
 use Rattle.dn_volume.specs.Reclaims.{dying_units, one_if}
-use Rattle.dn_volume.specs.Reserve.{HasRoom, owed_sum, owed_to, units_to_share, changes_to_share}
+use Rattle.dn_volume.specs.Reserve.{HasRoom, owed_sum, owed_to, units_to_share, changes_to_share, units_to_clean, queue_to_clean}
 use Rattle.dn_volume.specs.Agrees.{StandsFast, IsVolume}
 use Rattle.dn_volume.specs.Events.{word_at, word_after}
 use Rattle.dn_volume.specs.Sound.{IsSound}
+use Rattle.dn_volume.proofs.Lefts.{two_left}
 use Rattle.dn_volume.specs.Fresh.{fresh_use, IsFresh, FreshVolumesAgree, FreshVolumesAreSound}
 use Rattle.dn_volume.proofs.SoundStays.{image_now}
 
@@ -118,6 +119,11 @@ module _ (g : Geometry) where
   no_units zero = refl
   no_units (suc k) = refl
 
+-- the logs of the empty disk have no page
+pub no_log_pages : (ino : ℕ) → length (empty_inode ino).log.pages ≡ 0
+no_log_pages zero = refl
+no_log_pages (suc k) = refl
+
 -- a list with two members
 two_members : (xs : List ℕ) (p q : ℕ) → p ≢ q → Contains xs p → Contains xs q → 2 ≤ length xs
 two_members [] p q apart has other = omega (arith, has.1)
@@ -140,9 +146,11 @@ module _ (g : Geometry) (b : Parts) (s : State) (fresh : IsFresh g b) (fast : St
   holds_none : (who ino : ℕ) → Holds b who ino → ⊥
   holds_none who ino (by_client f flies has) = none_flies who f flies
   holds_none who ino (by_daemon sharing is shares same) = let none = fresh.sharing in cc
+  holds_none who ino (by_cleaning cleaning is cleans same) = let none = fresh.cleaning in cc
 
   takes_none : (who page : ℕ) → Takes b who page → ⊥
   takes_none who page (for_client f flies has) = none_flies who f flies
+  takes_none who page (for_cleaning cleaning is cleans has) = let none = fresh.cleaning in cc
 
   nothing_owed : (kind : Room → ℕ) → kind (owed_to None) ≡ 0 → owed_sum b kind ≡ 0
   nothing_owed kind none = total-zero _ 14 (λ k lt. ap (λ r. kind (owed_to r)) (none_at k) ∙ none)
@@ -179,6 +187,8 @@ module _ (g : Geometry) (b : Parts) (s : State) (fresh : IsFresh g b) (fast : St
       let o_releases = ap (λ (r : Room). r.releases) owes in
       let raised' = ap one_if fresh.raised in
       let checks = ap one_if fresh.zero_check in
+      let cleans = ap units_to_clean fresh.cleaning in
+      let due = ap queue_to_clean fresh.cleaning in
       let shares = ap units_to_share fresh.sharing in
       let changes = ap changes_to_share fresh.sharing in
       let n_trace = ap length fresh.trace in
@@ -191,10 +201,10 @@ module _ (g : Geometry) (b : Parts) (s : State) (fresh : IsFresh g b) (fast : St
       let s_releases = nothing_owed (λ room. room.releases) refl in
       record {
         owes = record {
-          units = omega (arith, s_units, shares, raised', checks, o_units);
+          units = omega (arith, s_units, shares, raised', checks, cleans, o_units);
           trace = omega (arith, s_trace, changes, o_trace);
           history = omega (arith, s_history, o_history);
-          queue = omega (arith, s_queue, o_queue);
+          queue = omega (arith, s_queue, due, o_queue);
           releases = omega (arith, s_releases, raised', o_releases);
         };
         units = omega (arith, o_units);
@@ -218,6 +228,7 @@ module _ (g : Geometry) (b : Parts) (s : State) (fresh : IsFresh g b) (fast : St
         use_is = same_use g ino ∙ ap as_use (sym at.used_is);
         size_is = λ used. no_size g ino ∙ sym at.size_is;
         small = omega (arith, at.size_is);
+        log_pages = λ used. no_log_pages ino ∙ sym at.log_pages_is;
         places = λ idx. at.no_places idx ∙ ap (option_map kept) (sym (maps-empty g ino idx));
       };
     };
@@ -233,7 +244,8 @@ module _ (g : Geometry) (b : Parts) (s : State) (fresh : IsFresh g b) (fast : St
       takes = λ who page takes. absurd (takes_none who page takes);
       taken = λ page some. absurd (some refl);
       unused = λ page some. absurd (some refl);
-      left = two_free;
+      some = omega (arith, two_free);
+      left = two_left b fresh.in_order two_free;
     };
     table = record {
       geometry = sym fresh.table;
@@ -251,6 +263,7 @@ module _ (g : Geometry) (b : Parts) (s : State) (fresh : IsFresh g b) (fast : St
     flights = record { clients = fresh.clients; each = λ who f flies. absurd (none_flies who f flies) };
     queue = record { waits = λ ino idx m place. absurd (live_place g ino idx m place) };
     sharing = λ sharing is. let none = fresh.sharing in absurd (cc);
+    cleaning = λ c is. let none = fresh.cleaning in absurd (cc);
     reclaiming = record {
       waiting =
           let units = total-zero (dying_units e) g.inodes (λ ino lt. no_units g ino) in

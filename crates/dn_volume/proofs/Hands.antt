@@ -22,6 +22,7 @@ use Rattle.dn_volume.specs.Parties.{Holds, Takes}
 use Rattle.dn_volume.specs.Inodes.{AreNamesOf, AreInodesOf, AreHolders}
 use Rattle.dn_volume.specs.Space.{HasSpace, AreSlotsOf}
 use Rattle.dn_volume.specs.Shares.{IsWaiting, IsQueued}
+use Rattle.dn_volume.proofs.Lefts.{left_still}
 use Rattle.dn_volume.specs.Reclaims.{units_by_use, mapped_places, dying_units}
 
 -- everybody holds and has taken what he had, and the same items wait
@@ -46,6 +47,7 @@ module _ (d : Disk) (chain : ℕ → List Row) (pointer : ℕ → ℕ) where
       use_is = one.use_is;
       size_is = one.size_is;
       small = one.small;
+      log_pages = one.log_pages;
       places = λ idx. one.places idx ∙ ap (option_map kept) (sym (maps_same d chain pointer ino idx));
     };
   }
@@ -71,7 +73,8 @@ module _ (d : Disk) (chain : ℕ → List Row) (pointer : ℕ → ℕ) where
       takes = λ who page takes. is.takes who page (hands.taken who page takes);
       taken = λ page some. hands.takes (is.taker page) page (is.taken page some);
       unused = λ page some. kept page (is.unused page some);
-      left = subst (λ (x : FreePages). 2 ≤ length x.free) (sym same) is.left;
+      some = subst (λ (x : FreePages). 1 ≤ length x.free) (sym same) is.some;
+      left = left_still b b' same (hands.takes 16) is.left;
     }
 
     pub queue_stays : IsQueued d b → IsQueued new b'

@@ -65,8 +65,12 @@ use Rattle.dn_volume.specs.declared.flight.Flight.{Flight}
 use Rattle.dn_volume.specs.declared.flight.Change.{Change}
 use Rattle.dn_volume.specs.declared.flight.Change.TheVariants.{Data, Names}
 use Rattle.dn_volume.specs.declared.flight.DataChange.{DataChange}
+use Rattle.dn_volume.specs.declared.background.Cleaning.{Cleaning}
+use Rattle.dn_model.specs.Log.{count}
+use Rattle.dn_volume.specs.Cleans.{new_log}
+use Rattle.law_clean.specs.Cleaned.{cleaned_slots}
 use Rattle.dn_volume.specs.declared.volume.Parts.{Parts}
-use Rattle.dn_volume.specs.Parties.{Flies, Takes, for_client, flight_at, opened, taken_by}
+use Rattle.dn_volume.specs.Parties.{Flies, Takes, for_client, for_cleaning, flight_at, opened, taken_by}
 use Rattle.dn_volume.specs.Balance.{times, raised_by, raised_to_share, raised_to_die, raised_at, raised, added, dropped}
 use Rattle.dn_volume.specs.Planned.{slot_of_row, slot_of, row_slots, PlansData}
 use Rattle.dn_model.specs.declared.op.Op.{Op}
@@ -126,6 +130,11 @@ all_from b k (suc n) = taken_at (flight_at b.flights.items k) ++ all_from b (k +
 abbrev count_from : Parts → ℕ → ℕ → ℕ
 count_from b k zero = 0
 count_from b k (suc n) = length (taken_at (flight_at b.flights.items k)) + count_from b (k + 1) n
+
+-- the pages that a cleaning has taken
+abbrev clean_taken : Option Cleaning → List ℕ
+clean_taken None = []
+clean_taken (Some c) = c.pages.items
 
 all_length : (b : Parts) (k n : ℕ) → length (all_from b k n) ≡ count_from b k n
 all_length b k zero = refl
@@ -410,7 +419,26 @@ module _ (d : Disk) (b : Parts) (s : State) (volume : IsVolume d b s) (none_wait
       by (inr none) (inr all) = inr (λ p has. ⊎_elim (λ same. subst (λ (q : ℕ). IsNone (row_of (rows d) q)) same none) (λ rest. all p rest)
           (cons_cases x p pages has))
 
-  unused_listed : (page : ℕ) → IsUnused d page → Contains b.free.free page ⊎ Contains (all_from b 0 14) page
+  count_new : (c : Cleaning) → count (new_log d c) ≡ cleaned_slots c.ino (d.inode c.ino).log
+  unfolding count
+  count_new c = refl
+
+  -- those of a cleaning are at most half of a log's
+  few_cleaned : (o : Option Cleaning) → b.reclaiming.cleaning ≡ o → length (clean_taken o) ≤ half.0
+  few_cleaned None is = omega arith
+  few_cleaned (Some c) is =
+      let cleans = volume.cleaning c is in
+      let fits = cleans.paged.fits in
+      let worth = cleans.worth.half in
+      let most = half.1.most c.ino cleans.in_table (subst IsUsed (sym cleans.live) tt) in
+      let h = half.1.is in
+      let same = count_new c in
+      omega (arith, fits, same, worth, most, h)
+
+  abbrev all_taken : List ℕ
+  all_taken = all_from b 0 14 ++ clean_taken b.reclaiming.cleaning
+
+  unused_listed : (page : ℕ) → IsUnused d page → Contains b.free.free page ⊎ Contains (all_taken) page
   unused_listed page unused = ⊎_elim (λ none. inl ((volume.space.free page).1 (unused, none)))
       (λ some. inr (taken (volume.space.taker page) (volume.space.taken page some))) (cases_eq (volume.space.taker page) 0)
     where
@@ -422,30 +450,39 @@ module _ (d : Disk) (b : Parts) (s : State) (volume : IsVolume d b s) (none_wait
           gone None none some = cc some
           gone (Some x) none some = cc none
 
-      taken : (who : ℕ) → Takes b who page → Contains (all_from b 0 14) page
+      taken : (who : ℕ) → Takes b who page → Contains all_taken page
+      taken who (for_cleaning c him is has) =
+          Contains-append_right (all_from b 0 14) (clean_taken b.reclaiming.cleaning) page
+          (subst (λ (o : Option Cleaning). Contains (clean_taken o) page) (sym is) has)
       taken who (for_client f flies has) =
-          in_taken b 0 14 (who - 1) page (omega arith) (let lt = few who f flies.is in omega (arith, lt))
-          (subst (λ (x : Option Flight). Contains (taken_at x) page) (sym flies.is) has)
+          Contains-append_left (all_from b 0 14) (clean_taken b.reclaiming.cleaning) page (in_taken b 0 14 (who - 1) page (omega arith) (let lt = few who f flies.is in omega (arith, lt))
+          (subst (λ (x : Option Flight). Contains (taken_at x) page) (sym flies.is) has))
 
-  bounded : (pages : List ℕ) → AllPairs (λ p q. p ≢ q) pages → All (IsFree d) pages → length pages ≤ length b.free.free + count_from b 0 14 + 1
+  bounded : (pages : List ℕ) → AllPairs (λ p q. p ≢ q) pages → All (IsFree d) pages → length pages ≤ length b.free.free + count_from b 0 14 + half.0 + 1
   bounded pages apart free = ⊎_elim one_more none_more (first_row pages)
     where
-      long : length (b.free.free ++ all_from b 0 14) ≡ length b.free.free + count_from b 0 14
-      long = length-append b.free.free (all_from b 0 14) ∙ ap (λ (n : ℕ). length b.free.free + n) (all_length b 0 14)
+      long : length (b.free.free ++ all_taken) ≤ length b.free.free + count_from b 0 14 + half.0
+      long = omega (
+        arith,
+        length-append b.free.free all_taken,
+        length-append (all_from b 0 14) (clean_taken b.reclaiming.cleaning),
+        all_length b 0 14,
+        few_cleaned b.reclaiming.cleaning refl,
+      )
 
       free_at : (page : ℕ) → Contains pages page → IsFree d page
       free_at page has = subst (IsFree d) has.2 (free has.0 page has.1)
 
-      listed : (page : ℕ) → Contains pages page → IsNone (row_of (rows d) page) → Contains (b.free.free ++ all_from b 0 14) page
-      listed page has none = ⊎_elim (λ f. Contains-append_left b.free.free (all_from b 0 14) page f)
-          (λ t. Contains-append_right b.free.free (all_from b 0 14) page t) (unused_listed page (record { free = free_at page has; no_row = none }))
+      listed : (page : ℕ) → Contains pages page → IsNone (row_of (rows d) page) → Contains (b.free.free ++ all_taken) page
+      listed page has none = ⊎_elim (λ f. Contains-append_left b.free.free all_taken page f)
+          (λ t. Contains-append_right b.free.free all_taken page t) (unused_listed page (record { free = free_at page has; no_row = none }))
 
-      none_more : ((p : ℕ) → Contains pages p → IsNone (row_of (rows d) p)) → length pages ≤ length b.free.free + count_from b 0 14 + 1
-      none_more none = let le = distinct-le pages (b.free.free ++ all_from b 0 14) apart (λ page has. listed page has (none page has)) in
+      none_more : ((p : ℕ) → Contains pages p → IsNone (row_of (rows d) p)) → length pages ≤ length b.free.free + count_from b 0 14 + half.0 + 1
+      none_more none = let le = distinct-le pages (b.free.free ++ all_taken) apart (λ page has. listed page has (none page has)) in
           omega (arith, le, long)
 
-      one_more : ((p : ℕ) × Contains pages p × IsSome (row_of (rows d) p)) → length pages ≤ length b.free.free + count_from b 0 14 + 1
-      one_more (p, has, some) = let le = distinct-le pages (p ∷ (b.free.free ++ all_from b 0 14)) apart each in omega (arith, le, long)
+      one_more : ((p : ℕ) × Contains pages p × IsSome (row_of (rows d) p)) → length pages ≤ length b.free.free + count_from b 0 14 + half.0 + 1
+      one_more (p, has, some) = let le = distinct-le pages (p ∷ (b.free.free ++ all_taken)) apart each in omega (arith, le, long)
         where
           same_page : (page : ℕ) → Contains pages page → IsSome (row_of (rows d) page) → p ≡ page
           same_page page in_pages has_row =
@@ -455,10 +492,10 @@ module _ (d : Disk) (b : Parts) (s : State) (volume : IsVolume d b s) (none_wait
               (free_row page two.0 (free_at page in_pages) two.1 two.2) in
               sym one.2 ∙ ap (λ (r : Row). r.page) same ∙ two.2
 
-          each : (page : ℕ) → Contains pages page → Contains (p ∷ (b.free.free ++ all_from b 0 14)) page
+          each : (page : ℕ) → Contains pages page → Contains (p ∷ (b.free.free ++ all_taken)) page
           each page in_pages = ⊎_elim
-              (λ row. subst (Contains (p ∷ (b.free.free ++ all_from b 0 14))) (same_page page in_pages row) (here p (b.free.free ++ all_from b 0 14)))
-              (λ none. later p page (b.free.free ++ all_from b 0 14) (listed page in_pages none)) (some_or_none (row_of (rows d) page))
+              (λ row. subst (Contains (p ∷ (b.free.free ++ all_taken))) (same_page page in_pages row) (here p (b.free.free ++ all_taken)))
+              (λ none. later p page (b.free.free ++ all_taken) (listed page in_pages none)) (some_or_none (row_of (rows d) page))
 
   flying : (who : ℕ) → 1 ≤ who → flight_at b.flights.items (who - 1) ≡ None → AreFlying b who (scripts_from b 0 14)
   flying who client idle = record {

@@ -1,8 +1,10 @@
+pub mod Lefts
 pub mod Owned
 pub mod Stays
 pub mod DataStays
 pub mod NamesStay
 pub mod FlightsStay
+pub mod CleaningStays
 pub mod Tables
 pub mod OthersStay
 pub mod InHand

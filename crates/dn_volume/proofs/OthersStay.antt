@@ -8,7 +8,7 @@ use Rattle.law_write.specs.Events.{IsUnused}
 use Rattle.dn_volume.specs.declared.flight.Flight.{Flight}
 use Rattle.dn_volume.specs.declared.volume.InodeState.{InodeState}
 use Rattle.dn_volume.specs.declared.volume.Parts.{Parts}
-use Rattle.dn_volume.specs.Parties.{Flies, Holds, by_client, by_daemon, Takes, for_client, SameOthers, taken_by}
+use Rattle.dn_volume.specs.Parties.{Flies, Holds, by_client, by_daemon, by_cleaning, Takes, for_client, for_cleaning, SameOthers, taken_by}
 use Rattle.dn_volume.specs.Flights.{GrowsBy, IsFlight, IsFlightOf}
 use Rattle.dn_volume.specs.declared.flight.Change.{Change}
 use Rattle.dn_volume.specs.declared.flight.Change.TheVariants.{Data, Names}
@@ -18,7 +18,10 @@ use Rattle.dn_volume.specs.declared.background.Sharing.{Sharing}
 use Rattle.dn_volume.specs.declared.background.DyingPlace.{DyingPlace}
 use Rattle.dn_volume.specs.Shares.{IsSharing}
 use Rattle.dn_volume.specs.Reclaims.{IsRaised}
+use Rattle.dn_volume.specs.declared.background.Cleaning.{Cleaning}
+use Rattle.dn_volume.specs.Cleans.{IsCleaning}
 use Rattle.dn_volume.proofs.FlightsStay.{flights_stay}
+use Rattle.dn_volume.proofs.CleaningStays.{cleaning_stays}
 use Rattle.dn_volume.proofs.InHand.{sharing_stays, raised_stays}
 
 none_some : (r : Option InodeState) (n : InodeState) → r ≡ None → r ≡ Some n → ⊥
@@ -46,6 +49,8 @@ module _ (who : ℕ) (inodes pages : List ℕ) (d e : Disk) (b b' : Parts) (s t 
   takes_unused q page (for_client f flies has) =
       volume.space.unused page (λ none. let is = volume.space.takes q page (for_client f flies has) in let some = flies.client in
       omega (arith, is, some, none))
+  takes_unused q page (for_cleaning c him cleans has) =
+      volume.space.unused page (λ none. let is = volume.space.takes q page (for_cleaning c him cleans has) in omega (arith, is, him, none))
 
   -- the pages are unused, and others have taken none of them
   unused_pages : (page : ℕ) → Contains pages page → IsUnused d page
@@ -102,8 +107,20 @@ module _ (who : ℕ) (inodes pages : List ℕ) (d e : Disk) (b b' : Parts) (s t 
 
       held : (ino cut : ℕ) → Holds b who ino → (d.inode ino).use_of ≡ Dying cut → ⊥
       held ino cut (by_client f flies listed) dying = (undying who f flies).undying ino cut listed dying
+      held ino cut (by_cleaning c him is same) dying = absurd (other him)
       held ino cut (by_daemon sharing him is same) dying = clash _ cut (volume.sharing sharing is).begun.live
           (subst (λ (i : ℕ). (d.inode i).use_of ≡ Dying cut) (sym same) dying)
+
+  pub cleaning_on : who ≢ 16 → (c : Cleaning) → b'.reclaiming.cleaning ≡ Some c → IsCleaning e c t
+  cleaning_on other c is' =
+      let is = sym (same.cleaning other) ∙ is' in
+      let takes : (page : ℕ) → Contains c.pages.items page → Takes b 16 page = λ page has. for_cleaning c refl is has in
+      cleaning_stays inodes pages d e s t volume.fast.valid leaves.rest leaves.only c (λ has. ⊎_elim
+      (λ holds. other (one_holder c.ino who 16 holds (by_cleaning c refl is refl))) (λ dies. other dies.0) (for_it.inode c.ino has))
+      (λ page has. takes_unused 16 page (takes page has)) (λ page has stored. ⊎_elim
+      (λ mine. other (sym (volume.space.takes who page mine) ∙ volume.space.takes 16 page (takes page has)))
+      (λ free. let none = ((volume.space.free page).0 free).1 in let his = volume.space.takes 16 page (takes page has) in omega (arith, none, his))
+      (for_it.page page stored)) (volume.cleaning c is)
 
 pub others_stay : OthersStay
 others_stay who inodes pages d e b b' s t volume fast for_it leaves same raised = (
@@ -111,5 +128,6 @@ others_stay who inodes pages d e b b' s t volume fast for_it leaves same raised 
   record {
     sharing = λ other sharing is. daemon_stays who inodes pages d e b b' s t volume for_it leaves same other sharing is;
     raised = λ other p is. place_stays who inodes pages d e b b' s t volume for_it leaves same other (raised other) p is;
+    cleaning = λ other c is. cleaning_on who inodes pages d e b b' s t volume for_it leaves same other c is;
   },
 )

@@ -13,13 +13,12 @@ use Rattle.dn_volume.specs.declared.flight.DataChange.{DataChange}
 use Rattle.dn_volume.specs.declared.volume.InodeState.{InodeState}
 use Rattle.dn_volume.specs.declared.volume.Parts.{Parts}
 use Rattle.dn_volume.specs.declared.volume.Room.{Room}
-use Rattle.dn_volume.specs.Parties.{Flies, Holds, by_client, by_daemon, Takes, for_client}
-use Rattle.dn_volume.specs.Parties.{SameOthers, KeepsOps, flight_at, opened}
+use Rattle.dn_volume.specs.Parties.{Flies, Holds, by_client, by_daemon, by_cleaning, Takes, for_client, for_cleaning, SameOthers, KeepsOps, flight_at, opened}
 use Rattle.dn_volume.specs.Balance.{raised, raised_by, raised_to_share, raised_to_die, times}
 use Rattle.dn_volume.specs.Flights.{IsFlight}
 use Rattle.dn_volume.specs.Reclaims.{one_if}
-use Rattle.dn_volume.specs.Reserve.{owed_sum, owed_to, units_to_share, changes_to_share, Owes}
-use Rattle.dn_volume.specs.Replaces.{Replaces, MovesOwed, IsFurther, held_of, taken_of}
+use Rattle.dn_volume.specs.Reserve.{owed_sum, owed_to, units_to_share, changes_to_share, Owes, units_to_clean, queue_to_clean}
+use Rattle.dn_volume.specs.Replaces.{Replaces, MovesOwed, held_of, taken_of, IsFurther}
 
 -- an operation stands at its place
 pub opened_is : (r : Option (Option Flight)) (f : Flight) → opened r ≡ Some f → r ≡ Some (Some f)
@@ -38,14 +37,15 @@ client_few b who f all flies =
 pub ends_at : (b b' : Parts) (who : ℕ) (f : Flight) → length b.flights.items ≡ 14 → length b'.flights.items ≡ length b.flights.items
     → flight_at b.flights.items (who - 1) ≡ Some f → flight_at b'.flights.items (who - 1) ≡ None
     → ((k : ℕ) → k ≢ who - 1 → flight_at b'.flights.items k ≡ flight_at b.flights.items k) → b'.sharing ≡ b.sharing
-    → Replaces (who - 1) (Some f) None b b'
-ends_at b b' who f all clients was now others sharing = record {
+    → b'.reclaiming.cleaning ≡ b.reclaiming.cleaning → Replaces (who - 1) (Some f) None b b'
+ends_at b b' who f all clients was now others sharing cleaning = record {
   place = let lt = flight_within b.flights.items (who - 1) f was in omega (arith, lt, all);
   clients = clients;
   was = was;
   now = now;
   others = others;
   sharing = sharing;
+  cleaning = cleaning;
 }
 
 module _ (who : ℕ) (client : 1 ≤ who) (old new : Option Flight) (b b' : Parts)
@@ -56,6 +56,9 @@ module _ (who : ℕ) (client : 1 ≤ who) (old new : Option Flight) (b b' : Part
   no_daemon : (q : ℕ) → q ≡ 15 → q ≢ who
   no_daemon q him same = let lt = r.place in omega (arith, lt, him, same)
 
+  no_reclaim : (q : ℕ) → q ≡ 16 → q ≢ who
+  no_reclaim q him same = let lt = r.place in omega (arith, lt, him, same)
+
   apart : (q : ℕ) → 1 ≤ q → q ≢ who → q - 1 ≢ who - 1
   apart q some other same = other (omega (arith, client, some, same))
 
@@ -63,6 +66,7 @@ module _ (who : ℕ) (client : 1 ≤ who) (old new : Option Flight) (b b' : Part
   others_same = record {
     flights = λ q some other. r.others (q - 1) (apart q some other);
     sharing = λ other. r.sharing;
+    cleaning = λ other. r.cleaning;
   }
 
   -- the operation, or that of another
@@ -135,6 +139,7 @@ module _ (who : ℕ) (client : 1 ≤ who) (old new : Option Flight) (b b' : Part
       by (another other was) = inr (other, by_client g was has)
   held_then q ino (by_daemon sharing him is same) =
       inr (no_daemon q him, by_daemon sharing him (sym r.sharing ∙ is) same)
+  held_then q ino (by_cleaning c him is same) = inr (no_reclaim q him, by_cleaning c him (sym r.cleaning ∙ is) same)
 
   pub held_before : (q ino : ℕ) → Holds b q ino
       → ((q ≡ who) × Contains (held_of old) ino) ⊎ ((q ≢ who) × Holds b' q ino)
@@ -146,6 +151,7 @@ module _ (who : ℕ) (client : 1 ≤ who) (old new : Option Flight) (b b' : Part
       by (inr other) = inr (other.0, by_client g other.1 has)
   held_before q ino (by_daemon sharing him is same) =
       inr (no_daemon q him, by_daemon sharing him (r.sharing ∙ is) same)
+  held_before q ino (by_cleaning c him is same) = inr (no_reclaim q him, by_cleaning c him (r.cleaning ∙ is) same)
 
   pub holds_new : (ino : ℕ) → Contains (held_of new) ino → Holds b' who ino
   holds_new ino has = by new refl has
@@ -169,6 +175,7 @@ module _ (who : ℕ) (client : 1 ≤ who) (old new : Option Flight) (b b' : Part
       by : Whose q g → ((q ≡ who) × Contains (taken_of new) page) ⊎ ((q ≢ who) × Takes b q page)
       by (its_own same is) = inl (same, subst (λ (o : Option Flight). Contains (taken_of o) page) (sym is) has)
       by (another other was) = inr (other, for_client g was has)
+  taken_then q page (for_cleaning c him is has) = inr (no_reclaim q him, for_cleaning c him (sym r.cleaning ∙ is) has)
 
   pub taken_before : (q page : ℕ) → Takes b q page
       → ((q ≡ who) × Contains (taken_of old) page) ⊎ ((q ≢ who) × Takes b' q page)
@@ -178,6 +185,7 @@ module _ (who : ℕ) (client : 1 ≤ who) (old new : Option Flight) (b b' : Part
           → ((q ≡ who) × Contains (taken_of old) page) ⊎ ((q ≢ who) × Takes b' q page)
       by (inl mine) = inl (mine.0, subst (λ (o : Option Flight). Contains (taken_of o) page) (sym mine.1) has)
       by (inr other) = inr (other.0, for_client g other.1 has)
+  taken_before q page (for_cleaning c him is has) = inr (no_reclaim q him, for_cleaning c him (r.cleaning ∙ is) has)
 
   pub takes_new : (page : ℕ) → Contains (taken_of new) page → Takes b' who page
   takes_new page has = by new refl has
@@ -211,6 +219,8 @@ module _ (who : ℕ) (client : 1 ≤ who) (old new : Option Flight) (b b' : Part
       let units_shared = ap (λ o. units_to_share o) r.sharing in
       let changes_shared = ap (λ o. changes_to_share o) r.sharing in
       let up = ap (λ o. one_if o) raised_same in
+      let cleans = ap (λ o. units_to_clean o) r.cleaning in
+      let due = ap (λ o. queue_to_clean o) r.cleaning in
       let zero = ap (λ o. one_if o) zero_same in
       let units = owed_moved (λ room. room.units) in
       let trace = owed_moved (λ room. room.trace) in
@@ -218,10 +228,10 @@ module _ (who : ℕ) (client : 1 ≤ who) (old new : Option Flight) (b b' : Part
       let queue = owed_moved (λ room. room.queue) in
       let releases = owed_moved (λ room. room.releases) in
       record {
-        units = omega (arith, units, moves.units, units_shared, up, zero, was.units);
+        units = omega (arith, units, moves.units, units_shared, up, zero, cleans, was.units);
         trace = omega (arith, trace, moves.trace, changes_shared, was.trace);
         history = omega (arith, history, moves.history, was.history);
-        queue = omega (arith, queue, moves.queue, was.queue);
+        queue = omega (arith, queue, moves.queue, due, was.queue);
         releases = omega (arith, releases, moves.releases, up, was.releases);
       }
 

@@ -14,7 +14,7 @@ use Rattle.law_table_on_disk.specs.BalanceLaws.{IsBalanced}
 use Rattle.dn_volume.specs.declared.background.Sharing.{Sharing}
 use Rattle.dn_volume.specs.declared.flight.Flight.{Flight}
 use Rattle.dn_volume.specs.declared.volume.Parts.{Parts}
-use Rattle.dn_volume.specs.Parties.{Takes, for_client, flight_at}
+use Rattle.dn_volume.specs.Parties.{Takes, for_client, for_cleaning, flight_at}
 use Rattle.dn_volume.specs.Agrees.{IsVolume}
 use Rattle.dn_volume.specs.Balance.{raised, added, dropped, times, raised_by, raised_to_share, raised_to_die, added_to_share}
 use Rattle.dn_volume.specs.Reclaims.{one_if}
@@ -28,7 +28,7 @@ no_list [] is = refl
 no_list (x ∷ xs) is = absurd (omega (arith, is))
 
 module _ (d : Disk) (b : Parts) (s : State) (volume : IsVolume d b s) (landed : AllLanded b) (none_begun : b.sharing ≡ None)
-    (none_waits : b.reclaiming.waiting ≡ 0) where
+    (none_waits : b.reclaiming.waiting ≡ 0) (none_cleaned : b.reclaiming.cleaning ≡ None) where
   no_flight : (k : ℕ) → flight_at b.flights.items k ≡ None
   no_flight k = by (flight_at b.flights.items k) refl
     where
@@ -112,6 +112,7 @@ module _ (d : Disk) (b : Parts) (s : State) (volume : IsVolume d b s) (landed : 
     where
       by : Takes b (volume.space.taker page) page → ⊥
       by (for_client f flies has) = landed (volume.space.taker page) f flies
+      by (for_cleaning c him is has) = let none = none_cleaned in cc
 
   row_mapped : (page : ℕ) → IsSome (row_of (rows d) page) → mappings d page ≢ 0
   row_mapped page some none =
@@ -137,5 +138,7 @@ module _ (d : Disk) (b : Parts) (s : State) (volume : IsVolume d b s) (landed : 
   )
 
 pub resting : RestingVolumesAreAtRest
-resting d b s volume landed none_begun none_waits =
-    (at_rest d b s volume landed none_begun none_waits, free_is d b s volume landed none_begun none_waits)
+resting d b s volume landed none_begun none_waits none_cleaned = (
+  at_rest d b s volume landed none_begun none_waits none_cleaned,
+  free_is d b s volume landed none_begun none_waits none_cleaned,
+)

@@ -17,6 +17,7 @@ inodes_same ns = record {
       used = ap (λ (m : InodeState). m.used) same;
       size = ap (λ (m : InodeState). m.size) same;
       places = ap (λ (m : InodeState). m.map.map) same;
+      log_pages = ap (λ (m : InodeState). m.log_pages) same;
       round = ap (λ (m : InodeState). m.round) same;
     };
     holder = ap (λ (m : InodeState). m.holder) same;
@@ -42,6 +43,7 @@ inodes_join xs ys zs one two = record {
             used = b.same.used ∙ a.same.used;
             size = b.same.size ∙ a.same.size;
             places = b.same.places ∙ a.same.places;
+            log_pages = b.same.log_pages ∙ a.same.log_pages;
             round = b.same.round ∙ a.same.round;
           };
           holder = b.holder ∙ a.holder;
@@ -58,6 +60,7 @@ work_joins a b c one two = record {
   raised = two.raised ∙ one.raised;
   releases = two.releases ∙ one.releases;
   waiting = two.waiting ∙ one.waiting;
+  cleaning = two.cleaning ∙ one.cleaning;
   trace = two.trace ∙ one.trace;
   stopped = two.stopped ∙ one.stopped;
 }

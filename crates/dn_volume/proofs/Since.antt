@@ -1,5 +1,5 @@
 -- An event after one that changed nothing but the room that is kept.
-use Rattle.std.proofs.Common.{◌≡◌, ◌⊎◌, ℕ, ◌+◌, ◌-◌, ◌<◌, ◌≤◌, List, ◌++◌, sym, ◌∙◌, ap, subst}
+use Rattle.std.proofs.Common.{◌≡◌, ◌⊎◌, ℕ, ◌+◌, ◌-◌, ◌<◌, ◌≤◌, List, ◌++◌, length, sym, ◌∙◌, ap, subst, arith}
 use Rattle.std.specs.Prelude.{Option}
 use Rattle.pm_device.specs.Past.{Past, moment}
 use Rattle.pm_device.specs.State.{State, Rose}
@@ -13,7 +13,9 @@ use Rattle.dn_volume.specs.declared.volume.Volume.{Volume}
 use Rattle.dn_volume.specs.Parties.{SameOthers, KeepsOps, flight_at}
 use Rattle.dn_volume.specs.Begins.{IsUntouched}
 use Rattle.dn_volume.specs.Events.{Counts, Moves, MovesOn, Breaks}
-use Rattle.dn_volume.specs.Works.{ReclaimLowers}
+use Rattle.page_alloc.specs.Free.{FreePages}
+use Rattle.dedupe_queue.specs.declared.Work.{Work}
+use Rattle.dn_volume.specs.Works.{ReclaimLowers, work_left, taken_to_clean, clean_work, sharing_events}
 use Rattle.dn_volume.proofs.SameRoom.{room_joins}
 
 module _ {D F : Type 0} (state : D → State) (w w1 w2 : Volume D F) (print : Print) (who : ℕ) (d : Disk) (un : IsUntouched state w w1 d) where
@@ -36,6 +38,7 @@ module _ {D F : Type 0} (state : D → State) (w w1 w2 : Volume D F) (print : Pr
   others_since is = record {
     flights = λ q some ne. is.flights q some ne ∙ flight_was (q - 1);
     sharing = λ ne. is.sharing ne ∙ un.same.work.sharing;
+    cleaning = λ ne. is.cleaning ne ∙ un.same.work.cleaning;
   }
 
   ops_since : KeepsOps w1.parts w2.parts → KeepsOps w.parts w2.parts
@@ -101,10 +104,28 @@ module _ {D F : Type 0} (state : D → State) (w w1 w2 : Volume D F) (print : Pr
     made = is.made ∙ un.made;
   }
 
+  -- the work that was left is the same
+  work_since : work_left w1.parts ≡ work_left w.parts
+  work_since =
+      let same = un.same.work in
+      let free = ap (λ (x : FreePages). length x.free) un.same.free in
+      let pages = ap (λ (x : FreePages). x.pages) un.same.free in
+      let taken = ap taken_to_clean same.cleaning in
+      let left = ap clean_work same.cleaning in
+      let queue = ap (λ (xs : List Work). length xs) same.queue in
+      let shared = ap sharing_events same.sharing in
+      omega (arith, free, pages, taken, left, queue, shared, same.waiting)
+
   pub lowers_since : (n : ℕ) → ReclaimLowers w1.parts w2.parts n → ReclaimLowers w.parts w2.parts n
   lowers_since n less = record {
     left_is = less.left_is;
-    less = subst (λ (k : ℕ). w2.parts.reclaiming.waiting < k) un.same.work.waiting less.less;
-    queue = less.queue ∙ un.same.work.queue;
+    less = subst (λ (k : ℕ). work_left w2.parts < k) work_since less.less;
+    waiting = subst (λ (k : ℕ). (w2.parts.reclaiming.waiting < k) ⊎ ((k ≡ 0) × (w2.parts.reclaiming.waiting ≡ 0))) un.same.work.waiting less.waiting;
     sharing = less.sharing ∙ un.same.work.sharing;
+    queue = λ some. less.queue (subst (λ (k : ℕ). 0 < k) (sym un.same.work.waiting) some) ∙ un.same.work.queue;
+    rests = λ rests. less.rests (record {
+      none_begun = un.same.work.sharing ∙ rests.none_begun;
+      none_waits = un.same.work.queue ∙ rests.none_waits;
+    });
+    trace = λ none. less.trace (un.same.work.waiting ∙ none) ∙ un.same.work.trace;
   }

@@ -15,7 +15,8 @@ use Rattle.dn_volume.specs.Reclaims.{one_if}
 use Rattle.dn_volume.specs.Reserve.{owed_sum, Owes}
 use Rattle.dn_volume.specs.Replaces.{RaisesNone}
 use Rattle.dn_volume.specs.Steps.{StepsOn}
-use Rattle.dn_volume.proofs.Replaced.{others_same as same_others, ops_on, held_was, holds_on, took_was, takes_on, raised_moved, owes}
+use Rattle.dn_volume.proofs.Lefts.{left_still}
+use Rattle.dn_volume.proofs.Replaced.{others_same as same_others, ops_on, raised_moved, owes, held_was, holds_on, took_was, takes_on}
 
 module _ (who : ℕ) (f f' : Flight) (b b' : Parts) (steps : StepsOn who f f' b b') where
   abbrev old : Option Flight
@@ -48,7 +49,8 @@ module _ (who : ℕ) (f f' : Flight) (b b' : Parts) (steps : StepsOn who f f' b 
     takes = λ q page takes. has.takes q page (took_was who steps.client f f' b b' steps.replaces steps.further q page takes);
     taken = λ page some. takes_on who steps.client f f' b b' steps.replaces steps.further (has.taker page) page (has.taken page some);
     unused = has.unused;
-    left = subst (λ x. 2 ≤ length x.free) (sym steps.free) has.left;
+    some = subst (λ x. 1 ≤ length x.free) (sym steps.free) has.some;
+    left = left_still b b' steps.free (takes_on who steps.client f f' b b' steps.replaces steps.further 16) has.left;
   }
 
   pub owes_on : Owes b → Owes b'

@@ -9,9 +9,10 @@ use Rattle.dn_model.specs.Disk.{Disk}
 use Rattle.dn_volume.specs.declared.flight.Flight.{Flight}
 use Rattle.dn_volume.specs.declared.volume.InodeState.{InodeState}
 use Rattle.dn_volume.specs.declared.volume.Parts.{Parts}
-use Rattle.dn_volume.specs.Parties.{Holds, Takes, for_client}
+use Rattle.dn_volume.specs.Parties.{Holds, Takes, for_client, for_cleaning}
 use Rattle.dn_volume.specs.Inodes.{AreHolders}
 use Rattle.dn_volume.specs.Space.{HasSpace}
+use Rattle.dn_volume.specs.Cleans.{TwoLeft}
 use Rattle.dn_volume.specs.Replaces.{Replaces, held_of, taken_of}
 use Rattle.dn_volume.proofs.Replaced.{held_then, held_before, holds_new, holds_old, taken_then, taken_before, takes_new, takes_old}
 
@@ -84,6 +85,7 @@ module _ (who : ℕ) (client : 1 ≤ who) (old new : Option Flight) (b b' : Part
 
     some_taker : (q page : ℕ) → Takes b q page → 1 ≤ q
     some_taker q page (for_client g flies has) = flies.client
+    some_taker q page (for_cleaning c him cleans has) = omega (arith, him)
 
     -- who has taken a page afterwards
     taker_by : (page : ℕ) → Contains (taken_of new) page ⊎ (Contains (taken_of new) page → ⊥)
@@ -152,12 +154,12 @@ module _ (who : ℕ) (client : 1 ≤ who) (old new : Option Flight) (b b' : Part
           (contains_or_not page (taken_of new))
 
       -- the free pages and those that are taken
-      pub space_moved : (e : Disk) → b'.free.pages ≡ e.geometry.pages → IsInOrder b'.free → 2 ≤ length b'.free.free
+      pub space_moved : (e : Disk) → b'.free.pages ≡ e.geometry.pages → IsInOrder b'.free → 1 ≤ length b'.free.free → TwoLeft b'
           → ((page : ℕ) → Contains b'.free.free page ↔ (IsUnused e page × (taker_then page ≡ 0)))
           → ((page : ℕ) → Contains (taken_of new) page → IsUnused e page)
           → ((page : ℕ) → (Contains (taken_of old) page → ⊥) → IsUnused d page → IsUnused e page)
           → HasSpace e b'
-      space_moved e pages in_order left free unused kept = record {
+      space_moved e pages in_order some left free unused kept = record {
         pages = pages;
         in_order = in_order;
         taker = taker_then;
@@ -166,5 +168,6 @@ module _ (who : ℕ) (client : 1 ≤ who) (old new : Option Flight) (b b' : Part
         taken = λ page some. taken_now page some;
         unused = λ page some. ⊎_elim (unused page)
             (λ out. let was = kept_taker page out some in kept page was.0 (space.unused page was.1)) (contains_or_not page (taken_of new));
+        some = some;
         left = left;
       }

@@ -12,15 +12,15 @@ use Rattle.dn_model.specs.Empty.{empty_inode, empty_disk}
 use Rattle.dn_volume.specs.declared.background.DyingPlace.{DyingPlace}
 use Rattle.dn_model.specs.declared.op.CountChange.{CountChange}
 use Rattle.dn_volume.specs.declared.volume.Parts.{Parts}
-use Rattle.dn_volume.specs.Parties.{Holds, by_client, by_daemon, flight_at}
-use Rattle.dn_volume.specs.Balance.{dropped, times}
+use Rattle.dn_volume.specs.Parties.{Holds, by_client, by_daemon, by_cleaning, flight_at}
+use Rattle.dn_volume.specs.Balance.{raised, dropped, times}
 use Rattle.dn_volume.specs.Reclaims.{dying_units, one_if}
 use Rattle.dn_volume.specs.Shares.{IsWaiting, in_queue, is_begun}
 use Rattle.dn_volume.specs.Agrees.{StandsFast}
 use Rattle.dn_volume.specs.Stills.{IsAwaited}
 use Rattle.dn_volume.specs.Fresh.{IsFresh}
 use Rattle.dn_volume.specs.Wrong.{RefusesWrong, WrongPartsAreRefused, LeftOutPlacesAreRefused, StalePointersAreRefused}
-use Rattle.dn_volume.proofs.Fresh.{named-empty, no_row_in, none_at, none_flies, no_units}
+use Rattle.dn_volume.proofs.Fresh.{no_log_pages, named-empty, no_row_in, none_at, none_flies, no_units}
 use Rattle.law_write.proofs.Counting.{total-zero}
 
 clash : {X : Type 0} (o : Option X) (x : X) → o ≡ None → o ≡ Some x → ⊥
@@ -47,6 +47,8 @@ module _ (g : Geometry) (b : Parts) (s : State) (fresh : IsFresh g b) (fast : St
       clash (flight_at c.flights.items (who - 1)) f (same ∙ none_at g b s fresh fast (who - 1)) flies.is
   none_holds c is who ino (by_daemon item him begun same) =
       clash c.sharing item (ap (λ (p : Parts). p.sharing) is ∙ fresh.sharing) begun
+  none_holds c is who ino (by_cleaning item him begun same) =
+      clash c.reclaiming.cleaning item (ap (λ (p : Parts). p.reclaiming.cleaning) is ∙ fresh.cleaning) begun
 
   awaited_none : (a : ℕ) → IsAwaited b s a → ⊥
   awaited_none a waits = none_flies g b s fresh fast waits.who waits.by.flight waits.by.flies
@@ -58,7 +60,7 @@ module _ (g : Geometry) (b : Parts) (s : State) (fresh : IsFresh g b) (fast : St
     names = λ c name ino is leads v. clash (get c.names.map name) ino (v.names.leads name ∙ named-empty g name) leads;
     inodes = λ c is none v. let all = v.inodes.all in let many = fast.valid.accepted.inodes in omega (arith, none, all, many);
     holders = λ c n who is at held v. none_holds c is who 0 ((v.holders.told 0 who n at).0 held);
-    space = λ v. let left = v.space.left in omega (arith, left);
+    space = λ v. let some = v.space.some in omega (arith, some);
     table = λ v. let set = v.table.set in let same = ap (λ (h : Geometry). h.pages) fresh.table in let many = fast.valid.accepted.pages in omega (arith, set, same, many);
     counts = λ c slot is one v.
         let here : dropped c slot ≡ times slot (slot ∷ []) = ap (times slot) one in
@@ -76,6 +78,7 @@ module _ (g : Geometry) (b : Parts) (s : State) (fresh : IsFresh g b) (fast : St
         let zero' : one_if b.reclaiming.zero_check ≡ 0 = ap (λ (o : Option ℕ). one_if o) fresh.zero_check in
         let none = ap (λ (xs : List ℕ). length xs) fresh.releases in
         omega (arith, waits, units, up, zero', none);
+    cleaning = λ c v. let two = (v.cleaning c refl).worth.two in let none = no_log_pages c.ino in omega (arith, two, none);
     room = λ v. let units = v.room.units in omega (arith, units);
     trace = λ c word is items v.
         let same = ap (λ (p : Parts). slots p.geometry) is in

@@ -16,6 +16,7 @@ use Rattle.dn_volume.specs.Balance.{AreCounted}
 use Rattle.dn_volume.specs.Flights.{AreFlights}
 use Rattle.dn_volume.specs.Shares.{IsQueued, Shares}
 use Rattle.dn_volume.specs.Reclaims.{IsReclaiming}
+use Rattle.dn_volume.specs.Cleans.{Cleans}
 use Rattle.dn_volume.specs.Reserve.{HasRoom}
 use Rattle.dn_volume.specs.Stills.{IsStillBut}
 
@@ -62,6 +63,8 @@ pub record IsVolume (d : Disk) (b : Parts) (s : State) : Type 0 where
   pub sharing : Shares d b
   -- what waits for reclaim is counted
   pub reclaiming : IsReclaiming d b
+  -- the log that is being cleaned is as far as it tells
+  pub cleaning : Cleans d b s
   -- no pointer leads to a row that is gone
   pub pointers : HasNoStale d
   -- the room that is owed to what is begun is there

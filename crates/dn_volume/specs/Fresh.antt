@@ -41,6 +41,7 @@ fresh_use (suc k) = used.Free
 pub record IsFreshInode (ino : ℕ) (n : InodeState) : Type 0 where
   pub used_is : n.used ≡ fresh_use ino
   pub size_is : n.size ≡ 0
+  pub log_pages_is : n.log_pages ≡ 0
   pub no_places : (idx : ℕ) → get n.map.map idx ≡ None
   pub unheld : n.holder ≡ None
 
@@ -64,6 +65,7 @@ pub record IsFresh (g : Geometry) (b : Parts) : Type 0 where
   pub raised : b.reclaiming.raised ≡ None
   pub releases : b.reclaiming.releases.items ≡ []
   pub waiting : b.reclaiming.waiting ≡ 0
+  pub cleaning : b.reclaiming.cleaning ≡ None
   pub history : b.history.items ≡ []
   pub trace : b.trace.items ≡ []
   pub running : b.stopped ≡ false

@@ -24,6 +24,7 @@ pub record IsInodeOf (d : Disk) (ino : ℕ) (n : InodeState) : Type 0 where
   pub use_is : (d.inode ino).use_of ≡ as_use n.used
   pub size_is : IsUsed (d.inode ino).use_of → size_of (d.inode ino).log ≡ n.size
   pub small : n.size ≤ 16777216
+  pub log_pages : IsUsed (d.inode ino).use_of → length (d.inode ino).log.pages ≡ n.log_pages
   pub places : (idx : ℕ) → get n.map.map idx ≡ option_map kept (maps d ino idx)
 
 pub record AreInodesOf (d : Disk) (inodes : List InodeState) : Type 0 where

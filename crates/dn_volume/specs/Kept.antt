@@ -12,6 +12,7 @@ pub record SameInode (n n' : InodeState) : Type 0 where
   pub used : n'.used ≡ n.used
   pub size : n'.size ≡ n.size
   pub places : n'.map.map ≡ n.map.map
+  pub log_pages : n'.log_pages ≡ n.log_pages
   pub round : n'.round ≡ n.round
 
 -- each inode's state becomes such a one
@@ -48,6 +49,7 @@ pub record SameWork (b b' : Parts) : Type 0 where
   pub raised : b'.reclaiming.raised ≡ b.reclaiming.raised
   pub releases : b'.reclaiming.releases.items ≡ b.reclaiming.releases.items
   pub waiting : b'.reclaiming.waiting ≡ b.reclaiming.waiting
+  pub cleaning : b'.reclaiming.cleaning ≡ b.reclaiming.cleaning
   pub trace : b'.trace.items ≡ b.trace.items
   pub stopped : b'.stopped ≡ b.stopped
 

@@ -8,6 +8,7 @@ pub mod PlannedNames
 pub mod Flights
 pub mod Shares
 pub mod Reclaims
+pub mod Cleans
 pub mod Reserve
 pub mod Stills
 pub mod Kept

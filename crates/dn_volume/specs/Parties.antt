@@ -1,6 +1,5 @@
--- Who takes part in a volume: what each actor holds, and which pages each has taken. A cleaning of
--- a log will hold an
--- inode and take pages as actor 16.
+-- Who takes part in a volume: what each actor holds, and which pages each has taken. The cleaning
+-- of a log holds an inode and takes pages as actor 16.
 use Rattle.std.specs.Prelude.{
   ◌≡◌,
   ℕ,
@@ -21,6 +20,7 @@ use Rattle.dn_volume.specs.declared.flight.Flight.{Flight}
 use Rattle.dn_volume.specs.declared.flight.Change.{Change}
 use Rattle.dn_volume.specs.declared.flight.Change.TheVariants.{Data, Names}
 use Rattle.dn_volume.specs.declared.background.Sharing.{Sharing}
+use Rattle.dn_volume.specs.declared.background.Cleaning.{Cleaning}
 use Rattle.dn_volume.specs.declared.volume.Parts.{Parts}
 
 -- the operation at a place, if there is one
@@ -54,16 +54,23 @@ pub data Holds (b : Parts) (who ino : ℕ) : Type 0 where
   by_client : (f : Flight) → Flies b who f → Contains f.held.items ino → Holds b who ino
   by_daemon : (sharing : Sharing) → who ≡ 15 → b.sharing ≡ Some sharing → sharing.work.ino ≡ ino
       → Holds b who ino
+  by_cleaning : (cleaning : Cleaning) → who ≡ 16 → b.reclaiming.cleaning ≡ Some cleaning
+      → cleaning.ino ≡ ino
+      → Holds b who ino
 
 -- this actor has taken this page
 pub data Takes (b : Parts) (who page : ℕ) : Type 0 where
   for_client : (f : Flight) → Flies b who f → Contains (taken_by f) page → Takes b who page
+  for_cleaning : (cleaning : Cleaning) → who ≡ 16 → b.reclaiming.cleaning ≡ Some cleaning
+      → Contains cleaning.pages.items page
+      → Takes b who page
 
 -- what everybody but this actor holds and has taken is what it was
 pub record SameOthers (who : ℕ) (b b' : Parts) : Type 0 where
   pub flights : (q : ℕ) → 1 ≤ q → (q ≡ who → ⊥) → flight_at b'.flights.items (q - 1) ≡ flight_at
       b.flights.items (q - 1)
   pub sharing : (who ≡ 15 → ⊥) → b'.sharing ≡ b.sharing
+  pub cleaning : (who ≡ 16 → ⊥) → b'.reclaiming.cleaning ≡ b.reclaiming.cleaning
 
 -- each client has an operation in flight that it had, and each that it had is in flight
 pub record KeepsOps (b b' : Parts) : Type 0 where

@@ -32,6 +32,7 @@ use Rattle.law_table.specs.Words.{IsTableWord}
 use Rattle.dn_volume.specs.declared.background.DyingPlace.{DyingPlace}
 use Rattle.dn_volume.specs.declared.flight.Flight.{Flight}
 use Rattle.dn_volume.specs.declared.volume.Parts.{Parts}
+use Rattle.dn_volume.specs.Cleans.{Cleans}
 use Rattle.dn_volume.specs.Parties.{Flies, Holds, Takes, SameOthers, taken_by}
 use Rattle.dn_volume.specs.Planned.{slot_of_row}
 use Rattle.dn_volume.specs.Flights.{IsFlight}
@@ -101,9 +102,10 @@ FlightsStay = (who q : ℕ) (inodes pages : List ℕ) (d e : Disk) (s t : State)
     → IsFlight d q f s → IsFlight e q f t
 
 -- what everybody else has in hand afterwards
-pub record StayInHand (who : ℕ) (e : Disk) (b : Parts) : Type 0 where
+pub record StayInHand (who : ℕ) (e : Disk) (b : Parts) (t : State) : Type 0 where
   pub sharing : who ≢ 15 → Shares e b
   pub raised : who ≢ 16 → (p : DyingPlace) → b.reclaiming.raised ≡ Some p → IsRaised e p
+  pub cleaning : who ≢ 16 → Cleans e b t
 
 -- so it is with all that others have begun
 abbrev pub OthersStay : Type 0
@@ -111,4 +113,4 @@ OthersStay = (who : ℕ) (inodes pages : List ℕ) (d e : Disk) (b b' : Parts) (
     → IsVolume d b s → StandsFast e b.geometry t
     → IsFor d b who inodes pages → LeavesRest who inodes pages d e s t → SameOthers who b b'
     → (who ≢ 16 → b'.reclaiming.raised ≡ b.reclaiming.raised)
-    → ((q : ℕ) (f : Flight) → q ≢ who → Flies b' q f → IsFlight e q f t) × StayInHand who e b'
+    → ((q : ℕ) (f : Flight) → q ≢ who → Flies b' q f → IsFlight e q f t) × StayInHand who e b' t

@@ -7,7 +7,7 @@ use Rattle.dn_volume.specs.Reserve.{owed_to}
 
 -- The client at place k (client k + 1) had `old` in flight and has `new`: None where it has none.
 -- So an operation begins where `old` is None, and ends where `new` is. The item that the daemon has
--- begun stays.
+-- begun stays, and so does a cleaning.
 pub record Replaces (k : ℕ) (old new : Option Flight) (b b' : Parts) : Type 0 where
   pub place : k < 14
   pub clients : length b'.flights.items ≡ length b.flights.items
@@ -15,6 +15,7 @@ pub record Replaces (k : ℕ) (old new : Option Flight) (b b' : Parts) : Type 0 
   pub now : flight_at b'.flights.items k ≡ new
   pub others : (j : ℕ) → j ≢ k → flight_at b'.flights.items j ≡ flight_at b.flights.items j
   pub sharing : b'.sharing ≡ b.sharing
+  pub cleaning : b'.reclaiming.cleaning ≡ b.reclaiming.cleaning
 
 -- What is owed moves with it, of each kind of room: what the old one was owed is owed no more, and
 -- what the new one needs is owed.

@@ -6,6 +6,7 @@ use Rattle.pm_device.specs.State.{State}
 use Rattle.dn_model.specs.Counts.{total}
 use Rattle.dn_volume.specs.declared.units.TheConstants as cost
 use Rattle.dn_volume.specs.declared.background.Sharing.{Sharing}
+use Rattle.dn_volume.specs.declared.background.Cleaning.{Cleaning}
 use Rattle.dn_volume.specs.declared.background.SharingStep.{SharingStep}
 use Rattle.dn_volume.specs.declared.background.SharingStep.TheVariants.{Look, Remap, Settle}
 use Rattle.dn_volume.specs.declared.flight.Flight.{Flight}
@@ -82,10 +83,22 @@ changes_to_share (Some sharing) =
 
 -- What reclaim has begun: a raised place is owed the fall of its inode's cut, and a row without
 -- counts its end.
+-- A cleaning is owed the pages that aren't written, the change of head and tail, and the queue's
+-- room for what is due.
+abbrev pub units_to_clean : Option Cleaning → ℕ
+units_to_clean None = 0
+units_to_clean (Some c) =
+    cost.LOG_PAGE_UNITS * (length c.pages.items - c.written) + cost.REPLACE_UNITS
+
+abbrev pub queue_to_clean : Option Cleaning → ℕ
+queue_to_clean None = 0
+queue_to_clean (Some c) = length c.due.items
+
 abbrev pub units_to_reclaim : Parts → ℕ
 units_to_reclaim b =
     cost.FALL_UNITS * one_if b.reclaiming.raised
     + cost.ZERO_CHECK_UNITS * one_if b.reclaiming.zero_check
+    + units_to_clean b.reclaiming.cleaning
 
 -- the room that is owed covers them; a raised dying place is owed its release too
 pub record Owes (b : Parts) : Type 0 where
@@ -93,7 +106,7 @@ pub record Owes (b : Parts) : Type 0 where
       ≤ b.owed.units
   pub trace : owed_sum b (λ room. room.trace) + changes_to_share b.sharing ≤ b.owed.trace
   pub history : owed_sum b (λ room. room.history) ≤ b.owed.history
-  pub queue : owed_sum b (λ room. room.queue) ≤ b.owed.queue
+  pub queue : owed_sum b (λ room. room.queue) + queue_to_clean b.reclaiming.cleaning ≤ b.owed.queue
   pub releases : owed_sum b (λ room. room.releases) + one_if b.reclaiming.raised ≤ b.owed.releases
 
 -- and it is there

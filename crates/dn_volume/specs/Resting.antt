@@ -29,5 +29,5 @@ pub record IsAtRest (d : Disk) (s : State) : Type 0 where
 -- so it is once nothing is under way, and the free pages are those of the disk
 abbrev pub RestingVolumesAreAtRest : Type 0
 RestingVolumesAreAtRest = (d : Disk) (b : Parts) (s : State) → IsVolume d b s → AllLanded b
-    → b.sharing ≡ None → b.reclaiming.waiting ≡ 0
+    → b.sharing ≡ None → b.reclaiming.waiting ≡ 0 → b.reclaiming.cleaning ≡ None
     → IsAtRest d s × ((page : ℕ) → Contains b.free.free page ↔ IsFree d page)

@@ -7,6 +7,7 @@ use Rattle.dn_model.specs.Disk.{Disk}
 use Rattle.law_write.specs.Events.{IsUnused}
 use Rattle.dn_volume.specs.declared.volume.Parts.{Parts}
 use Rattle.dn_volume.specs.Parties.{Takes}
+use Rattle.dn_volume.specs.Cleans.{TwoLeft}
 
 -- Each page that is taken has one taker, 0 standing for none; so no two take one. The unused pages
 -- that nobody has
@@ -19,7 +20,8 @@ pub record HasSpace (d : Disk) (b : Parts) : Type 0 where
   pub takes : (who page : ℕ) → Takes b who page → taker page ≡ who
   pub taken : (page : ℕ) → taker page ≢ 0 → Takes b (taker page) page
   pub unused : (page : ℕ) → taker page ≢ 0 → IsUnused d page
-  pub left : 2 ≤ length b.free.free
+  pub some : 1 ≤ length b.free.free
+  pub left : TwoLeft b
 
 -- what is kept of the table: which indirect slots have no row
 pub record AreSlotsOf (d : Disk) (t : Table) : Type 0 where

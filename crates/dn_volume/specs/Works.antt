@@ -1,5 +1,5 @@
 -- What an event of the daemon or of reclaim promises.
-use Rattle.std.specs.Prelude.{◌≡◌, ◌⊎◌, ℕ, ◌+◌, ◌-◌, ◌*◌, ◌<◌, if◌then◌else◌, nat_lt}
+use Rattle.std.specs.Prelude.{◌≡◌, ◌⊎◌, ℕ, ◌+◌, ◌-◌, ◌*◌, ◌<◌, ◌≤◌, if◌then◌else◌, nat_lt, true}
 use Rattle.std.specs.Prelude.{List, [], ◌∷◌, length, slice_get, Option, Some, None, IsSome}
 use Rattle.pm_device.specs.State.{State}
 use Rattle.dedupe_queue.specs.declared.Work.{Work}
@@ -7,6 +7,7 @@ use Rattle.dn_model.specs.Maps.{Mapping}
 use Rattle.dn_model.specs.Disk.{Disk, Live, maps}
 use Rattle.dn_model.specs.Own.{Print}
 use Rattle.dn_volume.specs.declared.background.Sharing.{Sharing}
+use Rattle.dn_volume.specs.declared.background.Cleaning.{Cleaning}
 use Rattle.dn_volume.specs.declared.background.SharingStep.{SharingStep}
 use Rattle.dn_volume.specs.declared.background.SharingStep.TheVariants.{Look, Remap, Settle}
 use Rattle.dn_volume.specs.declared.outcome.Outcome.{Outcome}
@@ -14,6 +15,7 @@ use Rattle.dn_volume.specs.declared.outcome.Outcome.TheVariants as told
 use Rattle.dn_volume.specs.declared.volume.InodeState.{InodeState}
 use Rattle.dn_volume.specs.declared.volume.Parts.{Parts}
 use Rattle.dn_volume.specs.declared.volume.Volume.{Volume}
+use Rattle.dn_volume.specs.Cleans.{none_may_clean}
 use Rattle.dn_volume.specs.Parties.{Holds}
 use Rattle.dn_volume.specs.Begins.{IsUntouched}
 use Rattle.dn_volume.specs.Events.{MovesOn, Breaks}
@@ -100,11 +102,37 @@ abbrev pub daemon_stand : Disk → Parts → Stand
 daemon_stand d b =
     record { rests = DaemonRests b; held = IsHeldUp d b; begun = IsSome b.sharing }
 
+-- THE MEASURE OF ALL WORK
+
+-- the pages that are in use on the disk; those that a cleaning has taken aren't yet
+abbrev pub taken_to_clean : Option Cleaning → ℕ
+taken_to_clean None = 0
+taken_to_clean (Some c) = length c.pages.items
+
+abbrev pub used_pages : Parts → ℕ
+used_pages b = b.free.pages - length b.free.free - taken_to_clean b.reclaiming.cleaning
+
+-- how many events a cleaning has left; where none is begun, more than any has
+abbrev pub cleaning_events : Option Cleaning → ℕ
+cleaning_events None = 0
+cleaning_events (Some c) = (length c.pages.items - c.written) + 1
+
+abbrev pub clean_work : Option Cleaning → ℕ
+clean_work None = 70000
+clean_work (Some c) = cleaning_events (Some c)
+
+-- Each event of the daemon or of reclaim lowers it: the end of a cleaning leaves fewer pages in use,
+-- and at most 4,096 items more for the daemon, of 53 units each; no event leaves more pages in use.
+abbrev pub work_left : Parts → ℕ
+work_left b = 300000 * used_pages b + clean_work b.reclaiming.cleaning + b.reclaiming.waiting +
+    daemon_work b
+
 -- its own work is less afterwards, and reclaim's is what it was
 pub record DaemonLowers (b b' : Parts) (left : ℕ) : Type 0 where
   pub left_is : left ≡ sharing_events b'.sharing
   pub less : daemon_work b' < daemon_work b
   pub waiting : b'.reclaiming.waiting ≡ b.reclaiming.waiting
+  pub pages : used_pages b' ≤ used_pages b
 
 abbrev pub DaemonWorks : {D F : Type 0} → (D → State) → Print → Volume D F → Volume D F → Disk
     → Outcome
@@ -112,24 +140,86 @@ abbrev pub DaemonWorks : {D F : Type 0} → (D → State) → Print → Volume D
 DaemonWorks state print v v' d outcome =
     Works state print 15 (daemon_stand d v.parts) DaemonLowers v v' d outcome
 
--- Reclaim has the units that wait left; nobody holds it up. A zero check and a raised dying place
--- are begun.
-abbrev pub ReclaimRests : Parts → Type 0
-ReclaimRests b = b.reclaiming.waiting ≡ 0
+-- RECLAIM
+
+-- Releases and dying files: reclaim has the units that wait left, and nobody holds it up. A zero
+-- check and a raised dying place are begun.
+abbrev pub release_stand : Parts → Stand
+release_stand b = record {
+  rests = b.reclaiming.waiting ≡ 0;
+  held = λ holder. ⊥;
+  begun = IsSome b.reclaiming.zero_check ⊎ IsSome b.reclaiming.raised;
+}
+
+-- what waits gets less, and a cleaning and the daemon's work are what they were
+pub record ReleaseLowers (b b' : Parts) (left : ℕ) : Type 0 where
+  pub left_is : left ≡ b'.reclaiming.waiting + cleaning_events b'.reclaiming.cleaning
+  pub less : b'.reclaiming.waiting < b.reclaiming.waiting
+  pub cleaning : b'.reclaiming.cleaning ≡ b.reclaiming.cleaning
+  pub sharing : b'.sharing ≡ b.sharing
+  pub queue : b'.queue.items ≡ b.queue.items
+  pub pages : used_pages b' ≤ used_pages b
+
+abbrev pub ReleaseWorks : {D F : Type 0} → (D → State) → Print → Volume D F → Volume D F → Disk
+    → Outcome
+    → Type 0
+ReleaseWorks state print v v' d outcome =
+    Works state print 16 (release_stand v.parts) ReleaseLowers v v' d outcome
+
+-- A cleaning, where nothing waits.
+pub record CleanRests (b : Parts) : Type 0 where
+  pub none_begun : b.reclaiming.cleaning ≡ None
+  pub none_may : none_may_clean b ≡ true
+
+abbrev pub clean_stand : Parts → Stand
+clean_stand b = record {
+  rests = CleanRests b;
+  held = λ holder. ⊥;
+  begun = IsSome b.reclaiming.cleaning;
+}
+
+-- All work is less afterwards, still nothing waits, and no count changes. Where the daemon has done
+-- all that it had to do, the new log leaves it nothing.
+pub record CleanLowers (b b' : Parts) (left : ℕ) : Type 0 where
+  pub left_is : left ≡ cleaning_events b'.reclaiming.cleaning
+  pub less : work_left b' < work_left b
+  pub none_waits : b'.reclaiming.waiting ≡ 0
+  pub sharing : b'.sharing ≡ b.sharing
+  pub rests : DaemonRests b → b'.queue.items ≡ []
+  pub trace : b'.trace.items ≡ b.trace.items
+
+abbrev pub CleanWorks : {D F : Type 0} → (D → State) → Print → Volume D F → Volume D F → Disk
+    → Outcome
+    → Type 0
+CleanWorks state print v v' d outcome =
+    Works state print 16 (clean_stand v.parts) CleanLowers v v' d outcome
+
+-- Both together: reclaim rests where nothing waits, no cleaning is begun and no log may be cleaned. A
+-- cleaning goes on where nothing waits; so a release that waits may want memory beside it.
+pub record ReclaimRests (b : Parts) : Type 0 where
+  pub none_waits : b.reclaiming.waiting ≡ 0
+  pub none_begun : b.reclaiming.cleaning ≡ None
+  pub none_may : none_may_clean b ≡ true
 
 abbrev pub reclaim_stand : Parts → Stand
 reclaim_stand b = record {
   rests = ReclaimRests b;
   held = λ holder. ⊥;
-  begun = IsSome b.reclaiming.zero_check ⊎ IsSome b.reclaiming.raised;
+  begun = IsSome b.reclaiming.zero_check ⊎ IsSome b.reclaiming.raised
+      ⊎ (IsSome b.reclaiming.cleaning × (b.reclaiming.waiting ≡ 0));
 }
 
--- its own work is less afterwards, and the daemon's is what it was
+-- Releases and dying files come before a cleaning, whose end leaves the daemon what it had to do
+-- anew. All work is less afterwards.
 pub record ReclaimLowers (b b' : Parts) (left : ℕ) : Type 0 where
-  pub left_is : left ≡ b'.reclaiming.waiting
-  pub less : b'.reclaiming.waiting < b.reclaiming.waiting
-  pub queue : b'.queue.items ≡ b.queue.items
+  pub left_is : left ≡ b'.reclaiming.waiting + cleaning_events b'.reclaiming.cleaning
+  pub less : work_left b' < work_left b
+  pub waiting : (b'.reclaiming.waiting < b.reclaiming.waiting)
+      ⊎ ((b.reclaiming.waiting ≡ 0) × (b'.reclaiming.waiting ≡ 0))
   pub sharing : b'.sharing ≡ b.sharing
+  pub queue : 0 < b.reclaiming.waiting → b'.queue.items ≡ b.queue.items
+  pub rests : DaemonRests b → b'.queue.items ≡ []
+  pub trace : b.reclaiming.waiting ≡ 0 → b'.trace.items ≡ b.trace.items
 
 abbrev pub ReclaimWorks : {D F : Type 0} → (D → State) → Print → Volume D F → Volume D F → Disk
     → Outcome

@@ -10,6 +10,7 @@ use Rattle.dn_model.specs.Maps.{Mapping}
 use Rattle.dn_model.specs.Disk.{Disk}
 use Rattle.dn_model.specs.Own.{LivePlace}
 use Rattle.dn_model.specs.Empty.{empty_disk}
+use Rattle.dn_volume.specs.declared.background.Cleaning.{Cleaning}
 use Rattle.dn_volume.specs.declared.background.Sharing.{Sharing}
 use Rattle.dn_volume.specs.declared.volume.InodeState.{InodeState}
 use Rattle.dn_volume.specs.declared.volume.Parts.{Parts}
@@ -38,6 +39,8 @@ pub record RefusesWrong (g : Geometry) (b : Parts) (s : State) : Type 0 where
       → Refused g c s
   pub sharing : (item : Sharing) → Refused g (record b { sharing = Some item }) s
   pub reclaiming : Refused g (record b { reclaiming = record b.reclaiming { waiting = 1 } }) s
+  pub cleaning : (c : Cleaning)
+      → Refused g (record b { reclaiming = record b.reclaiming { cleaning = Some c } }) s
   pub room : Refused g (record b { owed = record b.owed { units = s.spare + 1 } }) s
   pub trace : (c : Parts) (word : ℕ) → c ≡ record b { trace = c.trace }
       → c.trace.items ≡ record { slot = slots g; word = word } ∷ [] → Refused g c s

@@ -1,5 +1,6 @@
 // The work of the daemon that shares pages, and of reclaim.
 use dedupe_queue::Work;
+use file_index::PageMap;
 use std::collections::VecDeque;
 
 /// A written item that the daemon has begun.
@@ -45,8 +46,28 @@ pub struct Reclaiming {
     pub raised: Option<DyingPlace>,
     /// The slots of the rows that have lost a mapping, each of which is to be settled.
     pub releases: VecDeque<u64>,
-    /// The units of work left.
+    /// The units of work left, but for a cleaning.
     pub waiting: u64,
+    /// The log that is being cleaned.
+    pub cleaning: Option<Cleaning>,
+}
+
+/// A log whose cleaning has begun: what it still says is copied to fresh pages, a page an event, and the copy replaces it
+/// in the end. Reclaim holds the inode until then. All that the end needs is here, so that it takes no memory.
+#[derive(Debug, Drop)]
+pub struct Cleaning {
+    /// The inode of the log.
+    pub ino: u64,
+    /// The slots of the new log's items.
+    pub slots: Vec<[u64; 8]>,
+    /// The pages that the new log gets, in order.
+    pub pages: Vec<u64>,
+    /// How many of these pages are written.
+    pub written: u64,
+    /// Where the pages of the file are, by the new log's items.
+    pub map: PageMap,
+    /// The slots of the new log's items that wait for the daemon then.
+    pub due: Vec<u64>,
 }
 
 /// A place of a dying inode.

@@ -14,7 +14,7 @@ pub mod rest;
 pub mod units;
 pub mod volume;
 
-pub use background::{DyingPlace, Reclaiming, Sharing, SharingStep};
+pub use background::{Cleaning, DyingPlace, Reclaiming, Sharing, SharingStep};
 pub use batch::{Batch, BatchPage};
 pub use dn_model::{CLIENTS, DAEMON, MOST_RELEASES, RECLAIM};
 pub use flight::{Change, DataChange, Flight, NameChange, Turn};

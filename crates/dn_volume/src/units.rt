@@ -43,5 +43,11 @@ pub const END_UNITS: u64 = SET_UNITS;
 /// A dying inode's cut falls by the place whose row is raised.
 pub const FALL_UNITS: u64 = SET_UNITS;
 
+/// A page of a new log is stored, flushed and fenced.
+pub const LOG_PAGE_UNITS: u64 = log_replace::page::PAGE_UNITS;
+
+/// A new log replaces an old one.
+pub const REPLACE_UNITS: u64 = log_replace::replace::REPLACE_UNITS;
+
 /// A row whose counts are 0 goes.
 pub const ZERO_CHECK_UNITS: u64 = REMOVE_UNITS;

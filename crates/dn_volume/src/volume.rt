@@ -77,6 +77,8 @@ pub struct InodeState {
     pub size: u64,
     /// Where the pages of its file are; of a dying one, those below its cut.
     pub map: PageMap,
+    /// How many pages its log has.
+    pub log_pages: u64,
     /// How often its log was replaced since the mount.
     pub round: u64,
     /// The actor that holds it.

@@ -58,7 +58,7 @@ module _ (d e : Disk) (b b' : Parts) (s t : State) (who : ℕ) (f : Flight) (c :
   mine i has = by_client f flies (subst (λ (xs : List ℕ). Contains xs i) (sym held) has)
 
   -- what others have in flight, and in hand
-  pub others_after : ((q : ℕ) (g : Flight) → q ≢ who → Flies b' q g → IsFlight e q g t) × StayInHand who e b'
+  pub others_after : ((q : ℕ) (g : Flight) → q ≢ who → Flies b' q g → IsFlight e q g t) × StayInHand who e b' t
   others_after = others_stay who (f.ino ∷ []) (taken_by f) d e b b' s t v fast_after
       (record { inode = λ i has. inl (mine i has); page = λ page has. inl (for_client f flies has) })
       (leaves_rest d e f c from n kind disk who s t appends) (others_same who flies.client (Some f) None b b' ends.flight) (λ ne. ends.keeps.raised)
@@ -121,6 +121,7 @@ module _ (d e : Disk) (b b' : Parts) (s t : State) (who : ℕ) (f : Flight) (c :
     sharing = others_after.1.sharing (λ him. omega (arith, him, client));
     reclaiming = reclaiming_after d e b b' f c from n (length c.runs.items) v.inodes disk ends.keeps ends.flight.sharing ends.inode ends.releases
         (others_after.1.raised (λ him. omega (arith, him, client))) v.reclaiming;
+    cleaning = others_after.1.cleaning (λ him. omega (arith, him, client));
     pointers = none_stale_kept d e disk.event.relogs.geometry disk.event.relogs.pointer
         (λ row has. record { row = row; there = subst (λ (rs : List Row). Contains rs row) (sym rows_still) has; page_is = refl }) v.pointers;
     room = room_after b b' who f flies.client ends.keeps ends.flight ends.owed e c s t kind ends.history.0 from n ends.inode ends.releases

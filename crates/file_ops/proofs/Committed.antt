@@ -70,12 +70,12 @@ module _ {D F : Type 0} (state : D → State) (print : Print) (v v' : Volume D F
 
   -- it failed
   pub breaks_by : (op : Op) → f.op ≡ op → v'.parts.stopped ≡ true → v'.parts.geometry ≡ v.parts.geometry → v'.parts.trace ≡ v.parts.trace
-      → v'.parts.sharing ≡ v.parts.sharing
+      → v'.parts.sharing ≡ v.parts.sharing → v'.parts.reclaiming.cleaning ≡ v.parts.reclaiming.cleaning
       → v'.parts.history ≡ v.parts.history → Counts v.parts v'.parts
       → Rose (state v.device).faults (state v'.device).faults
       → flight_at v'.parts.flights.items (who - 1) ≡ Some f
       → ((k : ℕ) → k ≢ who - 1 → flight_at v'.parts.flights.items k ≡ flight_at v.parts.flights.items k) → Breaks state print who (Some op) v v' d
-  breaks_by op same stopped geometry trace sharing history counts rose back others = record {
+  breaks_by op same stopped geometry trace sharing cleaning history counts rose back others = record {
     stopped = record {
       stopped = stopped;
       accepted = subst IsAccepted (is_v.fast.geometry ∙ sym geometry) is_v.fast.valid.accepted;
@@ -92,7 +92,7 @@ module _ {D F : Type 0} (state : D → State) (print : Print) (v v' : Volume D F
     rose = rose;
     quiet = λ none. cc;
     ops = ops_at v.parts v'.parts all_same;
-    others = record { flights = λ q some ne. all_same (q - 1); sharing = λ ne. sharing };
+    others = record { flights = λ q some ne. all_same (q - 1); sharing = λ ne. sharing; cleaning = λ ne. cleaning };
     trace = record { more = []; trace = ap (λ tr. tr.items) trace ∙ sym (append-nil v.parts.trace.items) };
     geometry = geometry;
     answering = λ o is_o own.
@@ -191,7 +191,7 @@ module _ {D F : Type 0} (state : D → State) (print : Print) (v v' : Volume D F
   decides = write_decides d v.parts (state v.device) who f c is_v flies kind is name at text op_is all_filled all_raised
 
   pub breaks : (op : Op) → f.op ≡ op → v'.parts.stopped ≡ true → v'.parts.geometry ≡ v.parts.geometry → v'.parts.trace ≡ v.parts.trace
-      → v'.parts.sharing ≡ v.parts.sharing
+      → v'.parts.sharing ≡ v.parts.sharing → v'.parts.reclaiming.cleaning ≡ v.parts.reclaiming.cleaning
       → v'.parts.history ≡ v.parts.history → Counts v.parts v'.parts
       → Rose (state v.device).faults (state v'.device).faults
       → flight_at v'.parts.flights.items (who - 1) ≡ Some f

@@ -77,6 +77,7 @@ use Rattle.dn_volume.specs.declared.flight.Change.TheVariants.{Data}
 use Rattle.dn_volume.specs.declared.flight.DataChange.{DataChange}
 use Rattle.dn_volume.specs.declared.volume.Parts.{Parts}
 use Rattle.dn_volume.specs.Parties.{Flies, for_client, flight_at, taken_by}
+use Rattle.dn_volume.specs.Cleans.{IsLeft as IsLeftTo}
 use Rattle.dn_volume.specs.Planned.{row_slots, data_items, gone_from, PlansData, PlansCut}
 use Rattle.dn_volume.specs.Balance.{times, raised_by, raised, added, dropped}
 use Rattle.dn_volume.specs.Flights.{IsDataFlight}
@@ -85,6 +86,7 @@ use Rattle.file_ops.specs.Ends.{ChangesData}
 use Rattle.dn_volume.proofs.Replaced.{flight_within}
 use Rattle.file_ops.proofs.Counts.{times-slots}
 use Rattle.file_ops.proofs.DiskAfter.{words_now, words-here, words-keep}
+use Rattle.begin_steps.proofs.Cleanings.{left_unused}
 use Rattle.file_ops.proofs.Taken.{fresh_taken, block_taken, fresh_apart, fresh_no_block}
 
 abbrev pub refill_of : List ℕ → Option ℕ
@@ -239,22 +241,19 @@ module _ (d : Disk) (b : Parts) (s : State) (who : ℕ) (f : Flight) (c : DataCh
       ∙ ap (λ (n : ℕ). spelled (run_items (all_seen c.runs.items) n ++ SizeItem n ∷ [])) (sym plans.size_is)
       ∙ ap (λ (op : Op). spelled (data_items op (all_seen c.runs.items) c.size)) (sym op_is) ∙ is.slots
 
-  not_taken : (page : ℕ) → Contains b.free.free page → Contains (taken_by f) page → ⊥
-  not_taken page there has =
-      let none = ((v.space.free page).0 there).1 in let his = v.space.takes who page (for_client f flies has) in let some = flies.client in
-      omega (arith, his, none, some)
-
   not_refill : (blocks : List ℕ) (page : ℕ) → blocks ≡ c.blocks.items → (Contains (taken_by f) page → ⊥) → IsNotRefill (refill_of blocks) page
   not_refill [] page same out = tt
   not_refill (block ∷ blocks) page same out = λ e. out
       (block_taken f c kind page (subst (λ (xs : List ℕ). Contains xs page) same (0, omega arith, e)))
 
-  left_page : (page : ℕ) → Contains b.free.free page → IsLeft d f.fresh.items refill page
-  left_page page there = record {
-    free = ((v.space.free page).0 there).0.free;
-    no_refill = not_refill c.blocks.items page refl (not_taken page there);
-    not_fresh = λ fresh. not_taken page there (fresh_taken f c kind page fresh);
-  }
+  left_page : (page : ℕ) → IsLeftTo b page → IsLeft d f.fresh.items refill page
+  left_page page there =
+      let left = left_unused d b s v who f flies page there in
+      record {
+        free = left.0.free;
+        no_refill = not_refill c.blocks.items page refl left.1;
+        not_fresh = λ fresh. left.1 (fresh_taken f c kind page fresh);
+      }
 
   pub may : MayCut d f.ino f.fresh.items to refill word
   may = record {
@@ -269,11 +268,11 @@ module _ (d : Disk) (b : Parts) (s : State) (who : ℕ) (f : Flight) (c : DataCh
     room = is.grows.room ∙ ap (λ (k : ℕ). (count (d.inode f.ino).log + k + 62) / 63) (sym (ap length items_are) ∙ slots_of to refill);
     words = words-keep d s v.fast.stands;
     left = (
-      slice_index b.free.free 0,
-      slice_index b.free.free 1,
-      (λ e. let up = v.space.in_order.rising 0 (omega (arith, v.space.left)) in omega (arith, up, e)),
-      left_page (slice_index b.free.free 0) (Contains-get_or b.free.free 0 0 (omega (arith, v.space.left))),
-      left_page (slice_index b.free.free 1) (Contains-get_or b.free.free 1 0 (omega (arith, v.space.left))),
+      v.space.left.one,
+      v.space.left.other,
+      v.space.left.apart,
+      left_page v.space.left.one v.space.left.one_left,
+      left_page v.space.left.other v.space.left.other_left,
     );
   }
 

@@ -73,6 +73,7 @@ use Rattle.dn_volume.specs.declared.flight.Change.TheVariants.{Data}
 use Rattle.dn_volume.specs.declared.flight.DataChange.{DataChange}
 use Rattle.dn_volume.specs.declared.volume.Parts.{Parts}
 use Rattle.dn_volume.specs.Parties.{Flies, for_client, flight_at, taken_by}
+use Rattle.dn_volume.specs.Cleans.{IsLeft as IsLeftTo}
 use Rattle.dn_volume.specs.Planned.{data_items, new_byte, PlansData, PlansWrite}
 use Rattle.dn_volume.specs.Balance.{times, raised_by, raised, added, dropped}
 use Rattle.dn_volume.specs.Flights.{IsDataFlight}
@@ -82,6 +83,7 @@ use Rattle.file_commit.specs.Append.{IsReadyToAppend}
 use Rattle.file_ops.specs.Ends.{ChangesData}
 use Rattle.dn_volume.proofs.Replaced.{flight_within}
 use Rattle.file_ops.proofs.Counts.{times-slots}
+use Rattle.begin_steps.proofs.Cleanings.{left_unused}
 use Rattle.file_ops.proofs.Taken.{fresh_taken, block_taken, fresh_apart, blocks_apart, fresh_no_block}
 
 some_runs : (runs : List Run) → 1 ≤ places_in runs → 1 ≤ length runs
@@ -170,18 +172,15 @@ module _ (d : Disk) (b : Parts) (s : State) (who : ℕ) (f : Flight) (c : DataCh
   old_small : size_of (d.inode f.ino).log ≤ 16777216
   old_small = size-small (d.inode f.ino).log (v.fast.valid.logs f.ino is.grows.in_table used).spelled
 
-  -- a free page is left
-  left_page : (page : ℕ) → Contains b.free.free page → IsLeft d f.fresh.items runs page
+  -- a page that is left to the volume is left beside this
+  left_page : (page : ℕ) → IsLeftTo b page → IsLeft d f.fresh.items runs page
   left_page page there =
-      let free = (v.space.free page).0 there in
+      let left = left_unused d b s v who f flies page there in
       record {
-        free = free.0.free;
-        no_block = λ i lt same. not_taken free.1 (block_taken f c kind page (subst (Contains c.blocks.items) same (block_in i lt)));
-        not_fresh = λ fresh. not_taken free.1 (fresh_taken f c kind page fresh);
+        free = left.0.free;
+        no_block = λ i lt same. left.1 (block_taken f c kind page (subst (Contains c.blocks.items) same (block_in i lt)));
+        not_fresh = λ fresh. left.1 (fresh_taken f c kind page fresh);
       }
-    where
-      not_taken : v.space.taker page ≡ 0 → Contains (taken_by f) page → ⊥
-      not_taken none has = let his = v.space.takes who page (for_client f flies has) in let some = flies.client in omega (arith, his, none, some)
 
   pub may : MayWrite d f.ino f.fresh.items c.first c.size runs word
   may = record {
@@ -202,11 +201,11 @@ module _ (d : Disk) (b : Parts) (s : State) (who : ℕ) (f : Flight) (c : DataCh
     room = is.grows.room ∙ ap (λ (k : ℕ). (count (d.inode f.ino).log + k + 62) / 63) (sym (ap length items_are) ∙ length-spelled-runs c.size runs);
     words = words-keep d s v.fast.stands;
     left = (
-      slice_index b.free.free 0,
-      slice_index b.free.free 1,
-      (λ e. let up = v.space.in_order.rising 0 (omega (arith, v.space.left)) in omega (arith, up, e)),
-      left_page (slice_index b.free.free 0) (Contains-get_or b.free.free 0 0 (omega (arith, v.space.left))),
-      left_page (slice_index b.free.free 1) (Contains-get_or b.free.free 1 0 (omega (arith, v.space.left))),
+      v.space.left.one,
+      v.space.left.other,
+      v.space.left.apart,
+      left_page v.space.left.one v.space.left.one_left,
+      left_page v.space.left.other v.space.left.other_left,
     );
   }
 

@@ -15,7 +15,6 @@ use Rattle.dn_model.specs.declared.op.Op.{Op}
 use Rattle.dn_model.specs.declared.op.Op.TheVariants.{Write}
 use Rattle.dn_model.specs.declared.op.Reply.TheVariants.{Done}
 use Rattle.dn_volume.specs.declared.flight.Flight.{Flight}
-use Rattle.dn_volume.specs.declared.flight.Change.{Change}
 use Rattle.dn_volume.specs.declared.flight.Change.TheVariants.{Data}
 use Rattle.dn_volume.specs.declared.flight.DataChange.{DataChange}
 use Rattle.dn_volume.specs.declared.volume.InodeState.{InodeState}
@@ -30,6 +29,7 @@ use Rattle.file_ops.specs.Ends.{ChangesData, ChangesInode, Ends, GivesPages}
 use Rattle.file_ops.specs.Giving.{Gives, IsUnsharedAmong}
 use Rattle.file_ops.specs.Ending.{MapsAt, FinishesBy}
 use Rattle.file_ops.proofs.DiskAfter.{after, may, changes, ready, old_fits, own_after, files_after, granted}
+use Rattle.file_ops.proofs.Nodes.{log_grown}
 use Rattle.file_ops.proofs.Ready.{file_is, freed_is, is_freed}
 use Rattle.file_ops.proofs.Slots.{mapped_slot}
 
@@ -115,6 +115,7 @@ module _ (d : Disk) (b : Parts) (s : State) (who : ℕ) (f : Flight) (c : DataCh
             now = ap (λ (fs : _). flight_at fs.items (who - 1)) finish.flights ∙ ended.now;
             others = λ k ne. ap (λ (fs : _). flight_at fs.items k) finish.flights ∙ ended.others k ne;
             sharing = finish.sharing ∙ ended.sharing;
+            cleaning = finish.cleaning ∙ ended.cleaning;
           };
           inode = record {
             all = inode.all ∙ ap (λ (ns : _). length ns.items) out.inodes;
@@ -199,10 +200,12 @@ module _ (d : Disk) (b : Parts) (s : State) (who : ℕ) (f : Flight) (c : DataCh
     others = maps_at.others;
     here = λ old new was now.
         let maps_it = maps_at.here old new was now in
-        let held = file_is d b s who f c v flies kind is old (ap (λ (ns : _). slice_get ns.items f.ino) (sym inodes) ∙ was) in
+        let here = ap (λ (ns : _). slice_get ns.items f.ino) (sym inodes) ∙ was in
+        let held = file_is d b s who f c v flies kind is old here in
         record {
           used = maps_it.used;
           size_is = maps_it.size_is;
+          log_pages = log_grown d e f c c.first (length c.blocks.items) changed old new (v.inodes.each f.ino old here) maps_it.log_pages;
           round = maps_it.round;
           holder = maps_it.holder;
           places = (maps_it.file d old.size c.first _ held (may d b s who f c v flies kind is name at text op_is all_filled all_raised) tail_is

@@ -218,7 +218,7 @@ module _ (d : Disk) (b b' : Parts) (s t : State) (who : ℕ) (f : Flight) (c : D
   pub same : SameOthers who b b'
   same = others_same who f f' b b' st
 
-  stay : ((q : ℕ) (g : Flight) → q ≢ who → Flies b' q g → IsFlight d q g t) × StayInHand who d b'
+  stay : ((q : ℕ) (g : Flight) → q ≢ who → Flies b' q g → IsFlight d q g t) × StayInHand who d b' t
   stay = others_stay who [] (taken_by f) d d b b' s t volume (subst (λ (g : Geometry). StandsFast d g t) st.geometry fast)
       (record {
         inode = λ i has. absurd (omega (arith, has.1));
@@ -294,6 +294,7 @@ module _ (d : Disk) (b b' : Parts) (s t : State) (who : ℕ) (f : Flight) (c : D
       zero_check = λ slot is. volume.reclaiming.zero_check slot (ap (λ r. r.zero_check) (sym st.reclaiming) ∙ is);
       raised = stay.1.raised (λ same'. let small = few who st.client (Some f) (Some f') b b' st.replaces in omega (arith, small, same'));
     };
+    cleaning = stay.1.cleaning (λ same'. let small = few who st.client (Some f) (Some f') b b' st.replaces in omega (arith, small, same'));
     pointers = volume.pointers;
     room = room;
     trace = subst (λ (g : Geometry). All (λ (x : CountChange). x.slot < slots g) b'.trace.items) (sym st.geometry)

@@ -1,6 +1,7 @@
 pub mod Basics
 pub mod Freed
 pub mod Taken
+pub mod FewApart
 pub mod Space
 pub mod Counts
 pub mod Nodes

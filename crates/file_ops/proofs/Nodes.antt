@@ -1,6 +1,6 @@
 -- What is kept of inodes, and who holds them, once a flight is ended.
-use Rattle.std.proofs.Common.{◌≡◌, ◌≢◌, inl, inr, ⊎_elim, ℕ, ◌-◌, ◌<◌, ◌≤◌, List, [], ◌∷◌, length, refl, sym, ◌∙◌, ap, subst, arith}
-use Rattle.std.specs.Prelude.{◌↔◌, slice_get, Option, Some, None, Contains}
+use Rattle.std.proofs.Common.{◌≡◌, ◌≢◌, inl, inr, ⊎_elim, ℕ, ◌+◌, ◌-◌, ◌<◌, ◌≤◌, List, [], ◌∷◌, length, length-append, refl, sym, ◌∙◌, ap, subst, arith}
+use Rattle.std.specs.Prelude.{slice_get, Option, Some, None, Contains}
 use Rattle.std.specs.Option.{option_map}
 use Rattle.std.proofs.lemmas.Bool.{cases_eq}
 use Rattle.std.proofs.lemmas.Option.{slice_get_cases}
@@ -34,6 +34,15 @@ module _ {X : Type 0} where
           (slice_get_cases xs k).1)
       by_it (Some x) is = (x, is)
 
+-- a log grows by its fresh pages
+pub log_grown : (d e : Disk) (f : Flight) (c : DataChange) (from n : ℕ) → ChangesData d e f c from n → (old new : InodeState)
+    → IsInodeOf d f.ino old → new.log_pages ≡ old.log_pages + length f.fresh.items → length (e.inode f.ino).log.pages ≡ new.log_pages
+log_grown d e f c from n disk old new was more =
+    let long = ap (λ (xs : List ℕ). length xs) disk.event.grown.pages ∙ length-append (d.inode f.ino).log.pages disk.event.grown.fresh in
+    let fresh = ap (λ (xs : List ℕ). length xs) disk.takes in
+    let had = was.log_pages (was_used f.ino d e disk.event) in
+    omega (arith, long, fresh, had, more)
+
 none_not : (h : Option ℕ) (q : ℕ) → h ≡ None → h ≡ Some q → ⊥
 none_not h q gone there = cc
 
@@ -53,6 +62,7 @@ module _ (d e : Disk) (b b' : Parts) (f : Flight) (c : DataChange) (from n : ℕ
       subst (λ (i : ℕ). IsInodeOf e i x) (sym same) (record {
         use_is = use_kept f.ino d e disk.event f.ino ∙ was.use_is ∙ ap as_use (sym ends.used);
         size_is = λ used. size;
+        log_pages = λ used. ends.log_pages;
         small = subst (λ (k : ℕ). k ≤ 16777216) size (size-small (e.inode f.ino).log ((written_valid f.ino d e disk.event disk.well).logs f.ino
             (subst (λ (k : ℕ). f.ino < k) (sym (ap (λ g. g.inodes) disk.event.relogs.geometry)) disk.event.in_table)
             (subst IsUsed (sym (use_kept f.ino d e disk.event f.ino)) (was_used f.ino d e disk.event))).spelled);
@@ -67,6 +77,7 @@ module _ (d e : Disk) (b b' : Parts) (f : Flight) (c : DataChange) (from n : ℕ
         use_is = ap (λ (i : Inode). i.use_of) node ∙ was.use_is;
         size_is = λ used. ap (λ (i : Inode). size_of i.log) node ∙ was.size_is (subst (λ (i : Inode). IsUsed i.use_of) node used);
         small = was.small;
+        log_pages = λ used. ap (λ (i : Inode). length i.log.pages) node ∙ was.log_pages (subst (λ (i : Inode). IsUsed i.use_of) node used);
         places = λ idx. was.places idx ∙ ap (option_map kept) (sym (maps_others f.ino d e disk.event ino idx ne));
       }
 

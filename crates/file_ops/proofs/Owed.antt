@@ -1,6 +1,6 @@
 -- The room that is owed, once a flight is ended.
-use Rattle.std.proofs.Common.{◌≡◌, ◌≢◌, ℕ, ◌+◌, ◌-◌, ◌*◌, ◌≤◌, length, refl, sym, ◌∙◌, ap, subst, arith}
-use Rattle.std.specs.Prelude.{Option, Some, None, vec_len, vec_capacity}
+use Rattle.std.proofs.Common.{◌≡◌, ◌≢◌, ℕ, ◌+◌, ◌-◌, ◌≤◌, length, refl, sym, ◌∙◌, ap, subst, arith}
+use Rattle.std.specs.Prelude.{Some, None, vec_len, vec_capacity}
 use Rattle.pm_device.specs.State.{State}
 use Rattle.dn_model.specs.declared.op.Entry.{Entry}
 use Rattle.dn_volume.specs.declared.flight.Flight.{Flight}

@@ -75,7 +75,8 @@ use Rattle.file_ops.specs.Giving.{Gives, IsUnshared, IsUnsharedAmong, CanGive}
 use Rattle.file_ops.specs.Ending.{CanFinish}
 use Rattle.dn_volume.proofs.Replaced.{flight_within}
 use Rattle.file_ops.proofs.DiskAfter.{may}
-use Rattle.file_ops.proofs.Taken.{block_taken, fresh_taken, spare_taken, left_apart, right_apart}
+use Rattle.file_ops.proofs.FewApart.{few_apart}
+use Rattle.file_ops.proofs.Taken.{block_taken, fresh_taken, spare_taken, fresh_apart, left_apart, right_apart}
 
 -- a place whose page has no row, as it is kept and on the disk
 pub unshared_place : (d : Disk) (o : Option DiskMapping) (page : ℕ) → IsUnshared d (option_map kept o) page
@@ -268,6 +269,7 @@ module _ (d : Disk) (b : Parts) (s : State) (who : ℕ) (f : Flight) (c : DataCh
       blocks = blocks_below 65536 c.first c.runs.items is.chained block_small;
       tail_small = subst (λ (t : ℕ). t < 4194304) (sym tail_is)
           (tail-bound d.geometry (d.inode f.ino).log (v.fast.valid.logs f.ino is.grows.in_table used).paged v.fast.valid.accepted.few_pages);
+      log_pages = λ n n_is. log_small n (subst (λ (ns : _). slice_get ns.items f.ino ≡ Some n) inodes n_is);
       fresh = λ k x lt. fresh_small (get_or f.fresh.items k x) (Contains-get_or f.fresh.items k x lt);
       releases = subst (λ (r : _). deque_len r.releases + length f.rows.items ≤ deque_capacity r.releases) (sym reclaiming)
           (omega (arith, v.room.releases, v.room.owes.releases, owed_part (λ room. room.releases)));
@@ -298,6 +300,15 @@ module _ (d : Disk) (b : Parts) (s : State) (who : ℕ) (f : Flight) (c : DataCh
 
         fresh_small : (page : ℕ) → Contains f.fresh.items page → page < 65536
         fresh_small page has = omega (arith, (taken_unused page (fresh_taken f c kind page has)).free.data_page.high, v.fast.valid.accepted.few_pages)
+
+        log_small : (n : InodeState) → slice_get b.inodes.items f.ino ≡ Some n → n.log_pages + length f.fresh.items < 18446744073709551616
+        log_small n at =
+            let paged = (v.fast.valid.logs f.ino is.grows.in_table used).paged in
+            let log = few_apart (d.inode f.ino).log.pages d.geometry.pages paged.apart (λ k lt. (paged.in_data k lt).high) in
+            let long = (v.inodes.each f.ino n at).log_pages used in
+            let fresh = few_apart f.fresh.items 65536 (fresh_apart f c kind is.grows.apart)
+            (λ k lt. fresh_small (slice_index f.fresh.items k) (Contains-get_or f.fresh.items k 0 lt)) in
+            omega (arith, log, long, fresh, v.fast.valid.accepted.few_pages)
 
   -- a write's end
   module _ (mid : Parts) (tail : ℕ) (name : List ℕ) (at : ℕ) (text : List ℕ) (op_is : f.op ≡ Write name at text)

@@ -14,7 +14,9 @@ use Rattle.dn_volume.specs.declared.volume.Parts.{Parts}
 use Rattle.dn_volume.specs.Parties.{Flies, for_client, taken_by}
 use Rattle.dn_volume.specs.Space.{HasSpace}
 use Rattle.dn_volume.specs.Replaces.{Replaces}
+use Rattle.dn_volume.proofs.Lefts.{left_more}
 use Rattle.dn_volume.proofs.Taken.{contains_or_not, taker_then, taker_gone, taker_kept, space_moved}
+use Rattle.begin_steps.proofs.Cleanings.{cleaning_takes}
 use Rattle.file_ops.specs.Ends.{ChangesData, IsFreed, GivesPages}
 use Rattle.file_ops.proofs.Freed.{unused_kept, unused_only, freed_unused, freed_mapped, block_used, fresh_used}
 use Rattle.file_ops.proofs.Taken.{fresh_taken, spare_taken, block_taken, taken_cases, fresh_not_spare, spare_no_block}
@@ -99,5 +101,6 @@ module _ (d e : Disk) (b b' : Parts) (who : ℕ) (f : Flight) (c : DataChange) (
 
   pub space_after : HasSpace e b'
   space_after = space_moved who flies.client (Some f) None b b' ended d space (λ page has. absurd (no_page page has)) e
-      (gives.pages ∙ space.pages ∙ sym (ap (λ g. g.pages) disk.event.relogs.geometry)) gives.in_order (omega (arith, space.left, gives.no_less))
+      (gives.pages ∙ space.pages ∙ sym (ap (λ g. g.pages) disk.event.relogs.geometry)) gives.in_order (omega (arith, space.some, gives.no_less))
+      (left_more b b' (λ page has. (gives.free page).1 (inl has)) (cleaning_takes who flies.client (Some f) None b b' ended) space.left)
       (λ page. (free_then page, then_free page)) (λ page has. absurd (no_page page has)) others_stay

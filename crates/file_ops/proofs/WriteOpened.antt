@@ -207,7 +207,7 @@ module _ {D F : Type 0} (state : D → State) (v v1 : Volume D F) (d : Disk) (vo
             room_is free' plan p;
         unraised = refl;
         takes = p.takes;
-        left = free_left;
+        left = λ some. free_left;
         inside = inside;
         loose = loose1;
         few = releases_few;

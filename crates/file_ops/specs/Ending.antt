@@ -55,12 +55,13 @@ pub record IsLastOfWrite (b : Parts) (who : ℕ) : Type 0 where
   pub all_filled : change.filled ≡ length change.blocks.items
   pub all_raised : flight.raised ≡ length flight.rows.items
 
--- the inode has this size and is let go; the places of the runs are mapped by the items past this
--- tail
+-- the inode has this size and is let go, and its log has these pages more; the places of the runs
+-- are mapped by the items past this tail
 pub record MapsInode (ino size tail : ℕ) (fresh : List ℕ) (runs : List Run) (old new : InodeState) :
     Type 0 where
   pub used : new.used ≡ old.used
   pub size_is : new.size ≡ size
+  pub log_pages : new.log_pages ≡ old.log_pages + length fresh
   pub round : new.round ≡ old.round
   pub holder : new.holder ≡ None
   pub file : (d : Disk) (old_size first : ℕ) (word : ℕ → ℕ → ℕ)
@@ -88,6 +89,7 @@ pub record FinishesBy (inodes_end : List InodeState → List InodeState → Type
   pub stopped : b'.stopped ≡ b.stopped
   pub raised : b'.reclaiming.raised ≡ b.reclaiming.raised
   pub zero_check : b'.reclaiming.zero_check ≡ b.reclaiming.zero_check
+  pub cleaning : b'.reclaiming.cleaning ≡ b.reclaiming.cleaning
   pub flights : b'.flights ≡ b.flights
   pub made : b'.made ≡ b.made
   pub free : Gives (Contains f.spare.items) b.free b'.free
@@ -130,6 +132,8 @@ pub record CanFinish (tail : ℕ) (f : Flight) (c : DataChange) (b : Parts) : Ty
   pub blocks : All (λ (run : Run). run.block + run.count ≤ 65536) c.runs.items
   pub tail_small : tail < 4194304
   pub fresh : All (λ page. page < 65536) f.fresh.items
+  pub log_pages : (n : InodeState) → slice_get b.inodes.items f.ino ≡ Some n
+      → n.log_pages + length f.fresh.items < 18446744073709551616
   pub releases : deque_len b.reclaiming.releases + length f.rows.items ≤ deque_capacity
       b.reclaiming.releases
   pub waiting : b.reclaiming.waiting + 2 * length f.rows.items < 18446744073709551616

@@ -68,6 +68,7 @@ pub record IsFreed (d : Disk) (ino from n page : ℕ) : Type 0 where
 pub record EndsInode (e : Disk) (ino size : ℕ) (old new : InodeState) : Type 0 where
   pub used : new.used ≡ old.used
   pub size_is : new.size ≡ size
+  pub log_pages : length (e.inode ino).log.pages ≡ new.log_pages
   pub round : new.round ≡ old.round
   pub holder : new.holder ≡ None
   pub places : (idx : ℕ) → get new.map.map idx ≡ option_map kept (maps e ino idx)

@@ -41,22 +41,25 @@ pub fn put_back(flights: &mut Vec<Option<Flight>>, who: u32, flight: Flight)
     flights[who as usize - 1] = Some(flight);
 }
 
-// Maps the places of runs, whose items stand past this tail, and lets the inode go.
+// Maps the places of runs, whose items stand past this tail, counts the log's new pages, and lets the inode go.
 fn end_state(node: &mut InodeState, size: u64, tail: u64, fresh: &[u64], runs: &[Run])
     requires room { places_in (all_seen runs.now) ≤ node.old.map.room }
     requires places { All (λ run. run.first + run.count ≤ 4096) runs.now }
     requires blocks { All (λ run. run.block + run.count ≤ 65536) runs.now }
     requires tail { tail < 4194304 }
     requires fresh { All (λ page. page < 65536) fresh.now }
+    requires log { node.old.log_pages + length fresh.now < 18446744073709551616 }
     ensures { (ino : ℕ) → MapsInode ino size tail fresh.now runs.now node.old node.new }
 {
     map_runs(&mut node.map, runs, tail, fresh);
     node.size = size;
+    node.log_pages += fresh.len() as u64;
     node.holder = None;
 }
 
-/// Maps the places of runs to their pages, whose items stand past this tail of the inode's log, and lets the inode go.
-pub fn end_inode(
+/// Maps the places of runs to their pages, whose items stand past this tail of the inode's log, counts the log's new
+/// pages, and lets the inode go.
+pub(crate) fn end_inode(
     inodes: &mut Vec<InodeState>,
     ino: u64,
     size: u64,
@@ -71,6 +74,8 @@ pub fn end_inode(
     requires blocks { All (λ run. run.block + run.count ≤ 65536) runs.now }
     requires tail { tail < 4194304 }
     requires fresh { All (λ page. page < 65536) fresh.now }
+    requires log { (n : InodeState) → slice_get inodes.old.items ino ≡ Some n
+        → n.log_pages + length fresh.now < 18446744073709551616 }
     ensures { MapsAt ino size tail fresh.now runs.now inodes.old.items inodes.new.items }
 {
     end_state(&mut inodes[ino as usize], size, tail, fresh, runs);

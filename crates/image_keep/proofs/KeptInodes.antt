@@ -89,7 +89,7 @@ module _ (ino : ℕ) (old new : Kept) where
       state_is : one.slot.state ≡ state_number (d.inode ino).use_of
       state_is = found.state ∙ state_word g c d said.geometry said.inodes ino lt
 
-    pub kept_live : one.slot.state ≡ 1 → KeepsLive ino one.log.index one.log.items.items old new → KeepsInode ino (Some one) old new
+    pub kept_live : one.slot.state ≡ 1 → KeepsLive ino one.log.index one.log.pages one.log.items.items old new → KeepsInode ino (Some one) old new
     kept_live live keeps = record {
       node = keeps.node;
       more = keeps.more;
@@ -104,13 +104,13 @@ module _ (ino : ℕ) (old new : Kept) where
           (works_same _ (IsOpenItem (d.inode ino).log) (open_same (d.inode ino).log one.log.index index) ino (map seen one.log.items.items) keeps.more
           keeps.works) in
           record {
-            node_is = keeps.node_is d is_live index;
+            node_is = keeps.node_is d is_live index (found.log.pages (d.inode ino).log (reads g c d said lt found));
             waits = subst (λ (u : Use). WaitFor ino u (d.inode ino).log keeps.more) (sym is_live) works;
             units_are = sym (ap (λ (u : Use). units_by_use u (mapped_places d ino)) is_live);
           };
     }
 
-    pub kept_dying : one.slot.state ≢ 1 → KeepsDying one.slot.cut one.log.index old new → KeepsInode ino (Some one) old new
+    pub kept_dying : one.slot.state ≢ 1 → KeepsDying one.slot.cut one.log.index one.log.pages old new → KeepsInode ino (Some one) old new
     kept_dying other keeps = record {
       node = keeps.node;
       more = [];
@@ -122,7 +122,7 @@ module _ (ino : ℕ) (old new : Kept) where
           (λ none. found.in_use (sym found.state ∙ state ∙ none)) (λ live. other (state ∙ live))
           (λ k e. found.cut ∙ cut_word g c d said.geometry said.inodes ino lt k e) in
           let index = found.log.index (d.inode ino).log (reads g c d said lt found) in
-          let node = keeps.node_is d ino dying index in
+          let node = keeps.node_is d ino dying index (found.log.pages (d.inode ino).log (reads g c d said lt found)) in
           record {
             node_is = node;
             waits = subst (λ (u : Use). WaitFor ino u (d.inode ino).log []) (sym dying) refl;

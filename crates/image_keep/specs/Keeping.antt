@@ -61,22 +61,23 @@ pub record KeepsOne (old new : Kept) (node : InodeState) (more : List Work) (uni
     pub few : units ≤ 16385
 
 -- a live inode is kept
-pub record KeepsLive (ino : ℕ) (index : FileIndex) (ps : List PlacedItem) (old new : Kept) : Type 0
-  where
-    pub node : InodeState
-    pub more : List Work
-    pub keeps : KeepsOne old new node more 0
-    pub node_is : (d : Disk) → (d.inode ino).use_of ≡ Live → IsIndexOf (d.inode ino).log index
-        → IsInodeOf d ino node
-    pub works : AreWorksOf (IsOpenBy index.map.map) ino (map seen ps) more
+pub record KeepsLive (ino : ℕ) (index : FileIndex) (pages : ℕ) (ps : List PlacedItem)
+    (old new : Kept) : Type 0 where
+  pub node : InodeState
+  pub more : List Work
+  pub keeps : KeepsOne old new node more 0
+  pub node_is : (d : Disk) → (d.inode ino).use_of ≡ Live → IsIndexOf (d.inode ino).log index
+      → length (d.inode ino).log.pages ≡ pages → IsInodeOf d ino node
+  pub works : AreWorksOf (IsOpenBy index.map.map) ino (map seen ps) more
 
 -- a dying inode is kept
-pub record KeepsDying (cut : ℕ) (index : FileIndex) (old new : Kept) : Type 0 where
+pub record KeepsDying (cut : ℕ) (index : FileIndex) (pages : ℕ) (old new : Kept) : Type 0 where
   pub node : InodeState
   pub units : ℕ
   pub keeps : KeepsOne old new node [] units
   pub node_is : (d : Disk) (ino : ℕ) → (d.inode ino).use_of ≡ Dying cut
-      → IsIndexOf (d.inode ino).log index → IsInodeOf d ino node
+      → IsIndexOf (d.inode ino).log index → length (d.inode ino).log.pages ≡ pages
+      → IsInodeOf d ino node
   pub units_are : units ≡ 1 + 4 * places_in node.map.map
 
 -- they are the inode's of the disk

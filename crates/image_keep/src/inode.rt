@@ -1,5 +1,5 @@
 // What is kept of an inode.
-ghost use Rattle.std.specs.Prelude.{◌≡◌, ◌≤◌, ℕ, None};
+ghost use Rattle.std.specs.Prelude.{◌≡◌, ◌≤◌, ℕ, length, None};
 ghost use Rattle.dn_model.specs.Disk.{Disk, IsUsed};
 ghost use Rattle.file_scan.specs.Index.{IsIndexOf};
 ghost use Rattle.dn_volume.specs.Inodes.{as_use, IsInodeOf};
@@ -24,11 +24,12 @@ fn kept_places(used: InodeUse, map: PageMap) -> PageMap
     }
 }
 
-/// What is kept of a used inode, of the places of its log: those below the cut, if it is dying.
-pub fn used_inode(used: InodeUse, index: FileIndex) -> InodeState
+/// What is kept of a used inode, of the places and the pages of its log: the places below the cut, if it is dying.
+pub fn used_inode(used: InodeUse, index: FileIndex, log_pages: u64) -> InodeState
     requires small { index.size ≤ 16777216 }
     ensures inode { (d : Disk) (ino : ℕ) → (d.inode ino).use_of ≡ as_use used → IsUsed (as_use used)
-        → IsIndexOf (d.inode ino).log index → IsInodeOf d ino result }
+        → IsIndexOf (d.inode ino).log index → length (d.inode ino).log.pages ≡ log_pages
+        → IsInodeOf d ino result }
     ensures unheld { result.holder ≡ None }
     ensures round { result.round ≡ 0 }
 {
@@ -37,6 +38,7 @@ pub fn used_inode(used: InodeUse, index: FileIndex) -> InodeState
         used,
         size,
         map: kept_places(used, map),
+        log_pages,
         round: 0,
         holder: None,
     }
@@ -54,6 +56,7 @@ pub fn unused_inode(alloc: Global) -> InodeState
         used: InodeUse::Free,
         size: 0,
         map: PageMap::new(alloc),
+        log_pages: 0,
         round: 0,
         holder: None,
     }

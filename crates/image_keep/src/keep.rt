@@ -126,24 +126,25 @@ fn keep_live(
     kept: &mut Kept,
     ino: u64,
     index: FileIndex,
+    pages: u64,
     items: &[Placed],
 ) -> Result<(), AllocError>
     requires indexed { All MayBeIndexed items.now }
     requires small { index.size ≤ 16777216 }
-    ensures { OnOk result (KeepsLive ino index items.now kept.old kept.new) }
+    ensures { OnOk result (KeepsLive ino index pages items.now kept.old kept.new) }
 {
     queue_items(&mut kept.work, ino, items, &index.map)?;
-    kept.inodes.push(used_inode(InodeUse::Live, index))?;
+    kept.inodes.push(used_inode(InodeUse::Live, index, pages))?;
     Ok(())
 }
 
 // A dying inode is kept, and its places below the cut are counted.
-fn keep_dying(kept: &mut Kept, cut: u64, index: FileIndex) -> Result<(), AllocError>
+fn keep_dying(kept: &mut Kept, cut: u64, index: FileIndex, pages: u64) -> Result<(), AllocError>
     requires small { index.size ≤ 16777216 }
     requires room { kept.old.waiting ≤ 67112960 }
-    ensures { OnOk result (KeepsDying cut index kept.old kept.new) }
+    ensures { OnOk result (KeepsDying cut index pages kept.old kept.new) }
 {
-    let node = used_inode(InodeUse::Dying { cut }, index);
+    let node = used_inode(InodeUse::Dying { cut }, index, pages);
     kept.waiting += 1 + 4 * count_places(&node.map);
     kept.inodes.push(node)?;
     Ok(())
@@ -156,11 +157,15 @@ fn keep_used(kept: &mut Kept, ino: u64, used: UsedInode) -> Result<(), AllocErro
     ensures { OnOk result (KeepsInode ino (Some used) kept.old kept.new) }
 {
     let UsedInode { slot, log } = used;
-    let FileLog { index, items } = log;
+    let FileLog {
+        index,
+        pages,
+        items,
+    } = log;
     if slot.state == LIVE {
-        return keep_live(kept, ino, index, &items);
+        return keep_live(kept, ino, index, pages, &items);
     }
-    keep_dying(kept, slot.cut, index)
+    keep_dying(kept, slot.cut, index, pages)
 }
 
 // An inode that isn't used is kept.
@@ -206,8 +211,8 @@ fn keep_inode(
     }
 }
 
-/// Reads the logs of all inodes, as `image_logs::read_logs`, and keeps what a volume needs of them: the uses, sizes and
-/// places of inodes, the items that wait for the daemon, and the units of work of dying inodes. No log is read twice.
+/// Reads the logs of all inodes, as `image_logs::read_logs`, and keeps what a volume needs of them: the uses, sizes,
+/// places and log pages of inodes, the items that wait for the daemon, and the units of work of dying inodes. No log is read twice.
 ///
 /// # Errors
 /// `BadLog` where a log has a fault: the first such inode, and how many slots of its log come before the fault.

@@ -104,9 +104,10 @@ module _ (g : Geometry) (c : List ℕ) (ino : ℕ) (pages : List ℕ) (items : L
   few_pages = omega (arith, pages-few pages apart g.pages below, accepted.few_pages)
 
   module _ (index : FileIndex) (is : (log : Log) → map seen items ≡ placed log → IsIndexOf log index) where
-    pub log_is : (log : FileLog) → log.items.items ≡ items → log.index ≡ index → IsLogOf g c ino log
-    log_is log same_items same_index = record {
+    pub log_is : (log : FileLog) → log.items.items ≡ items → log.index ≡ index → log.pages ≡ length pages → IsLogOf g c ino log
+    log_is log same_items same_index same_pages = record {
       index = λ l reads. rw same_index (is l (items_of l reads));
+      pages = λ l reads. sym (same_pages ∙ ap length has.pages_are ∙ ap (λ (x : Log). length x.pages) (one_log g c ino has.log l whole reads));
       items = λ l reads. rw same_items (items_of l reads);
       indexed = rw same_items may_be_indexed;
       small = omega (

@@ -172,6 +172,7 @@ pub record IsEmptyRead (g : Geometry) (read : LogsRead) : Type 0 where
 -- this is read of the log that the words hold
 pub record IsLogOf (g : Geometry) (c : List ℕ) (ino : ℕ) (log : FileLog) : Type 0 where
   pub index : (l : Log) → ReadsAs g c ino l → IsIndexOf l log.index
+  pub pages : (l : Log) → ReadsAs g c ino l → length l.pages ≡ log.pages
   pub items : (l : Log) → ReadsAs g c ino l → map seen log.items.items ≡ placed l
   pub indexed : All MayBeIndexed log.items.items
   pub small : log.index.size ≤ 16777216

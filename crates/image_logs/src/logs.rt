@@ -56,6 +56,8 @@ pub struct LogsRead {
 pub struct FileLog {
     /// The size of its file, and where its places are; of a dying one also those from its cut on.
     pub index: FileIndex,
+    /// How many pages the log has.
+    pub pages: u64,
     /// Its items, in order.
     pub items: Vec<Placed>,
 }
@@ -147,6 +149,7 @@ fn add_log<D: Pm>(
     count_places(&mut read.mapped, &index.map, end);
     Ok(FileLog {
         index,
+        pages: log.pages.len() as u64,
         items: log.items,
     })
 }

@@ -1,7 +1,7 @@
 -- A run that is as far as a volume says, an event later.
 use Rattle.std.proofs.Common.{◌≡◌, ◌≢◌, inl, inr, ℕ, zero, suc, ◌-◌, ◌<◌, ◌≤◌, Bool, true}
 use Rattle.std.proofs.Common.{false, List, [], ◌∷◌, ◌++◌, length, refl, sym, ap, subst, ◌∙◌, arith}
-use Rattle.std.specs.Prelude.{Option, Some, None, slice_get, if◌then◌else◌}
+use Rattle.std.specs.Prelude.{Option, Some, None, IsSome, slice_get, if◌then◌else◌}
 use Rattle.std.proofs.lemmas.Bool.{cases_eq, ne_eqb, eq-eqb}
 use Rattle.std.proofs.lemmas.Option.{none-some, same_Some, slice_get_within}
 use Rattle.dn_model.specs.declared.op.Op.{Op}
@@ -13,6 +13,7 @@ use Rattle.dn_volume.specs.declared.flight.Change.TheVariants.{Data, Names}
 use Rattle.dn_volume.specs.declared.volume.Parts.{Parts}
 use Rattle.dn_volume.specs.Parties.{Flies, KeepsOps, SameOthers, opened, flight_at, flight_of}
 use Rattle.dn_volume.specs.Flights.{left_by, left_of}
+use Rattle.dn_volume.specs.declared.background.Cleaning.{Cleaning}
 use Rattle.dn_volume.specs.Works.{sharing_events}
 use Rattle.job_runs.specs.Turns.{Played, script_of, next_op, set_left, entry_for}
 use Rattle.job_runs.specs.Playing.{Fits, FlyNext, flight_left}
@@ -106,6 +107,16 @@ module _ (scripts : List (ℕ × List Op)) (p : Played) (b : Parts) (fits : Fits
   pub daemon_set : (b' : Parts) (who n : ℕ) → who ≢ 15 → b'.sharing ≡ b.sharing → set_left who n p.left 15 ≡ sharing_events b'.sharing
   daemon_set b' who n other same =
       ap (λ (t : Bool). if t then n else p.left 15) (ne_eqb 15 who (λ e. other (sym e))) ∙ daemon_kept b' same
+
+  -- and a cleaning
+  pub cleaning_kept : (b' : Parts) → b'.reclaiming.cleaning ≡ b.reclaiming.cleaning → IsSome b'.reclaiming.cleaning → 0 < p.left 16
+  cleaning_kept b' same some = fits.cleaning (subst (λ (c : Option Cleaning). IsSome c) same some)
+
+  pub cleaning_set : (b' : Parts) (who n : ℕ) → who ≢ 16 → b'.reclaiming.cleaning ≡ b.reclaiming.cleaning → IsSome b'.reclaiming.cleaning
+      → 0 < set_left who n p.left 16
+  cleaning_set b' who n other same some =
+      subst (λ (k : ℕ). 0 < k) (sym (ap (λ (t : Bool). if t then n else p.left 16) (ne_eqb 16 who (λ e. other (sym e)))))
+      (cleaning_kept b' same some)
 
   -- what is in flight, where nothing is answered
   pub fly_kept : (b' : Parts) → b'.history.items ≡ b.history.items

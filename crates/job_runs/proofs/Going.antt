@@ -19,6 +19,7 @@ use Rattle.dn_volume.specs.Parties.{flight_at, flight_of}
 use Rattle.dn_volume.specs.Agrees.{IsVolume, Agrees, agrees_with, is_stopped}
 use Rattle.dn_volume.specs.Sound.{Sound}
 use Rattle.dn_volume.specs.Resting.{AllLanded}
+use Rattle.dn_volume.specs.declared.background.Cleaning.{Cleaning}
 use Rattle.dn_volume.specs.Works.{sharing_events}
 use Rattle.dn_volume.proofs.SoundStays.{rose_since}
 use Rattle.dn_volume.proofs.Soundness.{sound_disk}
@@ -86,6 +87,10 @@ none_left b landed (suc k) = by (flight_at b.flights.items k) refl
         back : (n : ℕ) → suc n - 1 ≡ n
         back n = omega arith
 
+no_cleaning : (c : Option Cleaning) → c ≡ None → IsSome c → ⊥
+no_cleaning None is some = cc
+no_cleaning (Some x) is some = cc
+
 -- nothing was played yet
 start_fits : (scripts : List (ℕ × List Op)) (turns : List ℕ) (b : Parts) → IsNew b → Fits scripts (at_start turns) b
 start_fits scripts turns b new = record {
@@ -93,6 +98,7 @@ start_fits scripts turns b new = record {
   clients = λ who no_daemon no_reclaim. sym (none_left b new.landed who);
   daemon = sym (ap sharing_events new.none_begun);
   waiting = λ n e. absurd (none-some n e);
+  cleaning = λ some. absurd (no_cleaning b.reclaiming.cleaning new.none_cleaned some);
   flying = record { next = λ who f flies. absurd (new.landed who f flies) };
 }
 

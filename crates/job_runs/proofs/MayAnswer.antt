@@ -1,7 +1,7 @@
 -- The next event of a run may answer what it answers, and the run goes on from there.
 use Rattle.std.proofs.Common.{◌≡◌, ◌≢◌, ℕ, ◌+◌, ◌-◌, ◌*◌, ◌<◌, ◌≤◌, Bool, true, false}
 use Rattle.std.proofs.Common.{List, [], ◌∷◌, ◌++◌, refl, sym, ap, subst, ◌∙◌, arith, append-nil}
-use Rattle.std.specs.Prelude.{Option, Some, None, Contains, if◌then◌else◌, nat_lt}
+use Rattle.std.specs.Prelude.{Option, Some, None, IsSome, Contains, if◌then◌else◌, nat_lt}
 use Rattle.std.proofs.lemmas.Option.{none-some, same_Some}
 use Rattle.std.proofs.lemmas.List.Elements.{Contains-append_right}
 use Rattle.pm_device.specs.State.{State, Rose}
@@ -16,15 +16,16 @@ use Rattle.dn_model.specs.declared.op.Reply.TheVariants as answer
 use Rattle.dn_model.specs.declared.op.Refusal.{Refusal}
 use Rattle.dn_model.specs.declared.op.Refusal.TheVariants.{BadName, TooLong, TooBig}
 use Rattle.dn_volume.specs.declared.background.Sharing.{Sharing}
+use Rattle.dn_volume.specs.declared.background.Cleaning.{Cleaning}
 use Rattle.dn_volume.specs.declared.flight.Flight.{Flight}
 use Rattle.dn_volume.specs.declared.outcome.Outcome.{Outcome}
 use Rattle.dn_volume.specs.declared.outcome.Outcome.TheVariants as told
 use Rattle.dn_volume.specs.declared.volume.Parts.{Parts}
 use Rattle.dn_volume.specs.declared.volume.Volume.{Volume}
-use Rattle.dn_volume.specs.Parties.{Flies, Holds, by_client, by_daemon, SameOthers, flight_at, flight_of}
+use Rattle.dn_volume.specs.Parties.{Flies, Holds, by_client, by_daemon, by_cleaning, SameOthers, flight_at, flight_of}
 use Rattle.dn_volume.proofs.Replaced.{flies_new, others_same as same_others}
 use Rattle.dn_volume.specs.Flights.{left_of}
-use Rattle.dn_volume.specs.Works.{sharing_events, step_events, DaemonWorks, ReclaimWorks, IsHeldUp}
+use Rattle.dn_volume.specs.Works.{sharing_events, step_events, cleaning_events, DaemonWorks, ReclaimWorks, IsHeldUp}
 use Rattle.dn_volume.specs.Agrees.{IsVolume}
 use Rattle.dn_volume.specs.Begins.{MayBegin, HasBegun, AnswersAtOnce, IsAnswerOf, of_files, no_inode, no_space, IsBusy, IsUntouched, wants}
 use Rattle.dn_volume.specs.Events.{Advances, Breaks, answered_by}
@@ -62,6 +63,8 @@ use Rattle.job_runs.proofs.Fitting.{
   fly_begun,
   fly_answered,
   entries_answered,
+  cleaning_kept,
+  cleaning_set,
 }
 
 -- what is answered in a begin
@@ -92,6 +95,21 @@ events_some s = by (nat_lt s.done s.count)
     by true = omega arith
     by false = omega arith
 
+fifteen : ◌≡◌ {A = ℕ} 15 16 → ⊥
+fifteen e = omega (arith, e)
+
+some_is : (x : Option Cleaning) (c : Cleaning) → x ≡ Some c → IsSome x
+some_is None c e = cc
+some_is (Some y) c e = refl
+
+no_cleaning : (c : Option Cleaning) → c ≡ None → IsSome c → ⊥
+no_cleaning None is some = cc
+no_cleaning (Some x) is some = cc
+
+events_of : (c : Option Cleaning) → IsSome c → 0 < cleaning_events c
+events_of None some = cc
+events_of (Some c) some = omega arith
+
 clash_none : (o : Option Flight) (f : Flight) → o ≡ None → o ≡ Some f → ⊥
 clash_none o f none some = cc
 
@@ -100,7 +118,7 @@ module _ {D F : Type 0} (state : D → State) (print : Print) (order : Order) (s
   same_entries : v'.parts.history.items ≡ v.parts.history.items → p.entries ++ [] ≡ v'.parts.history.items
   same_entries history = append-nil p.entries ∙ fits.entries ∙ sym history
 
-  none_released : (n : ℕ) → None ≡ Some n → v'.parts.reclaiming.waiting ≡ n
+  none_released : (n : ℕ) → None ≡ Some n → v'.parts.reclaiming.waiting + cleaning_events v'.parts.reclaiming.cleaning ≡ n
   none_released n e = absurd (none-some n e)
 
   -- nothing of it was done
@@ -111,6 +129,7 @@ module _ {D F : Type 0} (state : D → State) (print : Print) (order : Order) (s
     clients = clients_kept scripts p v.parts fits v'.parts (λ q ne. all_same v.parts v'.parts is.same.flights q);
     daemon = daemon_kept scripts p v.parts fits v'.parts is.same.work.sharing;
     waiting = none_released;
+    cleaning = cleaning_kept scripts p v.parts fits v'.parts is.same.work.cleaning;
     flying = fly_same scripts p v.parts fits v'.parts is.history is.same.flights;
   }
 
@@ -140,6 +159,8 @@ module _ {D F : Type 0} (state : D → State) (print : Print) (order : Order) (s
   held_by op holder ino wanted (by_client f flies has) =
       IsHolder.client f.op (flies_left holder f flies).1 (next_at scripts p v.parts fits holder f flies)
       (begin_meets d volume.fast.valid op ino wanted f holder (state v.device) (volume.flights.each holder f flies) has)
+  held_by op holder ino wanted (by_cleaning cleaning is begun at) =
+      IsHolder.reclaim is (fits.cleaning (some_is v.parts.reclaiming.cleaning cleaning begun)) (holds_any d op ino (wanted_for d op ino wanted))
   held_by op holder ino wanted (by_daemon sharing is begun at) =
       let left : p.left 15 ≡ sharing_events (Some sharing) = fits.daemon ∙ ap sharing_events begun in
       let some = events_some sharing in
@@ -182,6 +203,7 @@ module _ {D F : Type 0} (state : D → State) (print : Print) (order : Order) (s
             (others_same who v.parts v'.parts (others_begun left is));
         daemon = daemon_set scripts p v.parts fits v'.parts who left turn.no_daemon is.opens.same.work.sharing;
         waiting = none_released;
+        cleaning = cleaning_set scripts p v.parts fits v'.parts who left turn.no_reclaim is.opens.same.work.cleaning;
         flying = fly_begun scripts p v.parts fits v'.parts who op is.flight is.history (flies_begun left is) is.opens.op_is turn.next (others_begun left is);
       };
       running = is.volume.running;
@@ -198,6 +220,7 @@ module _ {D F : Type 0} (state : D → State) (print : Print) (order : Order) (s
             (λ q ne. all_same v.parts v'.parts is.same.flights q);
         daemon = daemon_set scripts p v.parts fits v'.parts who 0 turn.no_daemon is.same.work.sharing;
         waiting = none_released;
+        cleaning = cleaning_set scripts p v.parts fits v'.parts who 0 turn.no_reclaim is.same.work.cleaning;
         flying = fly_answered scripts p v.parts fits v'.parts who is.entry is.history is.who_is others;
       };
       running = is.volume.running;
@@ -211,13 +234,15 @@ module _ {D F : Type 0} (state : D → State) (print : Print) (order : Order) (s
 
     releases_well : (left : ℕ) → Releases state print op left v v' d → GoesWell state order scripts p begun v v' d (told.Released left)
     releases_well left is = record {
-      may = less_waits p.released v.parts.reclaiming.waiting left fits.waiting
-          (let now = is.lowers.left_is in let less = is.lowers.less in omega (arith, now, less));
+      may = less_waits p.released (v.parts.reclaiming.waiting + cleaning_events v.parts.reclaiming.cleaning) left fits.waiting
+          (let now = is.lowers.left_is in let less = is.lowers.less in let same = ap cleaning_events is.lowers.cleaning in
+          omega (arith, now, less, same));
       fits = record {
         entries = same_entries is.moves.history;
         clients = clients_kept scripts p v.parts fits v'.parts (others_same 16 v.parts v'.parts is.moves.moves.others);
         daemon = daemon_kept scripts p v.parts fits v'.parts is.lowers.sharing;
         waiting = λ n e. sym is.lowers.left_is ∙ same_Some left n e;
+        cleaning = cleaning_kept scripts p v.parts fits v'.parts is.lowers.cleaning;
         flying = fly_ops scripts p v.parts fits v'.parts is.moves.history is.moves.ops;
       };
       running = is.moves.moves.volume.running;
@@ -259,6 +284,7 @@ module _ {D F : Type 0} (state : D → State) (print : Print) (order : Order) (s
             (others_same who v.parts v'.parts is.0.moves.others);
         daemon = daemon_set scripts p v.parts fits v'.parts who left turn.no_daemon (is.0.moves.others.sharing turn.no_daemon);
         waiting = none_released;
+        cleaning = cleaning_set scripts p v.parts fits v'.parts who left turn.no_reclaim (is.0.moves.others.cleaning turn.no_reclaim);
         flying = fly_ops scripts p v.parts fits v'.parts is.0.history is.0.ops;
       };
       running = is.0.moves.volume.running;
@@ -274,6 +300,7 @@ module _ {D F : Type 0} (state : D → State) (print : Print) (order : Order) (s
             (others_same who v.parts v'.parts is.0.moves.others);
         daemon = daemon_set scripts p v.parts fits v'.parts who 0 turn.no_daemon (is.0.moves.others.sharing turn.no_daemon);
         waiting = none_released;
+        cleaning = cleaning_set scripts p v.parts fits v'.parts who 0 turn.no_reclaim (is.0.moves.others.cleaning turn.no_reclaim);
         flying = fly_answered scripts p v.parts fits v'.parts who is.0.entry is.0.history is.0.who_is others;
       };
       running = is.0.moves.volume.running;
@@ -309,6 +336,9 @@ module _ {D F : Type 0} (state : D → State) (print : Print) (order : Order) (s
             let few = left.0 in
             (left.1, λ e. omega (arith, few, e))
         by (by_daemon sharing at begun by_it) = absurd (none-some sharing (sym is.none_begun ∙ begun))
+        by (by_cleaning cleaning at begun by_it) =
+            let some = fits.cleaning (some_is v.parts.reclaiming.cleaning cleaning begun) in
+            (subst (λ (k : ℕ). 0 < p.left k) (sym at) some, λ e. omega (arith, at, e))
 
     daemon_answers : (outcome : Outcome) → DaemonWorks state print v v' d outcome → AnswersNext state order scripts p shares v v' d outcome
     daemon_answers (told.Running left) is = record {
@@ -318,6 +348,7 @@ module _ {D F : Type 0} (state : D → State) (print : Print) (order : Order) (s
         clients = clients_set scripts p v.parts fits v'.parts 15 left (λ a c. absurd (a refl)) (others_same 15 v.parts v'.parts is.0.moves.others);
         daemon = is.2.left_is;
         waiting = none_released;
+        cleaning = cleaning_set scripts p v.parts fits v'.parts 15 left fifteen (is.0.moves.others.cleaning fifteen);
         flying = fly_ops scripts p v.parts fits v'.parts is.0.history is.0.ops;
       };
       running = is.0.moves.volume.running;
@@ -338,6 +369,7 @@ module _ {D F : Type 0} (state : D → State) (print : Print) (order : Order) (s
         clients = clients_set scripts p v.parts fits v'.parts 15 0 (λ a c. absurd (a refl)) (λ q ne. all_same v.parts v'.parts is.0.same.flights q);
         daemon = sym (ap sharing_events (is.0.same.work.sharing ∙ is.1.none_begun));
         waiting = none_released;
+        cleaning = cleaning_set scripts p v.parts fits v'.parts 15 0 fifteen is.0.same.work.cleaning;
         flying = fly_same scripts p v.parts fits v'.parts is.0.history is.0.same.flights;
       };
       running = is.0.volume.running;
@@ -355,6 +387,7 @@ module _ {D F : Type 0} (state : D → State) (print : Print) (order : Order) (s
         clients = clients_set scripts p v.parts fits v'.parts 16 left (λ a c. absurd (c refl)) (others_same 16 v.parts v'.parts is.0.moves.others);
         daemon = daemon_kept scripts p v.parts fits v'.parts is.2.sharing;
         waiting = none_released;
+        cleaning = λ some. let events = events_of v'.parts.reclaiming.cleaning some in let all = is.2.left_is in omega (arith, events, all);
         flying = fly_ops scripts p v.parts fits v'.parts is.0.history is.0.ops;
       };
       running = is.0.moves.volume.running;
@@ -370,6 +403,7 @@ module _ {D F : Type 0} (state : D → State) (print : Print) (order : Order) (s
         clients = clients_set scripts p v.parts fits v'.parts 16 0 (λ a c. absurd (c refl)) (λ q ne. all_same v.parts v'.parts is.0.same.flights q);
         daemon = daemon_kept scripts p v.parts fits v'.parts is.0.same.work.sharing;
         waiting = none_released;
+        cleaning = λ some. absurd (no_cleaning v'.parts.reclaiming.cleaning (is.0.same.work.cleaning ∙ is.1.none_begun) some);
         flying = fly_same scripts p v.parts fits v'.parts is.0.history is.0.same.flights;
       };
       running = is.0.volume.running;

@@ -1,8 +1,8 @@
 -- Events of one client, one after another.
-use Rattle.std.proofs.Common.{◌≡◌, ◌⊎◌, inl, inr, ⊎_elim, ℕ, ◌≤◌, Bool, true, false, List, [], ◌∷◌, ◌++◌, map, refl, sym, ◌∙◌, ap, subst, arith}
+use Rattle.std.proofs.Common.{◌≡◌, inl, inr, ℕ, Bool, true, false, List, [], ◌∷◌, ◌++◌, refl, sym, ◌∙◌, ap, subst, arith}
 use Rattle.std.specs.Prelude.{Result, Ok, Err}
 use Rattle.std.proofs.lemmas.List.{append-nil, append_assoc, map-append}
-use Rattle.pm_device.specs.State.{State, Rose}
+use Rattle.pm_device.specs.State.{State}
 use Rattle.dn_model.specs.Own.{Print}
 use Rattle.dn_model.specs.declared.op.Op.{Op}
 use Rattle.dn_model.specs.declared.op.Entry.{Entry}
@@ -14,7 +14,7 @@ use Rattle.dn_core.specs.Steps.{Steps}
 use Rattle.dn_core.specs.Run.{Run, at_first, then_next}
 use Rattle.job_runs.specs.declared.script.RunFault.TheVariants as fault
 use Rattle.job_runs.specs.declared.script.RunFault.{RunFault}
-use Rattle.job_runs.specs.Reaching.{Reaches, IsLoose, FliesAlone, WasStopped, AddsEntry, BeginsOp, RunsOp, RunsScript, RunsFront, RunsAll, AreEntriesOf, ops_of, IsSteady}
+use Rattle.job_runs.specs.Reaching.{Reaches, WasStopped, AddsEntry, RunsOp, RunsScript, RunsFront, RunsAll, IsSteady}
 use Rattle.job_runs.specs.Telling.{GoesQuietly, SoFar}
 
 module _ {D F : Type 0} (state : D → State) (print : Print) where

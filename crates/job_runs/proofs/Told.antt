@@ -1,30 +1,30 @@
 -- What a begin and an advance tell while nobody else has anything in flight.
-use Rattle.std.proofs.Common.{◌≡◌, ◌≢◌, ◌⊎◌, inl, inr, ⊎_elim, ℕ, zero, suc, ◌+◌, ◌-◌, ◌<◌, ◌≤◌, Bool, true, false, List, [], ◌∷◌, ◌++◌, refl, sym, ◌∙◌, ap, subst, arith}
+use Rattle.std.proofs.Common.{◌≡◌, inl, inr, ℕ, zero, suc, ◌-◌, ◌≤◌, Bool, true, false, List, [], ◌∷◌, ◌++◌, refl, sym, ◌∙◌, ap, subst, arith}
 use Rattle.std.specs.Prelude.{Option, Some, None}
 use Rattle.std.proofs.lemmas.Bool.{cases_eq}
-use Rattle.pm_device.specs.State.{State, Rose}
+use Rattle.pm_device.specs.State.{State}
 use Rattle.dn_model.specs.Disk.{Disk}
 use Rattle.dn_model.specs.Own.{Print}
 use Rattle.dn_model.specs.declared.op.Op.{Op}
 use Rattle.dn_model.specs.declared.op.Reply.{Reply}
 use Rattle.dn_model.specs.declared.op.Entry.{Entry}
 use Rattle.dn_volume.specs.declared.background.Sharing.{Sharing}
+use Rattle.dn_volume.specs.declared.background.Cleaning.{Cleaning}
 use Rattle.dn_volume.specs.declared.flight.Flight.{Flight}
 use Rattle.dn_volume.specs.declared.outcome.Outcome.{Outcome}
 use Rattle.dn_volume.specs.declared.outcome.Outcome.TheVariants as told
 use Rattle.dn_volume.specs.declared.volume.Parts.{Parts}
 use Rattle.dn_volume.specs.declared.volume.Volume.{Volume}
-use Rattle.dn_volume.specs.Parties.{Flies, Holds, by_client, by_daemon, KeepsOps, SameOthers, flight_at, flight_of}
+use Rattle.dn_volume.specs.Parties.{Flies, Holds, by_client, by_daemon, by_cleaning, KeepsOps, flight_at, flight_of}
 use Rattle.dn_volume.proofs.Replaced.{flies_new, others_same}
 use Rattle.dn_volume.specs.Flights.{left_of}
 use Rattle.dn_volume.specs.Agrees.{IsVolume, Agrees, agrees_with, is_stopped}
-use Rattle.dn_volume.specs.Begins.{MayBegin, Begins, IsUntouched, IsBusy}
-use Rattle.dn_volume.specs.Events.{Advances, MovesOn, Breaks}
+use Rattle.dn_volume.specs.Events.{Advances}
 use Rattle.dn_volume.specs.Resting.{AllLanded}
 use Rattle.dn_core.specs.declared.event.Event.TheVariants.{Begin, Advance}
-use Rattle.dn_core.specs.Steps.{Steps, Opens, GoesOn, IsNotYours}
-use Rattle.job_runs.specs.Reaching.{IsLoose, FliesAlone, WasStopped, AddsEntry, IsSteady}
-use Rattle.job_runs.specs.Telling.{GoesQuietly, flight_left, BeginTells, AdvanceTells}
+use Rattle.dn_core.specs.Steps.{Steps, Opens}
+use Rattle.job_runs.specs.Reaching.{IsLoose, FliesAlone, AddsEntry, IsSteady}
+use Rattle.job_runs.specs.Telling.{flight_left, BeginTells, AdvanceTells}
 
 no_flight : (b : Parts) → AllLanded b → (who : ℕ) → 1 ≤ who → flight_at b.flights.items (who - 1) ≡ None
 no_flight b landed who some = by (flight_at b.flights.items (who - 1)) refl
@@ -45,27 +45,34 @@ adds who op old new entry more who_is op_is = record {
   history = more ∙ ap (λ (e : Entry). old ++ e ∷ []) (entry_is entry who op who_is op_is);
 }
 
-same_loose : (b b' : Parts) → b'.flights.items ≡ b.flights.items → b'.sharing ≡ b.sharing → IsLoose b → IsLoose b'
-same_loose b b' flights sharing loose = record {
+same_loose : (b b' : Parts) → b'.flights.items ≡ b.flights.items → b'.sharing ≡ b.sharing
+    → b'.reclaiming.cleaning ≡ b.reclaiming.cleaning → IsLoose b → IsLoose b'
+same_loose b b' flights sharing cleaning loose = record {
   landed = λ q f flies. loose.landed q f (record {
     client = flies.client;
     is = ap (λ (fs : List (Option Flight)). flight_at fs (q - 1)) (sym flights) ∙ flies.is;
   });
   none_begun = sharing ∙ loose.none_begun;
+  none_cleaned = cleaning ∙ loose.none_cleaned;
 }
 
-kept_loose : (b b' : Parts) → KeepsOps b b' → b'.sharing ≡ b.sharing → IsLoose b → IsLoose b'
-kept_loose b b' ops sharing loose = record {
+kept_loose : (b b' : Parts) → KeepsOps b b' → b'.sharing ≡ b.sharing → b'.reclaiming.cleaning ≡ b.reclaiming.cleaning → IsLoose b → IsLoose b'
+kept_loose b b' ops sharing cleaning loose = record {
   landed = λ q f flies. let was = ops.only q f flies in loose.landed q was.0 was.1;
   none_begun = sharing ∙ loose.none_begun;
+  none_cleaned = cleaning ∙ loose.none_cleaned;
 }
 
 no_item : (x : Sharing) → None ≡ Some x → ⊥
 no_item x e = cc
 
+no_cleaning : (c : Cleaning) → None ≡ Some c → ⊥
+no_cleaning c e = cc
+
 never_held : (b : Parts) → IsLoose b → (q ino : ℕ) → Holds b q ino → ⊥
 never_held b loose q ino (by_client f flies has) = loose.landed q f flies
 never_held b loose q ino (by_daemon sharing is some at) = no_item sharing (sym loose.none_begun ∙ some)
+never_held b loose q ino (by_cleaning cleaning is some at) = no_cleaning cleaning (sym loose.none_cleaned ∙ some)
 
 clash : (x : Bool) → x ≡ false → x ≡ true → ⊥
 clash x low high = cc
@@ -90,6 +97,7 @@ module _ {D F : Type 0} (state : D → State) (print : Print) (who : ℕ) (op : 
         }))
       ];
       none_begun = is.opens.same.work.sharing ∙ loose.none_begun;
+      none_cleaned = is.opens.same.work.cleaning ∙ loose.none_cleaned;
     },
     record {
       history = is.history;
@@ -98,19 +106,19 @@ module _ {D F : Type 0} (state : D → State) (print : Print) (who : ℕ) (op : 
     },
   )
   opens_tell d volume loose (told.Done reply) is = (
-    same_loose v.parts v'.parts is.same.flights is.same.work.sharing loose,
+    same_loose v.parts v'.parts is.same.flights is.same.work.sharing is.same.work.cleaning loose,
     adds who op v.parts.history.items v'.parts.history.items is.entry is.history is.who_is is.op_is,
     steady is.volume.running (let same = is.device.faults in omega (arith, same)),
   )
   opens_tell d volume loose (told.Busy holder) is = never_held v.parts loose holder is.1.held.ino is.1.held.holds
   opens_tell d volume loose (told.Released left) is = (
-    kept_loose v.parts v'.parts is.moves.ops is.lowers.sharing loose,
+    kept_loose v.parts v'.parts is.moves.ops is.lowers.sharing is.lowers.cleaning loose,
     record { history = is.moves.history; running = is.moves.moves.volume.running; faults = is.moves.moves.faults },
     is.lowers.less,
   )
   opens_tell d volume loose told.Idle is = is
   opens_tell d volume loose told.NotYours is = is
-  opens_tell d volume loose told.NoMemory is = (same_loose v.parts v'.parts is.0.same.flights is.0.same.work.sharing loose, is.0.history)
+  opens_tell d volume loose told.NoMemory is = (same_loose v.parts v'.parts is.0.same.flights is.0.same.work.sharing is.0.same.work.cleaning loose, is.0.history)
   opens_tell d volume loose told.Stopped is = (inr is.breaks.rose, is.breaks.history)
 
   pub begin_tells : Agrees state v → IsLoose v.parts → 1 ≤ who → (outcome : Outcome) → Steps state print (Begin who op) v v' outcome
@@ -143,6 +151,7 @@ module _ {D F : Type 0} (state : D → State) (print : Print) (who : ℕ) (op : 
       op_is = is.1.op_is ∙ op_is;
       only = λ q g others. let was = is.0.ops.only q g others in alone.only q was.0 was.1;
       none_begun = is.0.moves.others.sharing (λ e. omega (arith, e, few)) ∙ alone.none_begun;
+      none_cleaned = is.0.moves.others.cleaning (λ e. omega (arith, e, few)) ∙ alone.none_cleaned;
     },
     record {
       history = is.0.history;
@@ -162,6 +171,7 @@ module _ {D F : Type 0} (state : D → State) (print : Print) (who : ℕ) (op : 
         | inr ne ↦ ne (alone.only q g (record { client = others.client; is = sym (is.0.moves.others.flights q others.client ne) ∙ others.is }))
       ];
       none_begun = is.0.moves.others.sharing (λ e. omega (arith, e, few)) ∙ alone.none_begun;
+      none_cleaned = is.0.moves.others.cleaning (λ e. omega (arith, e, few)) ∙ alone.none_cleaned;
     },
     adds who op v.parts.history.items v'.parts.history.items is.0.entry is.0.history is.0.who_is (is.0.op_is ∙ op_is),
     steady is.0.moves.volume.running is.0.moves.faults,

@@ -1,5 +1,5 @@
 -- What a run of scripts on a volume promises.
-use Rattle.std.specs.Prelude.{◌≡◌, ◌≢◌, ℕ, false, List, [], Option, Some, None, Result, Ok, Err}
+use Rattle.std.specs.Prelude.{◌≡◌, ◌≢◌, ℕ, ◌+◌, ◌<◌, false, IsSome, List, [], Option, Some, None, Result, Ok, Err}
 use Rattle.pm_device.specs.State.{State}
 use Rattle.dn_model.specs.Course.{Base, base_files}
 use Rattle.dn_model.specs.declared.op.Op.{Op}
@@ -8,7 +8,7 @@ use Rattle.dn_volume.specs.declared.volume.Parts.{Parts}
 use Rattle.dn_volume.specs.declared.volume.Volume.{Volume}
 use Rattle.dn_volume.specs.Parties.{Flies, flight_of}
 use Rattle.dn_volume.specs.Flights.{left_of}
-use Rattle.dn_volume.specs.Works.{sharing_events}
+use Rattle.dn_volume.specs.Works.{sharing_events, cleaning_events}
 use Rattle.dn_volume.specs.Resting.{AllLanded}
 use Rattle.job_runs.specs.Reaching.{WasStopped}
 use Rattle.job_runs.specs.declared.script.RunFault.{RunFault}
@@ -23,6 +23,7 @@ pub record IsNew (b : Parts) : Type 0 where
   pub history : b.history.items ≡ []
   pub landed : AllLanded b
   pub none_begun : b.sharing ≡ None
+  pub none_cleaned : b.reclaiming.cleaning ≡ None
 
 abbrev pub flight_left : Option Flight → ℕ
 flight_left None = 0
@@ -39,7 +40,9 @@ pub record Fits (scripts : List (ℕ × List Op)) (p : Played) (b : Parts) : Typ
   pub entries : p.entries ≡ b.history.items
   pub clients : (who : ℕ) → who ≢ 15 → who ≢ 16 → p.left who ≡ flight_left (flight_of b who)
   pub daemon : p.left 15 ≡ sharing_events b.sharing
-  pub waiting : (n : ℕ) → p.released ≡ Some n → b.reclaiming.waiting ≡ n
+  pub waiting : (n : ℕ) → p.released ≡ Some n
+      → b.reclaiming.waiting + cleaning_events b.reclaiming.cleaning ≡ n
+  pub cleaning : IsSome b.reclaiming.cleaning → 0 < p.left 16
   pub flying : FlyNext scripts b
 
 -- scripts were played so far

@@ -177,7 +177,7 @@ MayGoOn p who told.NotYours = ⊥
 MayGoOn p who told.NoMemory = ⊥
 MayGoOn p who told.Stopped = ⊥
 
--- in an event of the daemon or of reclaim, which nobody holds up
+-- in an event of the daemon or of reclaim
 abbrev pub MayShare : Played → Outcome → Type 0
 MayShare p (told.Running left) = Unit {0}
 MayShare p (told.Done reply) = ⊥

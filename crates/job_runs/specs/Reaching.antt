@@ -23,18 +23,20 @@ pub record Reaches {D F : Type 0} (state : D → State) (print : Print) (u v : V
     pub outcomes : List Outcome
     pub run : Run state print u events outcomes v
 
--- no operation is in flight, and the daemon has begun nothing: so nothing is held
+-- no operation is in flight, and the daemon and a cleaning have begun nothing: so nothing is held
 pub record IsLoose (b : Parts) : Type 0 where
   pub landed : AllLanded b
   pub none_begun : b.sharing ≡ None
+  pub none_cleaned : b.reclaiming.cleaning ≡ None
 
--- this client alone has this operation in flight, and the daemon has begun nothing
+-- this client alone has this operation in flight, and the daemon and a cleaning have begun nothing
 pub record FliesAlone (b : Parts) (who : ℕ) (op : Op) : Type 0 where
   pub flight : Flight
   pub flies : Flies b who flight
   pub op_is : flight.op ≡ op
   pub only : (q : ℕ) (f : Flight) → Flies b q f → q ≡ who
   pub none_begun : b.sharing ≡ None
+  pub none_cleaned : b.reclaiming.cleaning ≡ None
 
 -- the volume stopped, since a fence failed on the way or before
 abbrev pub WasStopped : {D F : Type 0} → (D → State) → Volume D F → Volume D F → Type 0

@@ -152,7 +152,7 @@ names_break state print v v' d who f c volume agree to fails stops counts =
       rose = fails.rose;
       quiet = λ none. cc;
       ops = ops_at v.parts v'.parts stops.flights;
-      others = record { flights = λ q some ne. stops.flights (q - 1); sharing = λ ne. stops.sharing };
+      others = record { flights = λ q some ne. stops.flights (q - 1); sharing = λ ne. stops.sharing; cleaning = λ ne. stops.cleaning };
       trace = record { more = []; trace = ap (λ tr. tr.items) stops.trace ∙ sym (append-nil v.parts.trace.items) };
       geometry = stops.geometry;
       answering = λ o is_o own. (

@@ -32,6 +32,7 @@ use Rattle.std.proofs.Common.{
   Some,
   None,
   get_or,
+  length-append,
 }
 use Rattle.std.specs.FinMap.{get}
 use Rattle.page_alloc.specs.Free.{IsInOrder}
@@ -77,7 +78,10 @@ use Rattle.name_ops.specs.Ending.{MovesSome, CanLand, FinishesNames, IsNextToCom
 use Rattle.name_ops.proofs.Answering.{names_answer, names_break}
 use Rattle.name_ops.proofs.Put.{same_names}
 use Rattle.name_ops.proofs.Counted.{few_places}
-use Rattle.name_ops.proofs.NameFlight.{flight_of, of_kind, units_owed, owed_part}
+use Rattle.law_names.specs.NameChange.{MayChange, root_after}
+use Rattle.law_names.proofs.ChangedValid.{root_paged}
+use Rattle.name_ops.proofs.RootLog.{paged_few, root_used}
+use Rattle.name_ops.proofs.NameFlight.{flight_of, may, fresh_is, of_kind, units_owed, owed_part}
 
 right_apart : (xs ys : List ℕ) → AreApart (xs ++ ys) → AreApart ys
 right_apart [] ys apart = apart
@@ -183,12 +187,26 @@ module _ (d : Disk) (b : Parts) (s : State) (who : ℕ) (f : Flight) (c : NameCh
   moves = of_kind d b s who f c volume to.flies to.change_is flight (λ op x. MovesSome op (get b.names.map)) (λ name plan. tt) (λ name plan. tt)
       (λ from to' plan. subst IsSome (sym (volume.names.leads from ∙ plan.leads)) refl)
 
+  -- the root's log has few pages, with those that it gets
+  few_root : (n : InodeState) → slice_get b.inodes.items 0 ≡ Some n → n.log_pages + length f.fresh.items < 18446744073709551616
+  few_root n at =
+      let can : MayChange d flight.change = may d b s who f c volume to.flies to.change_is flight in
+      let few : length ((d.inode 0).log.pages ++ flight.change.fresh) ≤ d.geometry.pages =
+      paged_few d.geometry (root_after d flight.change) (root_paged d flight.change can) in
+      let long = length-append (d.inode 0).log.pages flight.change.fresh in
+      let same = ap length (fresh_is d b s who f c volume to.flies to.change_is flight) in
+      let is = (volume.inodes.each 0 n at).log_pages (root_used d b s volume) in
+      let small = volume.fast.valid.accepted.few_pages in
+      omega (arith, few, long, same, is, small)
+
   pub can_land : IsNamesOp f.op → (mid : Parts) → IsOut b mid → CanLand f c mid
   can_land kind mid out = record {
     kind = kind;
     moves = subst (λ (x : _). MovesSome f.op (get x.map)) (sym out.names) moves;
     change_is = to.change_is;
     put_is = flight.put_is;
+    file = flight.file;
+    root = λ n at. few_root n (subst (λ (xs : _). slice_get xs.items 0 ≡ Some n) out.inodes at);
     node = subst (λ (xs : _). c.node < length xs.items) (sym out.inodes) (let few = flight.node_in_table in let all = volume.inodes.all in
         omega (arith, few, all));
     held = λ k x lt. let few = volume.holders.in_table (get_or f.held.items k x) who (by_client f to.flies (Contains-get_or f.held.items k x lt)) in
@@ -227,7 +245,8 @@ module _ (d : Disk) (b : Parts) (s : State) (who : ℕ) (f : Flight) (c : NameCh
           running = finish.stopped ∙ out.stopped ∙ volume.running;
           replaces = ends_at b b' who f volume.flights.clients (ap (λ xs. length xs.items) finish.flights ∙ clients) to.flies.is
               (ap (λ xs. flight_at xs.items (who - 1)) finish.flights ∙ landed)
-              (λ k ne. ap (λ xs. flight_at xs.items k) finish.flights ∙ others k ne) (finish.sharing ∙ out.sharing);
+              (λ k ne. ap (λ xs. flight_at xs.items k) finish.flights ∙ others k ne) (finish.sharing ∙ out.sharing)
+              (finish.cleaning ∙ ap (λ r. r.cleaning) out.reclaiming);
           owed = record {
             units = let is = units_owed_are in let told = finish.units in let same = ap (λ o. o.units) out.owed in omega (arith, is, told, same);
             trace = let rows = no_rows_owed in let told = finish.owed_trace in let same = ap (λ o. o.trace) out.owed in

@@ -24,7 +24,7 @@ use Rattle.dn_volume.specs.declared.volume.InodeUse.{InodeUse}
 use Rattle.dn_volume.specs.declared.volume.InodeUse.TheVariants as used
 use Rattle.dn_volume.specs.declared.volume.Parts.{Parts}
 use Rattle.dn_volume.specs.Inodes.{as_use}
-use Rattle.dn_volume.specs.Parties.{Holds, Flies, by_client, by_daemon}
+use Rattle.dn_volume.specs.Parties.{Holds, Flies, by_client, by_daemon, by_cleaning}
 use Rattle.dn_volume.specs.Planned.{PlansData}
 use Rattle.dn_volume.specs.Flights.{IsFlightOf}
 use Rattle.dn_volume.specs.Agrees.{IsVolume}
@@ -136,6 +136,8 @@ module _ (d : Disk) (b : Parts) (s : State) (v : IsVolume d b s) (name : List �
       not_held ino q free (by_client f flies has) = not_flown q f flies f.change (v.flights.each q f flies) ino has free
       not_held ino q free (by_daemon sharing is shares same) =
           not_live (d.inode ino).use_of free (ap (λ (i : ℕ). (d.inode i).use_of) (sym same) ∙ (v.sharing sharing shares).begun.live)
+      not_held ino q free (by_cleaning cleaning is cleans same) =
+          not_live (d.inode ino).use_of free (ap (λ (i : ℕ). (d.inode i).use_of) (sym same) ∙ (v.cleaning cleaning cleans).live)
 
       free_loose : (ino : ℕ) → (d.inode ino).use_of ≡ Free → AreLooseAmong b.inodes.items (ino ∷ [])
       free_loose ino free i n has at = by n.holder refl

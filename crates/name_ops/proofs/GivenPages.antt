@@ -20,7 +20,7 @@ use Rattle.std.proofs.Common.{
   subst,
   arith,
 }
-use Rattle.std.specs.Prelude.{slice_get, slice_set, slice_index, Option, Some, None, Contains}
+use Rattle.std.specs.Prelude.{slice_get, slice_set, slice_index, Option, Some, None, IfSome, Contains}
 use Rattle.std.proofs.lemmas.Bool.{cases_eq, cases_lt}
 use Rattle.std.proofs.lemmas.Option.{slice_get_read, slice_get-get_or, slice_get_past}
 use Rattle.std.proofs.lemmas.List.{get_or_default, length-set, get_or-set_same, get_or-set_other}
@@ -33,7 +33,7 @@ use Rattle.dn_volume.specs.declared.flight.Turn.{Turn}
 use Rattle.dn_volume.specs.declared.flight.Turn.TheVariants as kept_turn
 use Rattle.dn_volume.specs.declared.volume.InodeState.{InodeState}
 use Rattle.name_ops.specs.Landing.{Turned, TurnsInode, LetsGo}
-use Rattle.name_ops.specs.Ending.{Gives, IsAmong, SameButHolder, LetsGoOf, KeepsPlaces}
+use Rattle.name_ops.specs.Ending.{Gives, IsAmong, SameButHolder, SameButLog, LetsGoOf, GrowsRoot, KeepsPlaces}
 
 some_is : (p q : ℕ) → Some p ≡ Some q → p ≡ q
 some_is p q e = cc
@@ -126,7 +126,7 @@ module _ {X : Type 0} where
   ]
 
 same_inode : (n : InodeState) → SameButHolder n n
-same_inode n = record { used = refl; size = refl; map = refl; round = refl }
+same_inode n = record { used = refl; size = refl; map = refl; log_pages = refl; round = refl }
 
 pub lets_none : (held : List ℕ) (old : List InodeState) → LetsGoOf (IsAmong held 0) old old
 lets_none held old = record {
@@ -159,6 +159,7 @@ lets_next held k old now x lt read so_far = record {
             used = ap (λ (n : InodeState). n.used) (sym here) ∙ was.2.used;
             size = ap (λ (n : InodeState). n.size) (sym here) ∙ was.2.size;
             map = ap (λ (n : InodeState). n.map) (sym here) ∙ was.2.map;
+            log_pages = ap (λ (n : InodeState). n.log_pages) (sym here) ∙ was.2.log_pages;
             round = ap (λ (n : InodeState). n.round) (sym here) ∙ was.2.round;
           },
           (λ a. ap (λ (n : InodeState). n.holder) (sym here)),
@@ -191,26 +192,74 @@ lets_all held k old now most least so_far = record {
       );
 }
 
--- it turned still, where its use and size are the same
-turned_same : (c : NameChange) (x y n' : InodeState) → Turned c.turn x y → n'.used ≡ y.used → n'.size ≡ y.size → Turned c.turn x n'
-turned_same c x y n' turns used size = by c.turn turns
+-- what holds of a value, if there is one, holds of it
+pub if_some : {X : Type 0} (P : X → Type 0) (o : Option X) → ((x : X) → o ≡ Some x → P x) → IfSome o P
+if_some P None holds = tt
+if_some P (Some x) holds = holds x refl
+
+-- the root's log gets pages
+pub grown_root : (more : ℕ) (old : List InodeState) (x y : InodeState) → 0 < length old → x ≡ get_or old 0 x
+    → y ≡ record x { log_pages = x.log_pages + more } → GrowsRoot more old (slice_set old 0 y)
+grown_root more old x y lt read is = record { all = length-set old 0 y; each = λ ino n' at. by ino n' at (cases_eq ino 0) }
+  where
+    by : (ino : ℕ) (n' : InodeState) → slice_get (slice_set old 0 y) ino ≡ Some n' → ((ino ≡ 0) ⊎ (ino ≡ 0 → ⊥))
+        → (n : InodeState) × (slice_get old ino ≡ Some n) × SameButLog n n' × (ino ≡ 0 → n'.log_pages ≡ n.log_pages + more)
+        × ((ino ≡ 0 → ⊥) → n'.log_pages ≡ n.log_pages)
+    by ino n' at (inl same) =
+        let here : n' ≡ record x { log_pages = x.log_pages + more } =
+        sym (same_some (slice_get (slice_set old 0 y) 0) y n' (set_here old 0 y lt) (ap (slice_get (slice_set old 0 y)) (sym same) ∙ at)) ∙ is in (
+          x,
+          ap (slice_get old) same ∙ slice_get_read old (length old) 0 x refl lt read,
+          record {
+            used = ap (λ (n : InodeState). n.used) here;
+            size = ap (λ (n : InodeState). n.size) here;
+            map = ap (λ (n : InodeState). n.map) here;
+            round = ap (λ (n : InodeState). n.round) here;
+            holder = ap (λ (n : InodeState). n.holder) here;
+          },
+          (λ root. ap (λ (n : InodeState). n.log_pages) here),
+          (λ other. absurd (other same)),
+        )
+    by ino n' at (inr other) = (
+      n',
+      sym (set_other old 0 ino y other) ∙ at,
+      record { used = refl; size = refl; map = refl; round = refl; holder = refl },
+      (λ root. absurd (other root)),
+      (λ out. refl),
+    )
+
+-- the root that is kept once another inode turned, and some were let go, has the pages of before
+pub root_pages : (node : ℕ) (gone : ℕ → Type 0) (old new : List InodeState) (y : InodeState) → 1 ≤ node → LetsGoOf gone (slice_set old node y) new
+    → (n : InodeState) → slice_get new 0 ≡ Some n → (m : InodeState) × (slice_get old 0 ≡ Some m) × (n.log_pages ≡ m.log_pages)
+root_pages node gone old new y file lets n at =
+    let was = lets.each 0 n at in
+    (was.0, sym (set_other old node 0 y (λ same. omega (arith, file, same))) ∙ was.1, was.2.log_pages)
+
+-- it turned still, where its use, its size and its log's pages are the same
+turned_same : (c : NameChange) (x y n' : InodeState) → Turned c.turn x y → n'.used ≡ y.used → n'.size ≡ y.size → n'.log_pages ≡ y.log_pages
+    → Turned c.turn x n'
+turned_same c x y n' turns used size pages = by c.turn turns
   where
     by : (k : Turn) → Turned k x y → Turned k x n'
-    by kept_turn.Stays so = (used ∙ so.0, size ∙ so.1)
-    by kept_turn.Comes so = (used ∙ so.0, size ∙ so.1)
-    by kept_turn.Goes so = (used ∙ so.0, size ∙ so.1)
+    by kept_turn.Stays so = (used ∙ so.0, size ∙ so.1, pages ∙ so.2)
+    by kept_turn.Comes so = (used ∙ so.0, size ∙ so.1, pages ∙ so.2)
+    by kept_turn.Goes so = (used ∙ so.0, size ∙ so.1, pages ∙ so.2)
+
+same_more : (x y : ℕ) → x ≡ y → x ≡ y + 0
+same_more x y same = omega (arith, same)
 
 -- an inode turned, and then those that the operation held were let go
-pub turned_and_gone : (f : Flight) (c : NameChange) (old new : List InodeState) (x y : InodeState) → c.node < length old → x ≡ get_or old c.node x
+pub turned_and_gone : (f : Flight) (c : NameChange) (old new : List InodeState) (x y : InodeState) → 1 ≤ c.node → c.node < length old
+    → x ≡ get_or old c.node x
     → Turned c.turn x y → KeepsPlaces x y → LetsGoOf (Contains f.held.items) (slice_set old c.node y) new → (ino : ℕ) (n' : InodeState)
-    → slice_get new ino ≡ Some n' → (n : InodeState) × (slice_get old ino ≡ Some n) × TurnsInode c ino n n' × LetsGo f ino n n'
-turned_and_gone f c old new x y lt read turns keeps lets ino n' at = by (cases_eq ino c.node)
+    → slice_get new ino ≡ Some n' → (n : InodeState) × (slice_get old ino ≡ Some n) × TurnsInode c 0 ino n n' × LetsGo f ino n n'
+turned_and_gone f c old new x y file lt read turns keeps lets ino n' at = by (cases_eq ino c.node)
   where
     was : (n : InodeState) × (slice_get (slice_set old c.node y) ino ≡ Some n) × SameButHolder n n'
         × (Contains f.held.items ino → n'.holder ≡ None) × ((Contains f.held.items ino → ⊥) → n'.holder ≡ n.holder)
     was = lets.each ino n' at
 
-    by : ((ino ≡ c.node) ⊎ (ino ≡ c.node → ⊥)) → (n : InodeState) × (slice_get old ino ≡ Some n) × TurnsInode c ino n n' × LetsGo f ino n n'
+    by : ((ino ≡ c.node) ⊎ (ino ≡ c.node → ⊥)) → (n : InodeState) × (slice_get old ino ≡ Some n) × TurnsInode c 0 ino n n' × LetsGo f ino n n'
     by (inl same) =
         let here : y ≡ was.0 = same_some (slice_get (slice_set old c.node y) c.node) y was.0 (set_here old c.node y lt) (ap (slice_get (slice_set old
         c.node y)) (sym same) ∙ was.1) in (
@@ -220,8 +269,10 @@ turned_and_gone f c old new x y lt read turns keeps lets ino n' at = by (cases_e
             map = was.2.map ∙ ap (λ (n : InodeState). n.map) (sym here) ∙ keeps.map;
             round = was.2.round ∙ ap (λ (n : InodeState). n.round) (sym here) ∙ keeps.round;
             here = λ is. turned_same c x y n' turns (was.2.used ∙ ap (λ (n : InodeState). n.used) (sym here)) (was.2.size ∙ ap (λ (n : InodeState).
-                n.size) (sym here));
+                n.size) (sym here)) (was.2.log_pages ∙ ap (λ (n : InodeState). n.log_pages) (sym here));
             elsewhere = λ other. absurd (other same);
+            root = λ none. absurd (omega (arith, none, same, file));
+            log = λ some other. absurd (other same);
           },
           record {
             freed = was.3;
@@ -236,6 +287,33 @@ turned_and_gone f c old new x y lt read turns keeps lets ino n' at = by (cases_e
         round = was.2.round;
         here = λ is. absurd (other is);
         elsewhere = λ out. (was.2.used, was.2.size);
+        root = λ none. same_more n'.log_pages was.0.log_pages was.2.log_pages;
+        log = λ some out. was.2.log_pages;
       },
       record { freed = was.3; kept = was.4 },
+    )
+
+more_after : (x y z more : ℕ) → x ≡ y + more → y ≡ z + 0 → x ≡ z + more
+more_after x y z more one same = omega (arith, one, same)
+
+-- and then the root's log got pages
+pub grown_too : (f : Flight) (c : NameChange) (more : ℕ) (old mid new : List InodeState) → 1 ≤ c.node
+    → ((ino : ℕ) (m : InodeState) → slice_get mid ino ≡ Some m
+    → (n : InodeState) × (slice_get old ino ≡ Some n) × TurnsInode c 0 ino n m × LetsGo f ino n m)
+    → GrowsRoot more mid new → (ino : ℕ) (n' : InodeState) → slice_get new ino ≡ Some n'
+    → (n : InodeState) × (slice_get old ino ≡ Some n) × TurnsInode c more ino n n' × LetsGo f ino n n'
+grown_too f c more old mid new file each grows ino n' at =
+    let g = grows.each ino n' at in
+    let was = each ino g.0 g.1 in (
+      was.0,
+      was.1,
+      record {
+        map = g.2.map ∙ was.2.map;
+        round = g.2.round ∙ was.2.round;
+        here = λ is. turned_same c was.0 g.0 n' (was.2.here is) g.2.used g.2.size (g.4 (λ none. omega (arith, none, is, file)));
+        elsewhere = λ other. let so = was.2.elsewhere other in (g.2.used ∙ so.0, g.2.size ∙ so.1);
+        root = λ none. more_after n'.log_pages g.0.log_pages was.0.log_pages more (g.3 none) (was.2.root none);
+        log = λ some other. g.4 some ∙ was.2.log some other;
+      },
+      record { freed = λ has. g.2.holder ∙ was.3.freed has; kept = λ out. g.2.holder ∙ was.3.kept out },
     )

@@ -1,79 +1,42 @@
 -- What a commit of an operation on names leaves, group by group.
-use Rattle.std.proofs.Common.{
-  ◌≡◌,
-  ◌≢◌,
-  ◌⊎◌,
-  inl,
-  inr,
-  ⊎_elim,
-  ℕ,
-  zero,
-  suc,
-  ◌+◌,
-  ◌-◌,
-  ◌*◌,
-  ◌<◌,
-  ◌≤◌,
-  List,
-  [],
-  ◌∷◌,
-  ◌++◌,
-  length,
-  take,
-  refl,
-  sym,
-  ◌∙◌,
-  ap,
-  subst,
-  arith,
-  Option,
-  Some,
-  None,
-  length-append,
-}
-use Rattle.std.specs.Prelude.{◌↔◌, Contains, All, IsNone, slice_get, get_or, if◌then◌else◌, ◌==◌, vec_len, vec_capacity}
-use Rattle.std.proofs.lemmas.Bool.{cases_eq, cases_lt}
-use Rattle.std.proofs.lemmas.Bool.Decides.{nat_tests}
+use Rattle.std.proofs.Common.{◌≡◌, ◌≢◌, ◌⊎◌, inl, inr, ⊎_elim, ℕ, zero, suc, ◌+◌, ◌<◌, ◌≤◌, List, [], ◌∷◌, ◌++◌, length, take, refl, sym, ◌∙◌, ap, subst, arith, Option, Some, None, length-append}
+use Rattle.std.specs.Prelude.{◌↔◌, Contains, IsNone, slice_get, get_or, vec_len, vec_capacity}
 use Rattle.std.proofs.lemmas.List.{get_or_append_left}
 use Rattle.std.proofs.lemmas.List.Elements.{Contains-append_left, Contains-append_right, Contains-append_cases}
 use Rattle.std.proofs.lemmas.Option.{slice_get_cases}
 use Rattle.pm_device.specs.State.{State}
 use Rattle.pm_layout.specs.declared.Geometry.{Geometry}
 use Rattle.dn_model.specs.Table.{Row, row_of}
-use Rattle.dn_model.specs.Disk.{Disk, rows}
+use Rattle.dn_model.specs.Disk.{Disk}
 use Rattle.law_write.specs.Events.{IsUnused}
-use Rattle.law_write.proofs.Counting.{total-change}
-use Rattle.law_table_on_disk.specs.BalanceLaws.{IsBalanced}
 use Rattle.law_names.specs.NameChange.{NameChange as DiskChange, MayChange, names_changed}
 use Rattle.law_names.proofs.Changed.{same_geometry, same_rows}
 use Rattle.law_names.proofs.Kept.{mappings_same, free_kept, free_only, fresh_taken}
 use Rattle.law_names.proofs.ChangedOwn.{live_was}
 use Rattle.file_content.specs.Pages.{AreApart}
 use Rattle.fact_table.specs.Table.{HasRow}
-use Rattle.dn_volume.specs.declared.units.TheConstants.{FALL_UNITS, ZERO_CHECK_UNITS}
 use Rattle.dn_volume.specs.declared.background.Sharing.{Sharing}
 use Rattle.dn_volume.specs.declared.flight.Flight.{Flight}
 use Rattle.dn_volume.specs.declared.flight.Change.{Change}
 use Rattle.dn_volume.specs.declared.flight.Change.TheVariants.{Data, Names}
-use Rattle.dn_volume.specs.declared.flight.DataChange.{DataChange}
 use Rattle.dn_volume.specs.declared.flight.NameChange.{NameChange}
 use Rattle.dn_volume.specs.declared.volume.InodeState.{InodeState}
 use Rattle.dn_volume.specs.declared.volume.Parts.{Parts}
-use Rattle.dn_volume.specs.declared.volume.Room.{Room}
-use Rattle.dn_volume.specs.Parties.{Flies, Holds, by_client, by_daemon, Takes, for_client, SameOthers, flight_at, opened, taken_by, blocks_of}
+use Rattle.dn_volume.specs.Parties.{Flies, for_client, SameOthers, taken_by, blocks_of}
 use Rattle.dn_volume.specs.Inodes.{AreHolders}
 use Rattle.dn_volume.specs.Space.{HasSpace, AreSlotsOf}
-use Rattle.dn_volume.specs.Balance.{raised, added, dropped, raised_by, times, raised_to_share, added_to_share, raised_to_die, AreCounted}
+use Rattle.dn_volume.specs.Balance.{raised_by, times, added_to_share, AreCounted}
 use Rattle.dn_volume.specs.Flights.{IsFlightOf, IsNameFlight}
 use Rattle.dn_volume.specs.Shares.{IsWaiting, in_queue, is_begun, IsQueued}
-use Rattle.dn_volume.specs.Reserve.{HasRoom, owed_sum, owed_to, units_by, units_to_share, changes_to_share}
+use Rattle.dn_volume.specs.Reserve.{HasRoom, owed_to, units_by}
 use Rattle.dn_volume.specs.Agrees.{IsVolume}
 use Rattle.std.specs.VecDeque.{deque_len, deque_capacity}
-use Rattle.law_unique.proofs.Listings.{here, later, none_listed, cons_cases}
 use Rattle.dn_volume.specs.Reclaims.{one_if}
+use Rattle.dn_volume.proofs.Lefts.{left_more}
 use Rattle.dn_volume.proofs.MappingsMoved.{mappings_counted}
 use Rattle.dn_volume.proofs.Replaced.{few, others_same, flies_other, each_room, owed_moved, owes, raised_moved}
 use Rattle.dn_volume.proofs.Taken.{contains_or_not, holders_moved, taker_then, taker_gone, taker_kept, space_moved}
+use Rattle.begin_steps.proofs.Cleanings.{cleaning_takes}
 use Rattle.name_ops.specs.Landing.{Lands, LandsNames, LetsGo}
 
 -- a page of the one list is none of the other, where both together are apart
@@ -203,7 +166,8 @@ module _ (d : Disk) (b b' : Parts) (s t : State) (who : ℕ) (f : Flight) (c : N
   pub space : HasSpace e b'
   space = space_moved who flies.client (Some f) None b b' l.replaces d volume.space (λ page has. absurd (no_element page has)) e
       (l.pages ∙ volume.space.pages ∙ sym (ap (λ (g : Geometry). g.pages) (same_geometry d change))) l.in_order
-      (let was = volume.space.left in let more = l.free_more in omega (arith, was, more)) free_page (λ page has. absurd (no_element page has))
+      (let was = volume.space.some in let more = l.free_more in omega (arith, was, more))
+      (left_more b b' (λ page has. (l.free page).1 (inl has)) (cleaning_takes who flies.client (Some f) None b b' l.replaces) volume.space.left) free_page (λ page has. absurd (no_element page has))
       (λ page out unused. unused_kept page (λ fresh. out (its_fresh page fresh)) unused)
 
   -- The table and its counts.

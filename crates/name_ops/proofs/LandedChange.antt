@@ -28,6 +28,7 @@ use Rattle.std.proofs.Common.{
   Option,
   Some,
   None,
+  length-append,
 }
 use Rattle.std.specs.Prelude.{Contains, All, is_some, slice_get, if◌then◌else◌}
 use Rattle.std.specs.FinMap.{get}
@@ -146,11 +147,13 @@ record IsTurned (x : Inode) (turn : DiskTurn) (n' : InodeState) : Type 0 where
   use_is : (turned turn x).use_of ≡ as_use n'.used
   size_is : IsUsed (turned turn x).use_of → size_of (turned turn x).log ≡ n'.size
   small : n'.size ≤ 16777216
+  log_pages : IsUsed (turned turn x).use_of → length (turned turn x).log.pages ≡ n'.log_pages
 
 turn_kept : (x : Inode) (n n' : InodeState) (k : Turn) (turn : DiskTurn) → turn ≡ as_turn k → MayTurn turn x.use_of → Turned k n n'
-    → x.use_of ≡ as_use n.used → (IsUsed x.use_of → size_of x.log ≡ n.size) → n.size ≤ 16777216 → IsTurned x turn n'
+    → x.use_of ≡ as_use n.used → (IsUsed x.use_of → size_of x.log ≡ n.size) → n.size ≤ 16777216
+    → (IsUsed x.use_of → length x.log.pages ≡ n.log_pages) → IsTurned x turn n'
 unfolding size_of
-turn_kept x n n' k turn is can turns use_is size small = subst (λ (z : DiskTurn). IsTurned x z n') (sym is)
+turn_kept x n n' k turn is can turns use_is size small pages = subst (λ (z : DiskTurn). IsTurned x z n') (sym is)
     (by k (subst (λ (z : DiskTurn). MayTurn z x.use_of) is can) turns)
   where
     by : (z : Turn) → MayTurn (as_turn z) x.use_of → Turned z n n' → IsTurned x (as_turn z) n'
@@ -158,11 +161,13 @@ turn_kept x n n' k turn is can turns use_is size small = subst (λ (z : DiskTurn
       use_is = use_is ∙ ap as_use (sym so.0);
       size_is = λ used. size used ∙ sym so.1;
       small = let same = so.1 in omega (arith, same, small);
+      log_pages = λ used. pages used ∙ sym so.2;
     }
     by kept_turn.Comes can' so = record {
       use_is = ap as_use (sym so.0);
       size_is = λ used. sym so.1;
       small = let none = so.1 in omega (arith, none);
+      log_pages = λ used. sym so.2;
     }
     by kept_turn.Goes can' so =
         let is_size : size_of x.log ≡ n.size = size (subst IsUsed (sym can') tt) in
@@ -170,6 +175,7 @@ turn_kept x n n' k turn is can turns use_is size small = subst (λ (z : DiskTurn
           use_is = ap (λ (m : ℕ). Dying (pages_of m)) is_size ∙ ap as_use (sym so.0);
           size_is = λ used. is_size ∙ sym so.1;
           small = let same = so.1 in omega (arith, same, small);
+          log_pages = λ used. pages (subst IsUsed (sym can') tt) ∙ sym so.2;
         }
 
 units_turned : (x : Inode) (k : Turn) (turn : DiskTurn) → turn ≡ as_turn k → MayTurn turn x.use_of → (places : ℕ)
@@ -260,11 +266,12 @@ module _ (d : Disk) (b b' : Parts) (s t : State) (who : ℕ) (f : Flight) (c : N
     node_file : 1 ≤ change.ino
     node_file = can.file
 
-    inode_turned : (ino : ℕ) (n' n : InodeState) → TurnsInode c ino n n' → IsInodeOf d ino n → IsInodeOf e ino n'
+    inode_turned : (ino : ℕ) (n' n : InodeState) → TurnsInode c (length f.fresh.items) ino n n' → IsInodeOf d ino n → IsInodeOf e ino n'
     inode_turned ino n' n turns was = record {
       use_is = by_use (where_is d change ino);
       size_is = by_size (where_is d change ino);
       small = by_small (cases_eq ino c.node);
+      log_pages = by_log (where_is d change ino);
       places = λ idx. ap (λ m. get m.map idx) turns.map ∙ was.places idx ∙ ap (option_map kept) (sym (maps_same d change can ino idx));
     }
       where
@@ -280,7 +287,28 @@ module _ (d : Disk) (b b' : Parts) (s t : State) (who : ℕ) (f : Flight) (c : N
         turned_so : ino ≡ c.node → IsTurned (d.inode ino) change.turn n'
         turned_so here' = turn_kept (d.inode ino) n n' c.turn change.turn flight.turn_is
             (subst (λ (i : ℕ). MayTurn change.turn (d.inode i).use_of) (flight.node_is ∙ sym here') can.may_turn) (turns.here here')
-            was.use_is was.size_is was.small
+            was.use_is was.size_is was.small was.log_pages
+
+        root_long : length (e.inode 0).log.pages ≡ length (d.inode 0).log.pages + length f.fresh.items
+        root_long = ap (λ (x : Inode). length x.log.pages) (at_root d change) ∙ length-append (d.inode 0).log.pages change.fresh
+            ∙ ap (λ (xs : List ℕ). length (d.inode 0).log.pages + length xs) fresh_same
+
+        by_log : Where d change ino → IsUsed (e.inode ino).use_of → length (e.inode ino).log.pages ≡ n'.log_pages
+        by_log (is_root root) used =
+            let used_root : IsUsed (d.inode ino).use_of = subst (λ (i : ℕ). IsUsed (d.inode i).use_of) (sym root)
+            (subst IsUsed (sym volume.fast.valid.root) tt) in
+            ap (λ (i : ℕ). length (e.inode i).log.pages) root ∙ root_long
+            ∙ ap (λ (i : ℕ). length (d.inode i).log.pages + length f.fresh.items) (sym root)
+            ∙ ap (λ (k : ℕ). k + length f.fresh.items) (was.log_pages used_root) ∙ sym (turns.root root)
+        by_log (is_here here') used =
+            let as_turned : e.inode ino ≡ turned change.turn (d.inode ino) =
+            ap (λ (i : ℕ). e.inode i) here' ∙ at_ino d change node_file ∙ ap (λ (i : ℕ). turned change.turn (d.inode i)) (sym here') in
+            ap (λ (x : Inode). length x.log.pages) as_turned ∙ (turned_so (same_node here')).log_pages (subst (λ (x : Inode). IsUsed x.use_of)
+            as_turned used)
+        by_log (elsewhere some other) used =
+            ap (λ (x : Inode). length x.log.pages) (at_other d change ino some other) ∙ was.log_pages
+            (subst (λ (x : Inode). IsUsed x.use_of) (at_other d change ino some other) used)
+            ∙ sym (turns.log (λ none. omega (arith, some, none)) (apart_node other))
 
         by_use : Where d change ino → (e.inode ino).use_of ≡ as_use n'.used
         by_use (is_root root) =
@@ -359,7 +387,7 @@ module _ (d : Disk) (b b' : Parts) (s t : State) (who : ℕ) (f : Flight) (c : N
     same : SameOthers who b b'
     same = same_others d b b' s t who f c change volume can to.flies to.change_is fresh_same lands.lands
 
-    stay : ((q : ℕ) (g : Flight) → q ≢ who → Flies b' q g → IsFlight e q g t) × StayInHand who e b'
+    stay : ((q : ℕ) (g : Flight) → q ≢ who → Flies b' q g → IsFlight e q g t) × StayInHand who e b' t
     stay = others_stay who inodes f.fresh.items d e b b' s t volume (subst (λ (g : Geometry). StandsFast e g t) lands.lands.lands.geometry fast)
         for_it
         leaves same
@@ -452,6 +480,8 @@ module _ (d : Disk) (b b' : Parts) (s t : State) (who : ℕ) (f : Flight) (c : N
       queue = queue d b b' s t who f c change volume can to.flies to.change_is fresh_same lands.lands (λ ino n' at. let was = lands.each ino n' at in
           (was.0, was.1, was.2.round));
       sharing = stay.1.sharing (λ same'. let few = who_few d b b' s t who f c change volume can to.flies to.change_is fresh_same lands.lands in
+          omega (arith, few, same'));
+      cleaning = stay.1.cleaning (λ same'. let few = who_few d b b' s t who f c change volume can to.flies to.change_is fresh_same lands.lands in
           omega (arith, few, same'));
       reclaiming = reclaims;
       pointers = none_stale_kept d e (same_geometry d change) pointers_same

@@ -139,13 +139,12 @@ module _ (d : Disk) (b : Parts) (s : State) (v : IsVolume d b s) (op : Op) (plan
         (let is = can.needs in omega (arith, is, less)),
       ))) (λ enough. enough) (cases_lt (length b.free.free) pages)) (none_or pages)
 
-  -- the pages that are left
-  left_two : (left : ℕ) → length b.free.free ≡ pages + left → 2 ≤ left
-  left_two left is = ⊎_elim (λ none. let two = v.space.left in omega (arith, none, two, is))
-      (λ some. ⊎_elim (λ less. absurd (can.roomy.has.space (
-        (let same = can.needs in omega (arith, same, some)),
-        (let same = can.needs in omega (arith, same, less)),
-      ))) (λ enough. let two = reserve_two op in omega (arith, enough, two, is)) (cases_lt (length b.free.free) (pages + reserve op))) (none_or pages)
+  -- the pages that are left, where it needs some
+  left_two : (left : ℕ) → 0 < pages → length b.free.free ≡ pages + left → 2 ≤ left
+  left_two left some is = ⊎_elim (λ less. absurd (can.roomy.has.space (
+    (let same = can.needs in omega (arith, same, some)),
+    (let same = can.needs in omega (arith, same, less)),
+  ))) (λ enough. let two = reserve_two op in omega (arith, enough, two, is)) (cases_lt (length b.free.free) (pages + reserve op))
 
   -- the slots of the plan, as of any operation planned so
   abbrev any : Flight
@@ -302,7 +301,8 @@ module _ (d : Disk) (b : Parts) (s : State) (v : IsVolume d b s) (op : Op) (plan
         plans = own_flight who t count_is fresh_apart;
         unraised = new.unraised;
         takes = subst (TakesFirst b1.free free') (sym taken_is) takes;
-        left = left_two (length free'.free) (let all = took-length b.free free' fresh takes_here in omega (arith, all, count_is));
+        left = λ some. left_two (length free'.free) (let same = ap length taken_is in omega (arith, some, same, count_is))
+            (let all = took-length b.free free' fresh takes_here in omega (arith, all, count_is));
         inside = λ ino has. let small = (may_hold ino has).small in let all = v.inodes.all in let same = keeps.same.inodes.all in
             omega (arith, small, all, same);
         loose = λ ino n has at. let was = inode_was IsSameInode b.inodes.items b1.inodes.items keeps.same.inodes ino n at in

@@ -25,11 +25,9 @@ use Rattle.std.proofs.Common.{
   length-append,
 }
 use Rattle.std.specs.Prelude.{◌/◌, ◌-◌, ◌*◌, ◌↔◌, Bool, true, false, nat_lt, if◌then◌else◌, Contains}
-use Rattle.std.specs.List.Sorted.{IsStrictlyIncreasing}
 use Rattle.std.proofs.lemmas.List.{get_or_append_left}
 use Rattle.std.proofs.lemmas.List.Elements.{Contains-append_left}
 use Rattle.pm_device.specs.State.{State}
-use Rattle.page_alloc.proofs.FreeLaws.{below_rest}
 use Rattle.log_entry.specs.Spelling.{spelled}
 use Rattle.log_entry.specs.declared.item.LogItem.{LogItem}
 use Rattle.log_entry.specs.declared.item.LogItem.TheVariants.{Add, Forget}
@@ -63,11 +61,13 @@ use Rattle.dn_volume.specs.declared.flight.Flight.{Flight}
 use Rattle.dn_volume.specs.declared.flight.Change.TheVariants.{Names}
 use Rattle.dn_volume.specs.declared.flight.NameChange.{NameChange}
 use Rattle.dn_volume.specs.declared.volume.Parts.{Parts}
-use Rattle.dn_volume.specs.Parties.{Flies, Takes, for_client, blocks_of, flight_at}
+use Rattle.dn_volume.specs.Parties.{Flies, Takes, for_client, blocks_of, flight_at, taken_by}
 use Rattle.dn_volume.specs.PlannedNames.{PlansCreate, PlansRemove, PlansRename, PlansNames, inode_list}
 use Rattle.dn_volume.specs.Flights.{IsFlightOf, IsNameFlight, as_turn}
+use Rattle.dn_volume.specs.Cleans.{IsLeft}
 use Rattle.dn_volume.specs.Agrees.{IsVolume}
 use Rattle.dn_volume.proofs.FlightsGranted.{flights_granted}
+use Rattle.begin_steps.proofs.Cleanings.{left_unused}
 use Rattle.count_events.proofs.Flown.{in_range}
 use Rattle.law_write.proofs.Counting.{term-le}
 use Rattle.dn_model.specs.History.{needed}
@@ -82,18 +82,6 @@ apart_left : (xs ys : List ℕ) → AreApart (xs ++ ys) → AreApart xs
 apart_left xs ys apart i j il jl same =
     apart i j (omega (arith, il, length-append xs ys)) (omega (arith, jl, length-append xs ys)) (get_or_append_left xs ys 0 i il ∙ same ∙ sym
     (get_or_append_left xs ys 0 j jl))
-
--- the first two of a rising list
-two_of : (xs : List ℕ) → 2 ≤ length xs → IsStrictlyIncreasing xs → (p : ℕ) × (q : ℕ) × (p ≢ q) × Contains xs p × Contains xs q
-two_of [] long rising = absurd (omega (arith, long))
-two_of (x ∷ []) long rising = absurd (omega (arith, long))
-two_of (x ∷ y ∷ xs) long rising = (
-  x,
-  y,
-  (λ same. let lt = below_rest x (y ∷ xs) y rising (0, omega arith, refl) in omega (arith, lt, same)),
-  (0, omega arith, refl),
-  (1, omega arith, refl),
-)
 
 -- the items and pages of a renaming
 renaming_more : (from to : List ℕ) (ino : ℕ) (replaced : Option ℕ) (fresh : List ℕ) → (renaming from to ino replaced fresh).more ≡ Forget from ∷ Add
@@ -135,20 +123,21 @@ module _ (d : Disk) (b : Parts) (s : State) (who : ℕ) (f : Flight) (c : NameCh
   abbrev pub change : DiskChange
   change = flight.change
 
+  fresh_taken : (page : ℕ) → Contains f.fresh.items page → Contains (taken_by f) page
+  fresh_taken page has = Contains-append_left (f.fresh.items ++ f.spare.items) (blocks_of f.change) page
+      (Contains-append_left f.fresh.items f.spare.items page has)
+
   pub fresh_taken_by : (page : ℕ) → Contains f.fresh.items page → Takes b who page
-  fresh_taken_by page has = for_client f flies (Contains-append_left (f.fresh.items ++ f.spare.items) (blocks_of f.change) page
-      (Contains-append_left f.fresh.items f.spare.items page has))
+  fresh_taken_by page has = for_client f flies (fresh_taken page has)
 
   pub unused_fresh : (page : ℕ) → Contains f.fresh.items page → IsUnused d page
   unused_fresh page has = let client = flies.client in volume.space.unused page (λ none. let his = volume.space.takes who page
       (fresh_taken_by page has) in omega (arith, client, his, none))
 
-  spared : (page : ℕ) → Contains b.free.free page → IsSpared d f.fresh.items page
-  spared page has = record {
-    free = ((volume.space.free page).0 has).0.free;
-    not_fresh = λ fresh. let none = ((volume.space.free page).0 has).1 in let client = flies.client in let his = volume.space.takes who page
-        (fresh_taken_by page fresh) in omega (arith, none, client, his);
-  }
+  spared : (page : ℕ) → IsLeft b page → IsSpared d f.fresh.items page
+  spared page left =
+      let is = left_unused d b s volume who f flies page left in
+      record { free = is.0.free; not_fresh = λ fresh. is.1 (fresh_taken page fresh) }
 
   grows_root : (more : List LogItem) → change.more ≡ more → MayGrowRoot d f.fresh.items more
   grows_root more is = record {
@@ -159,8 +148,8 @@ module _ (d : Disk) (b : Parts) (s : State) (who : ℕ) (f : Flight) (c : NameCh
         (subst (λ (xs : List LogItem). length ((d.inode f.ino).log.pages ++ f.fresh.items) ≡ (count (d.inode f.ino).log + length (spelled xs) + 62)
         / 63) is
         (flight.grows.room ∙ ap (λ (xs : List (List ℕ)). (count (d.inode f.ino).log + length xs + 62) / 63) (sym flight.slots)));
-    left = let two = two_of b.free.free volume.space.left volume.space.in_order.rising in
-        (two.0, two.1, two.2, spared two.0 two.3, spared two.1 two.4);
+    left = let two = volume.space.left in
+        (two.one, two.other, two.apart, spared two.one two.one_left, spared two.other two.other_left);
   }
 
   created : (name : List ℕ) → PlansCreate d f name change → MayCreate d name change.ino f.fresh.items

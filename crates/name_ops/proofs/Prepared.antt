@@ -54,15 +54,13 @@ use Rattle.law_names.specs.NameLaws.{StandsStill}
 use Rattle.law_names.proofs.ChangedValid.{root_paged}
 use Rattle.law_names.proofs.Places.{prepared_place, high_not_inode}
 use Rattle.law_names.proofs.Commits.{root_stores, turn_stores, turn_ready, fresh_ready}
-use Rattle.dn_volume.specs.declared.units.TheConstants.{SLOT_UNITS, TURN_UNITS, NAMES_UNITS, FALL_UNITS, ZERO_CHECK_UNITS}
+use Rattle.dn_volume.specs.declared.units.TheConstants.{SLOT_UNITS, TURN_UNITS, NAMES_UNITS}
 use Rattle.dn_volume.specs.declared.flight.Flight.{Flight}
 use Rattle.dn_volume.specs.declared.flight.Change.TheVariants.{Data, Names}
 use Rattle.dn_volume.specs.declared.flight.DataChange.{DataChange}
 use Rattle.dn_volume.specs.declared.flight.NameChange.{NameChange}
 use Rattle.dn_model.specs.declared.op.CountChange.{CountChange}
-use Rattle.dn_volume.specs.declared.volume.InodeState.{InodeState}
 use Rattle.dn_volume.specs.declared.volume.Parts.{Parts}
-use Rattle.dn_volume.specs.declared.volume.Room.{Room}
 use Rattle.dn_volume.specs.Parties.{Flies, by_client, SameOthers, KeepsOps, blocks_of}
 use Rattle.dn_volume.specs.Inodes.{AreNamesOf, AreInodesOf}
 use Rattle.dn_volume.specs.Space.{AreSlotsOf}
@@ -71,7 +69,7 @@ use Rattle.dn_model.specs.History.{needed}
 use Rattle.file_content.specs.Pages.{AreApart}
 use Rattle.dn_volume.specs.PlannedNames.{PlansNames}
 use Rattle.dn_volume.specs.Flights.{IsFlight, IsNameFlight, GrowsBy}
-use Rattle.dn_volume.specs.Reserve.{slots_of, HasRoom, owed_sum, owed_to, units_by, prepared_units, runs_by, units_to_share, changes_to_share}
+use Rattle.dn_volume.specs.Reserve.{slots_of, HasRoom, owed_to, units_by, prepared_units, runs_by}
 use Rattle.dn_volume.specs.Reclaims.{one_if, dying_units}
 use Rattle.dn_volume.specs.Agrees.{StandsFast, IsVolume}
 use Rattle.dn_volume.specs.Rely.{IsWordOf, of_inode, of_log, of_page, LeavesRest, KeepsRest, StayInHand}
@@ -304,7 +302,7 @@ module _ (d : Disk) (b b' : Parts) (s u t : State) (who : ℕ) (f : Flight) (c :
   same : SameOthers who b b'
   same = others_same who f f' b b' st
 
-  stay : ((q : ℕ) (g : Flight) → q ≢ who → Flies b' q g → IsFlight d q g t) × StayInHand who d b'
+  stay : ((q : ℕ) (g : Flight) → q ≢ who → Flies b' q g → IsFlight d q g t) × StayInHand who d b' t
   stay = others_stay who inodes f.fresh.items d d b b' s t volume (subst (λ (g : Geometry). StandsFast d g t) st.geometry fast)
       (record {
         inode = λ i has. inl (by_client f to.flies has);
@@ -366,6 +364,7 @@ module _ (d : Disk) (b b' : Parts) (s u t : State) (who : ℕ) (f : Flight) (c :
     flights = record { clients = st.replaces.clients ∙ volume.flights.clients; each = each };
     queue = same_queue who f f' b b' st d volume.queue;
     sharing = stay.1.sharing (λ same'. let small = few who st.client (Some f) (Some f') b b' st.replaces in omega (arith, small, same'));
+    cleaning = stay.1.cleaning (λ same'. let small = few who st.client (Some f) (Some f') b b' st.replaces in omega (arith, small, same'));
     reclaiming = record {
       waiting = subst (λ r. r.waiting + one_if r.raised ≡ one_if r.zero_check + 2 * length r.releases.items + total d.geometry.inodes (dying_units d))
           (sym st.reclaiming) volume.reclaiming.waiting;

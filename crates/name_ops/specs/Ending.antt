@@ -48,6 +48,7 @@ pub record SameButHolder (n n' : InodeState) : Type 0 where
   pub used : n'.used ≡ n.used
   pub size : n'.size ≡ n.size
   pub map : n'.map ≡ n.map
+  pub log_pages : n'.log_pages ≡ n.log_pages
   pub round : n'.round ≡ n.round
 
 -- these inodes are held by nobody, and nothing else changed
@@ -56,6 +57,22 @@ pub record LetsGoOf (gone : ℕ → Type 0) (old new : List InodeState) : Type 0
   pub each : (ino : ℕ) (n' : InodeState) → slice_get new ino ≡ Some n'
       → (n : InodeState) × (slice_get old ino ≡ Some n) × SameButHolder n n'
       × (gone ino → n'.holder ≡ None) × ((gone ino → ⊥) → n'.holder ≡ n.holder)
+
+-- an inode is the same, however many pages its log has
+pub record SameButLog (n n' : InodeState) : Type 0 where
+  pub used : n'.used ≡ n.used
+  pub size : n'.size ≡ n.size
+  pub map : n'.map ≡ n.map
+  pub round : n'.round ≡ n.round
+  pub holder : n'.holder ≡ n.holder
+
+-- the root's log has so many pages more, and nothing else changed
+pub record GrowsRoot (more : ℕ) (old new : List InodeState) : Type 0 where
+  pub all : length new ≡ length old
+  pub each : (ino : ℕ) (n' : InodeState) → slice_get new ino ≡ Some n'
+      → (n : InodeState) × (slice_get old ino ≡ Some n) × SameButLog n n'
+      × (ino ≡ 0 → n'.log_pages ≡ n.log_pages + more)
+      × ((ino ≡ 0 → ⊥) → n'.log_pages ≡ n.log_pages)
 
 -- an inode's places, round and holder stay
 pub record KeepsPlaces (n n' : InodeState) : Type 0 where
@@ -102,7 +119,10 @@ pub record CanLand (f : Flight) (c : NameChange) (b : Parts) : Type 0 where
   pub moves : MovesSome f.op (get b.names.map)
   pub change_is : f.change ≡ Names c
   pub put_is : c.put ≡ name_put f.op
+  pub file : 1 ≤ c.node
   pub node : c.node < length b.inodes.items
+  pub root : (n : InodeState) → slice_get b.inodes.items 0 ≡ Some n
+      → n.log_pages + length f.fresh.items < 18446744073709551616
   pub held : All (λ ino. ino < length b.inodes.items) f.held.items
   pub small : (n : InodeState) → slice_get b.inodes.items c.node ≡ Some n → n.size ≤ 16777216
   pub spare_below : (page : ℕ) → Contains f.spare.items page → page < b.free.pages
@@ -132,12 +152,12 @@ pub record FinishesNames (who : ℕ) (f : Flight) (c : NameChange) (b b' : Parts
   pub names_room : b.names.room ≤ b'.names.room + 1
   pub all : length b'.inodes.items ≡ length b.inodes.items
   pub each : (ino : ℕ) (n' : InodeState) → slice_get b'.inodes.items ino ≡ Some n'
-      → (n : InodeState) × (slice_get b.inodes.items ino ≡ Some n) × TurnsInode c ino n n'
-      × LetsGo f
-      ino n n'
+      → (n : InodeState) × (slice_get b.inodes.items ino ≡ Some n)
+      × TurnsInode c (length f.fresh.items) ino n n' × LetsGo f ino n n'
   pub raised : b'.reclaiming.raised ≡ b.reclaiming.raised
   pub zero_check : b'.reclaiming.zero_check ≡ b.reclaiming.zero_check
   pub releases : b'.reclaiming.releases ≡ b.reclaiming.releases
+  pub cleaning : b'.reclaiming.cleaning ≡ b.reclaiming.cleaning
   pub waiting : (n : InodeState) → slice_get b.inodes.items c.node ≡ Some n
       → b'.reclaiming.waiting ≡ b.reclaiming.waiting + turn_units c.turn (places_kept n)
   pub units : b.owed.units ≡ b'.owed.units + NAMES_UNITS

@@ -89,19 +89,23 @@ names_after (op.Rename from to) leads node = with_name (with_name leads from Non
 names_after (op.Size name) leads node = leads
 names_after op.List leads node = leads
 
--- An inode comes to life as a file of no bytes, or is dying and keeps the places below the pages of
--- its size, or stays.
+-- An inode comes to life as a file of no bytes whose log has no page, or is dying and keeps the
+-- places below the pages of its size, or stays.
 abbrev pub Turned : Turn → InodeState → InodeState → Type 0
-Turned turn.Stays n n' = (n'.used ≡ n.used) × (n'.size ≡ n.size)
-Turned turn.Comes n n' = (n'.used ≡ used.Live) × (n'.size ≡ 0)
-Turned turn.Goes n n' = (n'.used ≡ used.Dying (pages_of n.size)) × (n'.size ≡ n.size)
+Turned turn.Stays n n' =
+    (n'.used ≡ n.used) × (n'.size ≡ n.size) × (n'.log_pages ≡ n.log_pages)
+Turned turn.Comes n n' = (n'.used ≡ used.Live) × (n'.size ≡ 0) × (n'.log_pages ≡ 0)
+Turned turn.Goes n n' =
+    (n'.used ≡ used.Dying (pages_of n.size)) × (n'.size ≡ n.size) × (n'.log_pages ≡ n.log_pages)
 
--- the inode of the change turns; the others stay
-pub record TurnsInode (change : NameChange) (ino : ℕ) (n n' : InodeState) : Type 0 where
+-- the inode of the change turns, and the root's log has so many pages more; the others stay
+pub record TurnsInode (change : NameChange) (more ino : ℕ) (n n' : InodeState) : Type 0 where
   pub map : n'.map ≡ n.map
   pub round : n'.round ≡ n.round
   pub here : ino ≡ change.node → Turned change.turn n n'
   pub elsewhere : ino ≢ change.node → (n'.used ≡ n.used) × (n'.size ≡ n.size)
+  pub root : ino ≡ 0 → n'.log_pages ≡ n.log_pages + more
+  pub log : ino ≢ 0 → ino ≢ change.node → n'.log_pages ≡ n.log_pages
 
 -- how many places of a file are mapped, as they are kept
 unfoldable pub places_in : FinMap nat_cmp Mapping → ℕ
@@ -116,16 +120,15 @@ turn_units turn.Stays places = 0
 turn_units turn.Comes places = 0
 turn_units turn.Goes places = 1 + 4 * places
 
--- The names, the inode that turns and the holders are those of after, and reclaim has its work
--- more.
+-- The names, the inode that turns, the root's log and the holders are those of after, and reclaim
+-- has its work more.
 pub record LandsChange (who : ℕ) (f : Flight) (c : NameChange) (b b' : Parts) : Type 0 where
   pub lands : LandsNames who f b b'
   pub names : (other : List ℕ) → get b'.names.map other ≡ names_after f.op (get b.names.map) c.node
       other
   pub each : (ino : ℕ) (n' : InodeState) → slice_get b'.inodes.items ino ≡ Some n'
-      → (n : InodeState) × (slice_get b.inodes.items ino ≡ Some n) × TurnsInode c ino n n'
-      × LetsGo f
-      ino n n'
+      → (n : InodeState) × (slice_get b.inodes.items ino ≡ Some n)
+      × TurnsInode c (length f.fresh.items) ino n n' × LetsGo f ino n n'
   pub raised : b'.reclaiming.raised ≡ b.reclaiming.raised
   pub zero_check : b'.reclaiming.zero_check ≡ b.reclaiming.zero_check
   pub releases : b'.reclaiming.releases ≡ b.reclaiming.releases
@@ -180,6 +183,7 @@ pub record Stops (b b' : Parts) : Type 0 where
   pub geometry : b'.geometry ≡ b.geometry
   pub flights : (k : ℕ) → flight_at b'.flights.items k ≡ flight_at b.flights.items k
   pub sharing : b'.sharing ≡ b.sharing
+  pub cleaning : b'.reclaiming.cleaning ≡ b.reclaiming.cleaning
   pub history : b'.history ≡ b.history
   pub trace : b'.trace ≡ b.trace
 

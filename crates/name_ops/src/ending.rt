@@ -1,5 +1,5 @@
 // An operation on names ends, in what is kept in memory.
-ghost use Rattle.std.specs.Prelude.{◌≡◌, ◌≢◌, ◌↔◌, ◌*◌, ◌-◌, ◌+◌, ◌<◌, ◌≤◌, ℕ, List, length, Some, None, IsSome, IfSome, All, Contains, is_some, if◌then◌else◌};
+ghost use Rattle.std.specs.Prelude.{◌≡◌, ◌≢◌, ◌↔◌, ◌*◌, ◌-◌, ◌+◌, ◌^◌, ◌<◌, ◌≤◌, ℕ, List, length, slice_get, Some, None, IsSome, IfSome, All, Contains, is_some, if◌then◌else◌};
 ghost use Rattle.std.specs.FinMap.{get};
 ghost use Rattle.page_alloc.specs.Free.{IsInOrder};
 ghost use Rattle.file_content.specs.Pages.{AreApart};
@@ -8,7 +8,7 @@ ghost use Rattle.dn_volume.specs.PlannedNames.{name_put};
 ghost use Rattle.dn_volume.specs.Parties.{flight_at};
 ghost use Rattle.dn_volume.specs.Begins.{IsNamesOp};
 ghost use Rattle.file_index.specs.Index.{Puts};
-ghost use Rattle.name_ops.specs.Ending.{Gives, LetsGoOf, KeepsPlaces, MovesSome, MovesName, CanLand, FinishesNames};
+ghost use Rattle.name_ops.specs.Ending.{Gives, LetsGoOf, GrowsRoot, KeepsPlaces, MovesSome, MovesName, CanLand, FinishesNames};
 ghost use Rattle.name_ops.specs.Landing.{names_after, Turned, places_in, places_kept, turn_units};
 
 use begin_steps::find_inode;
@@ -68,6 +68,24 @@ pub fn let_go(inodes: &mut Vec<InodeState>, held: &[u64])
     }
 }
 
+// The log of an inode has so many pages more.
+fn grow_log(node: &mut InodeState, pages: u64)
+    requires { node.old.log_pages + pages < 2 ^ 64 }
+    ensures { node.new ≡ record node.old { log_pages = node.old.log_pages + pages } }
+{
+    node.log_pages += pages;
+}
+
+/// The root's log has so many pages more.
+pub fn grow_root(inodes: &mut Vec<InodeState>, pages: u64)
+    requires there { 0 < length inodes.old.items }
+    requires room { IfSome (slice_get inodes.old.items 0)
+        (λ root. root.log_pages + pages < 2 ^ 64) }
+    ensures { GrowsRoot pages inodes.old.items inodes.new.items }
+{
+    grow_log(&mut inodes[0], pages);
+}
+
 // One where a place is mapped.
 fn place_at(map: &PageMap, idx: u64) -> u64
     ensures { result ≡ (if is_some (get map.now.map idx) then 1 else 0) }
@@ -100,7 +118,7 @@ pub fn units_of_turn(node: &InodeState, turn: Turn) -> u64
     }
 }
 
-/// An inode comes to life as a file of no bytes, or is dying, or stays.
+/// An inode comes to life as a file of no bytes whose log has no page, or is dying, or stays.
 pub fn turn_inode(node: &mut InodeState, turn: Turn)
     requires { node.old.size ≤ 16777216 }
     ensures turned { Turned turn node.old node.new }
@@ -111,6 +129,7 @@ pub fn turn_inode(node: &mut InodeState, turn: Turn)
         Turn::Comes => {
             node.used = InodeUse::Live;
             node.size = 0;
+            node.log_pages = 0;
         }
         Turn::Goes => {
             node.used = InodeUse::Dying {
@@ -163,8 +182,9 @@ fn change_names(names: &mut NameMap, op: &Op, node: u64, put: Option<Name>)
     }
 }
 
-/// Ends an operation on names in what is kept in memory, but for its flight: the names and the inode that turns are those
-/// of after, what it held is let go, what it was owed is owed no more, and it enters the history.
+/// Ends an operation on names in what is kept in memory, but for its flight: the names, the inode that turns and the
+/// pages of the root's log are those of after, what it held is let go, what it was owed is owed no more, and it enters the
+/// history.
 pub fn land_names(parts: &mut Parts, who: u32, mut flight: Flight)
     requires can { (c : KeptChange) × CanLand flight c parts.old }
     ensures { (c : KeptChange) → CanLand flight c parts.old
@@ -178,6 +198,7 @@ pub fn land_names(parts: &mut Parts, who: u32, mut flight: Flight)
     parts.reclaiming.waiting += units_of_turn(&parts.inodes[node], change.turn);
     turn_inode(&mut parts.inodes[node], change.turn);
     let_go(&mut parts.inodes, &flight.held);
+    grow_root(&mut parts.inodes, flight.fresh.len() as u64);
     give_back_pages(&mut parts.free, &flight.spare);
     change_names(&mut parts.names, &flight.op, change.node, put);
     parts.owed.units -= NAMES_UNITS;

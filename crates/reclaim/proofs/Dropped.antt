@@ -18,6 +18,7 @@ use Rattle.dn_volume.specs.declared.volume.Parts.{Parts}
 use Rattle.dn_volume.specs.Parties.{flight_at}
 use Rattle.dn_volume.specs.Balance.{times, raised_by, raised_to_share, raised_to_die, added_to_share, raised, added, AreCounted}
 use Rattle.dn_volume.specs.Reclaims.{one_if, IsRaised, IsReclaiming}
+use Rattle.dn_volume.specs.Reserve.{units_to_clean}
 use Rattle.dn_volume.specs.Agrees.{IsVolume}
 use Rattle.dn_volume.proofs.HandsKept.{owed_same}
 use Rattle.dn_volume.proofs.MappingsMoved.{mappings_counted}
@@ -154,7 +155,7 @@ module _ (d : Disk) (b b' : Parts) (s u : State) (v : IsVolume d b s) (p : Dying
       (done : IsDone 16 (inode_word p.ino 3) p.place s u) (settles : SettlesAll 16 s u) where
     moves : MovesRoom b b' s u
     moves = record {
-      units = omega (arith, change.units, one_was, none_now, zero_same);
+      units = let clean = ap (λ (x : _). units_to_clean x) change.kept.cleaning in omega (arith, change.units, one_was, none_now, zero_same, clean);
       spare = omega (arith, change.units, v.room.units, spare);
       releases = omega (arith, change.owed_releases, one_was, none_now);
       room = omega (arith, change.len, change.owed_releases);

@@ -26,6 +26,7 @@ use Rattle.dn_volume.specs.declared.volume.InodeState.{InodeState}
 use Rattle.dn_volume.specs.declared.volume.Parts.{Parts}
 use Rattle.dn_volume.specs.Inodes.{as_use, IsInodeOf, AreInodesOf}
 use Rattle.dn_volume.specs.Reclaims.{one_if, dying_units, IsReclaiming}
+use Rattle.dn_volume.specs.Reserve.{units_to_clean}
 use Rattle.dn_volume.specs.Agrees.{IsVolume}
 use Rattle.dn_volume.proofs.Stills.{still_settles}
 use Rattle.reclaim.specs.Worked.{Gives, EndsState, EndsInode, ChangesOne}
@@ -60,6 +61,7 @@ module _ (d : Disk) (ino : ℕ) (may : MayEnd d ino) where
     use_is = free_now ∙ sym (ap as_use ends.used_is);
     size_is = λ used. absurd (subst IsUsed free_now used);
     small = subst (λ (n : ℕ). n ≤ 16777216) (sym ends.size) is.small;
+    log_pages = λ used. absurd (subst IsUsed free_now used);
     places = λ idx. ap (λ (m : _). get m.map idx) ends.map ∙ is.places idx ∙ ap (option_map kept) (sym (drops.maps_same ino idx));
   }
 
@@ -114,6 +116,7 @@ ends_since ino b f b' is = record {
     owed_trace = is.kept.owed_trace;
     owed_history = is.kept.owed_history;
     owed_queue = is.kept.owed_queue;
+    cleaning = is.kept.cleaning;
     made = is.kept.made;
   };
   fact = is.fact;
@@ -161,7 +164,7 @@ module _ (d : Disk) (b b' : Parts) (s u : State) (v : IsVolume d b s) (ino : ℕ
       (done : IsDone 16 (inode_word ino 0) 0 s u) (settles : SettlesAll 16 s u) where
     moves : MovesRoom b b' s u
     moves = record {
-      units = omega (arith, change.units, none_then, none_now, zero_same);
+      units = let clean = ap (λ (x : _). units_to_clean x) change.kept.cleaning in omega (arith, change.units, none_then, none_now, zero_same, clean);
       spare = omega (arith, change.units, units, spare);
       releases = omega (arith, change.owed_releases, none_then, none_now);
       room = let len = ap (λ (r : _). deque_len r) change.releases in omega (arith, len, change.owed_releases);

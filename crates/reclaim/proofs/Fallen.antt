@@ -1,5 +1,5 @@
 -- The cut of a dying inode fell to its last place: the volume of after.
-use Rattle.std.proofs.Common.{◌≡◌, ◌⊎◌, inl, inr, ⊎_elim, ℕ, ◌+◌, ◌≤◌, List, [], sym, ◌∙◌, ap, subst, arith}
+use Rattle.std.proofs.Common.{◌≡◌, ◌⊎◌, inl, inr, ⊎_elim, ℕ, ◌+◌, ◌≤◌, List, [], length, sym, ◌∙◌, ap, subst, arith}
 use Rattle.std.specs.Prelude.{None, IsNone}
 use Rattle.std.specs.Option.{option_map}
 use Rattle.std.specs.FinMap.{get}
@@ -66,6 +66,7 @@ module _ (d : Disk) (ino cut : ℕ) (may : MayFall d ino cut) where
     use_is = lowers.now ∙ sym (ap as_use falls.used_is);
     size_is = λ used. ap (λ (n : _). size_of n) lowers.same_log ∙ is.size_is (subst IsUsed (sym may.dying) tt) ∙ sym falls.size;
     small = subst (λ (n : ℕ). n ≤ 16777216) (sym falls.size) is.small;
+    log_pages = λ used. ap (λ (n : _). length n.pages) lowers.same_log ∙ is.log_pages (subst IsUsed (sym may.dying) tt) ∙ sym falls.log_pages;
     places = λ idx. place_here idx x y is falls;
   }
 

@@ -17,6 +17,7 @@ use Rattle.dn_volume.specs.declared.background.DyingPlace.{DyingPlace}
 use Rattle.dn_volume.specs.declared.volume.Parts.{Parts}
 use Rattle.dn_volume.specs.Balance.{times, added_to_share, added, dropped, AreCounted}
 use Rattle.dn_volume.specs.Reclaims.{one_if, IsReclaiming}
+use Rattle.dn_volume.specs.Reserve.{units_to_clean}
 use Rattle.dn_volume.specs.Agrees.{IsVolume}
 use Rattle.dn_volume.proofs.HandsKept.{owed_same, raised_same}
 use Rattle.dn_volume.proofs.MappingsMoved.{mappings_counted}
@@ -81,7 +82,7 @@ module _ (d : Disk) (b b' : Parts) (s u : State) (v : IsVolume d b s) (ino place
       (done : IsDone 16 (inode_word ino 3) place s u) (settles : SettlesAll 16 s u) where
     moves : MovesRoom b b' s u
     moves = record {
-      units = omega (arith, change.units, none_then, none_now, zero_same);
+      units = let clean = ap (λ (x : _). units_to_clean x) change.kept.cleaning in omega (arith, change.units, none_then, none_now, zero_same, clean);
       spare = omega (arith, change.units, units, spare);
       releases = omega (arith, change.owed_releases, none_then, none_now);
       room = let len = ap (λ (r : _). deque_len r) change.releases in omega (arith, len, change.owed_releases);

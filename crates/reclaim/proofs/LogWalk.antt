@@ -166,6 +166,10 @@ few_pages pages n apart below = length-le_from_distinct_below pages n (IsDistinc
           (sym (list_any_none (eqb q) pages (λ k d lt. unequal q _ (λ e. omega (arith, high, e, value k d lt, below k lt)))) ∙ any))
     ]
 
+-- so a log has no more pages than the image
+pub log_few : (g : Geometry) (log : Log) → IsPaged g log → length log.pages ≤ g.pages
+log_few g log paged = few_pages log.pages g.pages (λ i j il jl same. paged.apart i j il jl same) (λ k lt. (paged.in_data k lt).high)
+
 module _ (d : Disk) (b : Parts) (s : State) (v : IsVolume d b s) (ino : ℕ) (may : MayEnd d ino) where
   abbrev log : Log
   log = (d.inode ino).log
@@ -201,7 +205,7 @@ module _ (d : Disk) (b : Parts) (s : State) (v : IsVolume d b s) (ino : ℕ) (ma
     footer = λ k lt. v.fast.stands.reads _ _ (of_logs (record { ino = ino; in_table = may.in_table; used = used; says = at_footer k lt refl refl }));
     apart = λ i j il jl same. paged.apart i j il jl same;
     inside = inside;
-    few = few_pages log.pages d.geometry.pages (λ i j il jl same. paged.apart i j il jl same) inside;
+    few = log_few d.geometry log paged;
   }
 
   pub log_leads : LeadsThrough s.now b.geometry ino log.pages
@@ -231,7 +235,17 @@ module _ (words : List ℕ) (g : Geometry) (ino : ℕ) (tail : ℕ) (tail_is : t
     walk_last same = among_all pages (i + 1) old new (is_last words g ino pages leads i at.inside (sym at.at ∙ same ∙ ap (λ (t : ℕ). t / 64) tail_is))
         gave
 
+    pub walk_counted : page ≡ tail / 64 → length new.free ≡ length old.free + length pages
+    walk_counted same =
+        let last = is_last words g ino pages leads i at.inside (sym at.at ∙ same ∙ ap (λ (t : ℕ). t / 64) tail_is) in
+        omega (arith, last, back.count, at.counted)
+
     pub walk_on : (next : ℕ) → (page ≡ tail / 64 → ⊥) → next ≡ slice_index words (512 * page + 504) → IsWalking pages (i + 1) next old new
     walk_on next other is =
         let more = not_last words g ino pages leads i at.inside (λ same. other (at.at ∙ same ∙ ap (λ (t : ℕ). t / 64) (sym tail_is))) in
-        record { at = is ∙ ap (λ (p : ℕ). slice_index words (512 * p + 504)) at.at ∙ leads.footer i more; inside = more; given = gave }
+        record {
+          at = is ∙ ap (λ (p : ℕ). slice_index words (512 * p + 504)) at.at ∙ leads.footer i more;
+          inside = more;
+          given = gave;
+          counted = omega (arith, back.count, at.counted);
+        }

@@ -12,7 +12,7 @@ use Rattle.dn_volume.specs.declared.volume.Volume.{Volume}
 use Rattle.dn_volume.specs.Reclaims.{one_if, IsRaised}
 use Rattle.dn_volume.specs.Agrees.{IsVolume, Agrees}
 use Rattle.dn_volume.specs.Begins.{IsUntouched}
-use Rattle.dn_volume.specs.Works.{MayWork, reclaim_stand}
+use Rattle.dn_volume.specs.Works.{MayWork, release_stand}
 use Rattle.dn_volume.proofs.SameRoom.{inodes_same}
 use Rattle.dn_volume.proofs.Tables.{is_table, running_disk}
 use Rattle.reclaim.specs.Dying.{IsLastOf, IsAt, IsDying}
@@ -34,6 +34,7 @@ untouched state w d v = record {
       raised = refl;
       releases = refl;
       waiting = refl;
+      cleaning = refl;
       trace = refl;
       stopped = refl;
     };
@@ -73,7 +74,7 @@ module _ {D F : Type 0} (state : D → State) (w : Volume D F) (ino place page :
         row (found d (is_table d w.parts (state w.device) v))
 
 -- where something waits, and nothing is begun, memory may be wanting
-pub waits_some : (b : Parts) → (b.reclaiming.waiting ≡ 0 → ⊥) → MayWork (reclaim_stand b)
+pub waits_some : (b : Parts) → (b.reclaiming.waiting ≡ 0 → ⊥) → MayWork (release_stand b)
 waits_some b some = record { some = λ rests. some rests; loose = λ holder none. none }
 
 pub none_begun : (b : Parts) → false ≡ is_some b.reclaiming.zero_check → false ≡ is_some b.reclaiming.raised → IsSome b.reclaiming.zero_check ⊎ IsSome

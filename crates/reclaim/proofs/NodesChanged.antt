@@ -90,6 +90,8 @@ module _ (R : InodeState → InodeState → Type 0) (ino : ℕ) (old new : List 
           use_is = ap (λ (n : Inode). n.use_of) (others i ne) ∙ is.use_is;
           size_is = λ used. ap (λ (n : Inode). size_of n.log) (others i ne) ∙ is.size_is (subst (λ (n : Inode). IsUsed n.use_of) (others i ne) used);
           small = is.small;
+          log_pages = λ used. ap (λ (n : Inode). length n.log.pages) (others i ne)
+              ∙ is.log_pages (subst (λ (n : Inode). IsUsed n.use_of) (others i ne) used);
           places = λ idx. is.places idx ∙ ap (option_map kept) (sym (maps_others i idx ne));
         }
 

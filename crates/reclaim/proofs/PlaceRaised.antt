@@ -28,11 +28,10 @@ use Rattle.dn_volume.specs.declared.volume.Volume.{Volume}
 use Rattle.dn_volume.specs.Balance.{times, raised_by, raised_to_share, raised_to_die, raised, added, dropped}
 use Rattle.dn_volume.specs.Parties.{flight_at}
 use Rattle.dn_volume.specs.Reclaims.{one_if, IsRaised}
-use Rattle.dn_volume.specs.Reserve.{owed_sum, units_to_share, changes_to_share, HasRoom}
+use Rattle.dn_volume.specs.Reserve.{owed_sum, units_to_share, changes_to_share, units_to_clean, queue_to_clean, HasRoom}
 use Rattle.dn_volume.specs.Agrees.{IsVolume, Agrees}
 use Rattle.dn_volume.specs.Events.{MovesOn, Breaks}
-use Rattle.dn_volume.specs.Works.{ReclaimLowers}
-use Rattle.dedupe_queue.specs.declared.Work.{Work}
+use Rattle.dn_volume.specs.Works.{ReleaseLowers, cleaning_events}
 use Rattle.dn_volume.proofs.CountsMoved.{MovesCounts}
 use Rattle.dn_volume.proofs.FewReleases.{dying_few}
 use Rattle.dn_volume.proofs.HandsKept.{hands_same, others_same, owed_same, added_same, flies_before}
@@ -46,6 +45,7 @@ use Rattle.reclaim.specs.Worked.{RaisesPlace}
 use Rattle.count_events.proofs.Event.{CountsOne, CountEvent, event_moves, event_breaks}
 use Rattle.count_events.proofs.RowsHere.{may_raise}
 use Rattle.count_events.proofs.Settled.{no_client}
+use Rattle.count_events.proofs.UsedPages.{used_same}
 use Rattle.reclaim.proofs.UnitsLost.{units_dying, units_some}
 
 same_place : (p q : DyingPlace) (r : Option DyingPlace) → r ≡ Some p → r ≡ Some q → p ≡ q
@@ -157,13 +157,19 @@ module _ (d : Disk) (b b' : Parts) (s u : State) (v : IsVolume d b s) (p : Dying
     changes_still : changes_to_share b'.sharing ≡ changes_to_share b.sharing
     changes_still = ap (λ (x : Option Sharing). changes_to_share x) change.sharing
 
+    clean_still : units_to_clean b'.reclaiming.cleaning ≡ units_to_clean b.reclaiming.cleaning
+    clean_still = ap (λ (x : _). units_to_clean x) change.kept.cleaning
+
+    due_still : queue_to_clean b'.reclaiming.cleaning ≡ queue_to_clean b.reclaiming.cleaning
+    due_still = ap (λ (x : _). queue_to_clean x) change.kept.cleaning
+
     room : HasRoom b' u
     room = record {
       owes = record {
-        units = omega (arith, v.room.owes.units, owed_still (λ room. room.units), units_still, one_now, none_was, zero_same, owed_units);
+        units = omega (arith, v.room.owes.units, owed_still (λ room. room.units), units_still, clean_still, one_now, none_was, zero_same, owed_units);
         trace = omega (arith, v.room.owes.trace, owed_still (λ room. room.trace), changes_still, owed_trace);
         history = omega (arith, v.room.owes.history, owed_still (λ room. room.history), owed_history);
-        queue = omega (arith, v.room.owes.queue, owed_still (λ room. room.queue), owed_queue);
+        queue = omega (arith, v.room.owes.queue, owed_still (λ room. room.queue), due_still, owed_queue);
         releases = omega (arith, v.room.owes.releases, owed_still (λ room. room.releases), one_now, none_was, owed_releases);
       };
       units = omega (arith, owed_units, units, spare);
@@ -182,8 +188,8 @@ module _ (d : Disk) (b b' : Parts) (s u : State) (v : IsVolume d b s) (p : Dying
       counted = counted;
       moves = moves;
       kept = change.kept;
-      hands = hands_same b b' change.flights change.sharing change.kept.inodes change.kept.queue;
-      same = others_same b b' change.flights change.sharing 16;
+      hands = hands_same b b' change.flights change.sharing change.kept.cleaning change.kept.inodes change.kept.queue;
+      same = others_same b b' change.flights change.sharing change.kept.cleaning 16;
       ops = ops_same b b' change.flights;
       running = change.stopped;
       clients = ap (λ (fs : List (Option Flight)). length fs) change.flights;
@@ -258,10 +264,13 @@ module _ {D F : Type 0} (state : D → State) (w : Volume D F) (p : DyingPlace) 
           room.units spare room.trace room.releases)
 
 -- less work is left
-pub place_lowers : (b b' : Parts) (p : DyingPlace) (word : ℕ) → RaisesPlace p word b b' → ReclaimLowers b b' b'.reclaiming.waiting
-place_lowers b b' p word change = record {
-  left_is = refl;
+pub place_lowers : (b b' : Parts) (p : DyingPlace) (word left : ℕ) → RaisesPlace p word b b'
+    → left ≡ b'.reclaiming.waiting + cleaning_events b'.reclaiming.cleaning → ReleaseLowers b b' left
+place_lowers b b' p word left change told = record {
+  left_is = told;
   less = omega (arith, change.waiting);
-  queue = change.kept.queue;
+  cleaning = change.kept.cleaning;
   sharing = change.sharing;
+  queue = change.kept.queue;
+  pages = used_same b b' change.kept.free change.kept.cleaning;
 }

@@ -1,5 +1,5 @@
 -- An event after room was made for it.
-use Rattle.std.proofs.Common.{◌≡◌, ◌⊎◌, ℕ, ◌+◌, ◌-◌, ◌<◌, ◌≤◌, List, ◌++◌, length, refl, sym, ◌∙◌, ap, subst}
+use Rattle.std.proofs.Common.{◌≡◌, ◌⊎◌, ℕ, ◌+◌, ◌-◌, ◌<◌, ◌≤◌, List, ◌++◌, refl, sym, ◌∙◌, ap, subst}
 use Rattle.std.specs.Prelude.{Option, None}
 use Rattle.pm_device.specs.State.{State, Agree}
 use Rattle.dn_model.specs.Disk.{Disk}
@@ -15,7 +15,7 @@ use Rattle.dn_volume.specs.Agrees.{IsVolume, Agrees, agrees_with}
 use Rattle.dn_volume.specs.Begins.{IsUntouched}
 use Rattle.dn_volume.specs.Events.{Counts, Moves, MovesOn, Breaks}
 use Rattle.dn_volume.specs.Kept.{SameButRoom, OfInodes, IsSameInode}
-use Rattle.dn_volume.specs.Works.{Works, Stand, ReclaimWorks, ReclaimLowers, reclaim_stand}
+use Rattle.dn_volume.specs.Works.{Works, Stand, ReleaseWorks, ReleaseLowers, release_stand, used_pages}
 use Rattle.dn_volume.specs.declared.volume.InodeState.{InodeState}
 use Rattle.dn_volume.proofs.SameRoom.{inodes_same, room_joins}
 use Rattle.reclaim.specs.RoomMade.{MakesRoom}
@@ -44,6 +44,7 @@ module _ {D F : Type 0} (state : D → State) (w w1 : Volume D F) (made : MakesR
       raised = same_part (λ p. p.reclaiming.raised) refl;
       releases = made.releases;
       waiting = same_part (λ p. p.reclaiming.waiting) refl;
+      cleaning = same_part (λ p. p.reclaiming.cleaning) refl;
       trace = made.trace;
       stopped = same_part (λ p. p.stopped) refl;
     };
@@ -70,6 +71,7 @@ module _ {D F : Type 0} (state : D → State) (w w1 : Volume D F) (made : MakesR
     others_since is = record {
       flights = λ q some ne. is.flights q some ne ∙ same_part (λ p. flight_at p.flights.items (q - 1)) refl;
       sharing = λ ne. is.sharing ne ∙ same_part (λ p. p.sharing) refl;
+      cleaning = λ ne. is.cleaning ne ∙ same_part (λ p. p.reclaiming.cleaning) refl;
     }
 
     ops_since : KeepsOps w1.parts w2.parts → KeepsOps w.parts w2.parts
@@ -148,17 +150,19 @@ module _ {D F : Type 0} (state : D → State) (w w1 : Volume D F) (made : MakesR
     works_since stand lowers on NoMemory is = (untouched_since is.0, is.1, is.2)
     works_since stand lowers on Stopped is = (breaks_since None is.0, is.1)
 
-  pub reclaim_since : (w2 : Volume D F) (print : Print) (d : Disk) (outcome : Outcome) → ReclaimWorks state print w1 w2 d outcome
-      → ReclaimWorks state print w w2 d outcome
+  pub reclaim_since : (w2 : Volume D F) (print : Print) (d : Disk) (outcome : Outcome) → ReleaseWorks state print w1 w2 d outcome
+      → ReleaseWorks state print w w2 d outcome
   reclaim_since w2 print d outcome is =
-      works_since w2 print 16 d (reclaim_stand w.parts) ReclaimLowers
+      works_since w2 print 16 d (release_stand w.parts) ReleaseLowers
       (λ n less. record {
         left_is = less.left_is;
         less = subst (λ (k : ℕ). w2.parts.reclaiming.waiting < k) (same_part (λ p. p.reclaiming.waiting) refl) less.less;
-        queue = less.queue ∙ same_part (λ p. p.queue.items) refl;
+        cleaning = less.cleaning ∙ same_part (λ p. p.reclaiming.cleaning) refl;
         sharing = less.sharing ∙ same_part (λ p. p.sharing) refl;
+        queue = less.queue ∙ same_part (λ p. p.queue.items) refl;
+        pages = subst (λ (k : ℕ). used_pages w2.parts ≤ k) (same_part (λ p. used_pages p) refl) less.pages;
       }) outcome
-      (subst (λ (p : Parts). Works state print 16 (reclaim_stand p) ReclaimLowers w1 w2 d outcome) made.parts is)
+      (subst (λ (p : Parts). Works state print 16 (release_stand p) ReleaseLowers w1 w2 d outcome) made.parts is)
 
   pub room_agrees : Agree (state w.device).now (state w.device).past → (d : Disk) → IsVolume d w.parts (state w.device) → Agrees state w1
   room_agrees agree d v = agrees_with d (room_is agree d v)

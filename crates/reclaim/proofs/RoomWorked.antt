@@ -11,7 +11,7 @@ use Rattle.dn_volume.specs.declared.volume.Parts.{Parts}
 use Rattle.dn_volume.specs.declared.volume.Room.{Room}
 use Rattle.dn_volume.specs.Parties.{Flies}
 use Rattle.dn_volume.specs.Reclaims.{one_if}
-use Rattle.dn_volume.specs.Reserve.{owed_sum, units_to_reclaim, units_to_share, changes_to_share, Owes, HasRoom}
+use Rattle.dn_volume.specs.Reserve.{owed_sum, units_to_reclaim, units_to_share, changes_to_share, queue_to_clean, Owes, HasRoom}
 use Rattle.dn_volume.proofs.HandsKept.{owed_same}
 use Rattle.reclaim.specs.Worked.{KeepsWork}
 use Rattle.reclaim.proofs.WorkEvent.{flies_back}
@@ -36,12 +36,15 @@ module _ (b b' : Parts) (s u : State) (kept : KeepsWork b b') (moves : MovesRoom
   changes_shared : changes_to_share b'.sharing ≡ changes_to_share b.sharing
   changes_shared = ap (λ (x : _). changes_to_share x) kept.sharing
 
+  due_same : queue_to_clean b'.reclaiming.cleaning ≡ queue_to_clean b.reclaiming.cleaning
+  due_same = ap (λ (x : _). queue_to_clean x) kept.cleaning
+
   owes : Owes b'
   owes = record {
     units = omega (arith, was.owes.units, sum_same (λ room. room.units), units_shared, moves.units);
     trace = omega (arith, was.owes.trace, sum_same (λ room. room.trace), changes_shared, kept.owed_trace);
     history = omega (arith, was.owes.history, sum_same (λ room. room.history), kept.owed_history);
-    queue = omega (arith, was.owes.queue, sum_same (λ room. room.queue), kept.owed_queue);
+    queue = omega (arith, was.owes.queue, sum_same (λ room. room.queue), due_same, kept.owed_queue);
     releases = omega (arith, was.owes.releases, sum_same (λ room. room.releases), moves.releases);
   }
 

@@ -13,7 +13,7 @@ use Rattle.dn_model.specs.Disk.{Disk, DiskSays}
 use Rattle.dn_volume.specs.declared.flight.Flight.{Flight}
 use Rattle.dn_model.specs.declared.op.CountChange.{CountChange}
 use Rattle.dn_volume.specs.declared.volume.Parts.{Parts}
-use Rattle.dn_volume.specs.Parties.{Flies, Holds, by_client, by_daemon, Takes, for_client}
+use Rattle.dn_volume.specs.Parties.{Flies, Holds, by_client, by_daemon, by_cleaning, Takes, for_client, for_cleaning}
 use Rattle.dn_volume.specs.Flights.{IsFlight}
 use Rattle.dn_volume.specs.Balance.{times, AreCounted}
 use Rattle.dn_volume.specs.Shares.{IsWaiting, in_queue, is_begun}
@@ -23,6 +23,8 @@ use Rattle.dn_volume.specs.Rely.{LeavesRest, IsFor, IsWordOf}
 use Rattle.dn_volume.proofs.Stills.{still_same}
 use Rattle.dn_volume.proofs.OthersStay.{others_stay}
 use Rattle.dn_volume.proofs.MappingsMoved.{mappings_counted}
+use Rattle.dn_volume.proofs.Lefts.{left_still}
+use Rattle.count_events.proofs.CleaningKept.{cleaning_kept}
 use Rattle.count_events.proofs.Settled.{no_client}
 
 module _ (s t : State) (same : IsSame s t) where
@@ -60,16 +62,20 @@ module _ (d : Disk) (b c : Parts) (s t : State) (v : IsVolume d b s) (same : IsS
   holds_still : (who ino : ℕ) → Holds b who ino → Holds b' who ino
   holds_still who ino (by_client f flies has) = by_client f (record { client = flies.client; is = flies.is }) has
   holds_still who ino (by_daemon item him at same) = by_daemon item him at same
+  holds_still who ino (by_cleaning cleaning him at same) = by_cleaning cleaning him at same
 
   holds_before : (who ino : ℕ) → Holds b' who ino → Holds b who ino
   holds_before who ino (by_client f flies has) = by_client f (record { client = flies.client; is = flies.is }) has
   holds_before who ino (by_daemon item him at same) = by_daemon item him at same
+  holds_before who ino (by_cleaning cleaning him at same) = by_cleaning cleaning him at same
 
   takes_still : (who page : ℕ) → Takes b who page → Takes b' who page
   takes_still who page (for_client f flies has) = for_client f (record { client = flies.client; is = flies.is }) has
+  takes_still who page (for_cleaning cleaning him at has) = for_cleaning cleaning him at has
 
   takes_before : (who page : ℕ) → Takes b' who page → Takes b who page
   takes_before who page (for_client f flies has) = for_client f (record { client = flies.client; is = flies.is }) has
+  takes_before who page (for_cleaning cleaning him at has) = for_cleaning cleaning him at has
 
   waits_still : (ino slot : ℕ) → IsWaiting b ino slot → IsWaiting b' ino slot
   waits_still ino slot (in_queue work n has of_ino of_slot at round) = in_queue work n has of_ino of_slot at round
@@ -102,7 +108,7 @@ module _ (d : Disk) (b c : Parts) (s t : State) (v : IsVolume d b s) (same : IsS
   for_it = record { inode = λ i has. absurd (omega (arith, has.1)); page = λ page has. absurd (omega (arith, has.1)) }
 
   stay : (q : ℕ) (f : Flight) → q ≢ 16 → Flies b' q f → IsFlight d q f t
-  stay = (others_stay 16 [] [] d d b b' s t v fast for_it leaves (record { flights = λ q some ne. refl; sharing = λ ne. refl }) (λ ne. refl)).0
+  stay = (others_stay 16 [] [] d d b b' s t v fast for_it leaves (record { flights = λ q some ne. refl; sharing = λ ne. refl; cleaning = λ ne. refl }) (λ ne. refl)).0
 
   below : (q : ℕ) (f : Flight) → Flies b' q f → q ≢ 16
   below q f flies e = no_client b q f v.flights.clients (omega (arith, e)) (record { client = flies.client; is = flies.is })
@@ -157,7 +163,8 @@ module _ (d : Disk) (b c : Parts) (s t : State) (v : IsVolume d b s) (same : IsS
       takes = λ who page takes. v.space.takes who page (takes_before who page takes);
       taken = λ page some. takes_still (v.space.taker page) page (v.space.taken page some);
       unused = v.space.unused;
-      left = v.space.left;
+      some = v.space.some;
+      left = left_still b b' refl (takes_still 16) v.space.left;
     };
     table = v.table;
     counts = counts;
@@ -169,6 +176,8 @@ module _ (d : Disk) (b c : Parts) (s t : State) (v : IsVolume d b s) (same : IsS
       zero_check = v.reclaiming.zero_check;
       raised = v.reclaiming.raised;
     };
+    cleaning = cleaning_kept [] [] d d b b' s t v leaves.rest leaves.only refl (λ cleaning at has. absurd (omega (arith, has.1)))
+        (λ cleaning at page took has. absurd (omega (arith, has.1)));
     pointers = v.pointers;
     room = room;
     trace = subst (All (λ (change : CountChange). change.slot < slots b.geometry)) (sym items) v.trace;

@@ -10,6 +10,7 @@ use Rattle.law_write.specs.Events.{IsUnused}
 use Rattle.fact_table.specs.Table.{Table}
 use Rattle.dn_volume.specs.declared.volume.Parts.{Parts}
 use Rattle.dn_volume.specs.Space.{HasSpace, AreSlotsOf}
+use Rattle.dn_volume.proofs.Lefts.{left_more}
 use Rattle.reclaim.specs.Worked.{Gives, KeepsWork}
 use Rattle.reclaim.proofs.WorkEvent.{takes_on, takes_back}
 
@@ -65,7 +66,8 @@ module _ (d e : Disk) (b b' : Parts) (kept : KeepsWork b b') (given : ℕ → Ty
     takes = λ who page takes. space.takes who page (takes_back b b' kept who page takes);
     taken = λ page some. takes_on b b' kept (space.taker page) page (space.taken page some);
     unused = λ page some. then page (inl (space.unused page some));
-    left = omega (arith, space.left, gives.no_less);
+    some = omega (arith, space.some, gives.no_less);
+    left = left_more b b' (λ page has. (gives.free page).1 (inl has)) (takes_on b b' kept 16) space.left;
   }
 
 -- the table that is kept in memory, where the rows stay

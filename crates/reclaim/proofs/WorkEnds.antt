@@ -1,5 +1,5 @@
 -- The events of dying files and the zero check, from what their calls give.
-use Rattle.std.proofs.Common.{◌≡◌, ℕ, ◌+◌, ◌*◌, ◌/◌, ◌<◌, ◌≤◌, false, List, [], ◌∷◌, length, refl, sym, ap, subst, arith}
+use Rattle.std.proofs.Common.{◌≡◌, ℕ, ◌+◌, ◌*◌, ◌/◌, ◌<◌, ◌≤◌, false, List, [], ◌∷◌, length, sym, ap, subst, arith}
 use Rattle.std.specs.Prelude.{Option, Some, None, Contains}
 use Rattle.std.specs.VecDeque.{deque_len, deque_capacity}
 use Rattle.pm_device.specs.State.{State, Agree, Rose}
@@ -23,9 +23,10 @@ use Rattle.dn_volume.specs.declared.volume.Volume.{Volume}
 use Rattle.dn_volume.specs.Reclaims.{one_if}
 use Rattle.dn_volume.specs.Agrees.{IsVolume, Agrees, agrees_with}
 use Rattle.dn_volume.specs.Events.{MovesOn, Breaks}
-use Rattle.dn_volume.specs.Works.{MayWork, ReclaimLowers, reclaim_stand}
+use Rattle.dn_volume.specs.Works.{MayWork, ReleaseLowers, release_stand, cleaning_events, used_pages}
 use Rattle.dn_volume.proofs.Tables.{is_table, running_disk}
 use Rattle.count_events.specs.Released.{Stops}
+use Rattle.count_events.proofs.UsedPages.{used_less}
 use Rattle.reclaim.specs.Worked.{KeepsWork, Gives, DropsPlace, FreesPlace, EndsInode}
 use Rattle.reclaim.specs.Walked.{LeadsThrough}
 use Rattle.reclaim.specs.Dying.{IsAt, IsLastOf, IsUnmapped}
@@ -51,12 +52,24 @@ pub sets_at : (at word value : ℕ) (s u : State) → at ≡ word → SetsWord a
 sets_at at word value s u same = subst (λ (a : ℕ). SetsWord a value s u) same
 
 -- there is work
-pub some_work : (b : Parts) → 1 ≤ b.reclaiming.waiting → MayWork (reclaim_stand b)
+pub some_work : (b : Parts) → 1 ≤ b.reclaiming.waiting → MayWork (release_stand b)
 some_work b some = record { some = λ rests. omega (arith, some, rests); loose = λ holder none. none }
 
 -- and less of it afterwards
-pub less_work : (b b' : Parts) → KeepsWork b b' → b'.reclaiming.waiting < b.reclaiming.waiting → ReclaimLowers b b' b'.reclaiming.waiting
-less_work b b' kept less = record { left_is = refl; less = less; queue = ap (λ (q : _). q.items) kept.queue; sharing = kept.sharing }
+pub less_work : (b b' : Parts) (left : ℕ) → KeepsWork b b' → b'.reclaiming.waiting < b.reclaiming.waiting → used_pages b' ≤ used_pages b
+    → left ≡ b'.reclaiming.waiting + cleaning_events b'.reclaiming.cleaning → ReleaseLowers b b' left
+less_work b b' left kept less used told = record {
+  left_is = told;
+  less = less;
+  cleaning = kept.cleaning;
+  sharing = kept.sharing;
+  queue = ap (λ (q : _). q.items) kept.queue;
+  pages = used;
+}
+
+pub gives_used : (given : ℕ → Type 0) (b b' : Parts) → Gives given b.free b'.free → b'.reclaiming.cleaning ≡ b.reclaiming.cleaning
+    → used_pages b' ≤ used_pages b
+gives_used given b b' gives cleaning = used_less b b' gives.pages gives.no_less cleaning
 
 pub done_at : (at word value : ℕ) (s u : State) → at ≡ word → IsDone 16 at value s u → IsDone 16 word value s u
 done_at at word value s u same = subst (λ (a : ℕ). IsDone 16 a value s u) same

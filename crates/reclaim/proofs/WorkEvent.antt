@@ -9,15 +9,16 @@ use Rattle.pm_device.specs.Settled.{LeavesOnly, StoresOnly}
 use Rattle.pm_layout.specs.declared.Geometry.{Geometry}
 use Rattle.pm_layout.specs.Geometry.{IsAccepted, slots}
 use Rattle.dn_model.specs.Maps.{Mapping}
-use Rattle.dn_model.specs.Disk.{Disk, Dying}
+use Rattle.dn_model.specs.Disk.{Disk, Use, Live, Dying}
 use Rattle.dn_model.specs.Files.{files, named, IsSameFiles}
 use Rattle.dn_model.specs.Own.{Print, IsOwn, LivePlace}
 use Rattle.dn_volume.specs.declared.flight.Flight.{Flight}
 use Rattle.dn_model.specs.declared.op.CountChange.{CountChange}
+use Rattle.dn_volume.specs.declared.background.Cleaning.{Cleaning}
 use Rattle.dn_volume.specs.declared.volume.InodeState.{InodeState}
 use Rattle.dn_volume.specs.declared.volume.Parts.{Parts}
 use Rattle.dn_volume.specs.declared.volume.Volume.{Volume}
-use Rattle.dn_volume.specs.Parties.{Flies, Holds, by_client, by_daemon, Takes, for_client, SameOthers, KeepsOps, flight_at}
+use Rattle.dn_volume.specs.Parties.{Flies, Holds, by_client, by_daemon, by_cleaning, Takes, for_client, for_cleaning, SameOthers, KeepsOps, flight_at}
 use Rattle.dn_volume.specs.Inodes.{AreInodesOf, AreHolders}
 use Rattle.dn_volume.specs.Space.{HasSpace, AreSlotsOf}
 use Rattle.dn_volume.specs.Balance.{AreCounted}
@@ -36,6 +37,7 @@ use Rattle.dn_volume.proofs.OthersStay.{others_stay}
 use Rattle.count_events.specs.Released.{Stops}
 use Rattle.reclaim.specs.Worked.{KeepsWork}
 use Rattle.count_events.proofs.Settled.{no_client}
+use Rattle.count_events.proofs.CleaningKept.{cleaning_kept}
 
 -- who holds an inode, and how often its log was replaced, is what it was
 pub record KeepsNodes (old new : List InodeState) : Type 0 where
@@ -74,19 +76,23 @@ module _ (b b' : Parts) (kept : KeepsWork b b') where
   pub holds_on : (who ino : ℕ) → Holds b who ino → Holds b' who ino
   holds_on who ino (by_client f flies has) = by_client f (flies_on who f flies) has
   holds_on who ino (by_daemon item him is same) = by_daemon item him (kept.sharing ∙ is) same
+  holds_on who ino (by_cleaning c him is same) = by_cleaning c him (kept.cleaning ∙ is) same
 
   pub holds_back : (who ino : ℕ) → Holds b' who ino → Holds b who ino
   holds_back who ino (by_client f flies has) = by_client f (flies_back who f flies) has
   holds_back who ino (by_daemon item him is same) = by_daemon item him (sym kept.sharing ∙ is) same
+  holds_back who ino (by_cleaning c him is same) = by_cleaning c him (sym kept.cleaning ∙ is) same
 
   pub takes_on : (who page : ℕ) → Takes b who page → Takes b' who page
   takes_on who page (for_client f flies has) = for_client f (flies_on who f flies) has
+  takes_on who page (for_cleaning c him is has) = for_cleaning c him (kept.cleaning ∙ is) has
 
   pub takes_back : (who page : ℕ) → Takes b' who page → Takes b who page
   takes_back who page (for_client f flies has) = for_client f (flies_back who f flies) has
+  takes_back who page (for_cleaning c him is has) = for_cleaning c him (sym kept.cleaning ∙ is) has
 
   pub others_same : (who : ℕ) → SameOthers who b b'
-  others_same who = record { flights = λ q some ne. flight_same _; sharing = λ ne. kept.sharing }
+  others_same who = record { flights = λ q some ne. flight_same _; sharing = λ ne. kept.sharing; cleaning = λ ne. kept.cleaning }
 
   pub ops_kept : KeepsOps b b'
   ops_kept = ops_same b b' (ap (λ (fs : _). fs.items) kept.flights)
@@ -95,8 +101,15 @@ module _ (inodes : List ℕ) (d e : Disk) (b b' : Parts) (s u : State) (v : IsVo
   for_it : IsFor d b 16 inodes []
   for_it = record { inode = λ i has. let dies = is.dying i has in inr (refl, dies.0, dies.1); page = λ page has. absurd (omega (arith, has.1)) }
 
-  stay : ((q : ℕ) (f : Flight) → q ≢ 16 → Flies b' q f → IsFlight e q f u) × StayInHand 16 e b'
+  stay : ((q : ℕ) (f : Flight) → q ≢ 16 → Flies b' q f → IsFlight e q f u) × StayInHand 16 e b' u
   stay = others_stay 16 inodes [] d e b b' s u v is.fast for_it is.leaves (others_same b b' is.kept 16) (λ ne. absurd (ne refl))
+
+  -- the log that is being cleaned is that of a live inode
+  clean_apart : (c : Cleaning) → b.reclaiming.cleaning ≡ Some c → Contains inodes c.ino → ⊥
+  clean_apart c at has = let dies = is.dying c.ino has in clash (d.inode c.ino).use_of dies.0 (v.cleaning c at).live dies.1
+    where
+      clash : (use_is : Use) (cut : ℕ) → use_is ≡ Live → use_is ≡ Dying cut → ⊥
+      clash use_is cut live dying = cc
 
   below : (q : ℕ) (f : Flight) → Flies b' q f → q ≢ 16
   below q f flies me = no_client b q f v.flights.clients (omega (arith, me)) (flies_back b b' is.kept q f flies)
@@ -138,6 +151,8 @@ module _ (inodes : List ℕ) (d e : Disk) (b b' : Parts) (s u : State) (v : IsVo
     queue = record { waits = λ ino idx m place undone. waits_on ino m.slot (v.queue.waits ino idx m (is.live ino idx m place) undone) };
     sharing = stay.1.sharing (omega arith);
     reclaiming = is.reclaiming;
+    cleaning = cleaning_kept inodes [] d e b b' s u v is.leaves.rest is.leaves.only is.kept.cleaning clean_apart
+        (λ c at page took has. absurd (omega (arith, has.1)));
     pointers = is.pointers;
     room = is.room;
     trace = trace_after;
@@ -200,6 +215,7 @@ module _ {D F : Type 0} (state : D → State) (print : Print) (w w' : Volume D F
       others = record {
         flights = λ q some other. ap (λ (fs : List (Option Flight)). flight_at fs (q - 1)) stops.flights;
         sharing = λ other. stops.sharing;
+        cleaning = λ other. stops.cleaning;
       };
       trace = record { more = []; trace = stops.trace ∙ sym (append-nil w.parts.trace.items) };
       geometry = stops.geometry;

@@ -25,7 +25,7 @@ use Rattle.dn_volume.specs.declared.background.DyingPlace.{DyingPlace}
 use Rattle.dn_volume.specs.declared.volume.Parts.{Parts}
 use Rattle.dn_volume.specs.Balance.{times, raised, added, dropped, added_to_share, AreCounted}
 use Rattle.dn_volume.specs.Reclaims.{one_if}
-use Rattle.dn_volume.specs.Reserve.{owed_sum}
+use Rattle.dn_volume.specs.Reserve.{owed_sum, units_to_clean}
 use Rattle.dn_volume.specs.Agrees.{StandsFast, IsVolume}
 use Rattle.dn_volume.specs.Events.{IsBetween}
 use Rattle.dn_volume.proofs.CountsMoved.{SameUnderWay}
@@ -49,6 +49,7 @@ checks_since b t f b' is = record {
     owed_trace = is.kept.owed_trace;
     owed_history = is.kept.owed_history;
     owed_queue = is.kept.owed_queue;
+    cleaning = is.kept.cleaning;
     made = is.kept.made;
   };
   inodes = is.inodes;
@@ -67,6 +68,7 @@ stops_since b t b' is = record {
   stopped = is.stopped;
   flights = is.flights;
   sharing = is.sharing;
+  cleaning = is.cleaning;
   trace = is.trace;
   history = is.history;
   made = is.made;
@@ -78,6 +80,7 @@ stops_freed b f b' is = record {
   stopped = is.stopped;
   flights = is.flights;
   sharing = is.sharing;
+  cleaning = is.cleaning;
   trace = is.trace;
   history = is.history;
   made = is.made;
@@ -116,7 +119,7 @@ module _ (b b' : Parts) (slot : ℕ) (pending : b.reclaiming.zero_check ≡ Some
 
     pub zero_moves : s.spare ≤ u.spare + 6 → MovesRoom b b' s u
     zero_moves spare = record {
-      units = omega (arith, checks.units, one_was, none_now, raised_one);
+      units = let clean = ap (λ (x : _). units_to_clean x) checks.kept.cleaning in omega (arith, checks.units, one_was, none_now, raised_one, clean);
       spare = omega (arith, checks.units, v.room.units, spare);
       releases = omega (arith, checks.owed_releases, raised_one);
       room = let len = ap (λ (r : _). deque_len r) checks.releases in omega (arith, len, checks.owed_releases);

@@ -52,3 +52,4 @@ pub record IsWalking (pages : List ℕ) (i page : ℕ) (old now : FreePages) : T
   pub at : page ≡ slice_index pages i
   pub inside : i < length pages
   pub given : Gives (IsAmong pages i) old now
+  pub counted : length now.free ≡ length old.free + i

@@ -43,6 +43,7 @@ pub record KeepsWork (b b' : Parts) : Type 0 where
   pub owed_trace : b'.owed.trace ≡ b.owed.trace
   pub owed_history : b'.owed.history ≡ b.owed.history
   pub owed_queue : b'.owed.queue ≡ b.owed.queue
+  pub cleaning : b'.reclaiming.cleaning ≡ b.reclaiming.cleaning
   pub made : Counts b b'
 
 -- these pages became free, and nothing else changed
@@ -66,6 +67,7 @@ pub record FallsTo (place : ℕ) (old new : InodeState) : Type 0 where
   pub size : new.size ≡ old.size
   pub round : new.round ≡ old.round
   pub holder : new.holder ≡ old.holder
+  pub log_pages : new.log_pages ≡ old.log_pages
   pub map : CutsOff place old.map new.map
 
 -- it is free
@@ -74,6 +76,7 @@ pub record EndsState (old new : InodeState) : Type 0 where
   pub size : new.size ≡ old.size
   pub round : new.round ≡ old.round
   pub holder : new.holder ≡ old.holder
+  pub log_pages : new.log_pages ≡ old.log_pages
   pub map : new.map ≡ old.map
 
 -- the zero check is made

@@ -4,7 +4,7 @@ ghost use Rattle.std.specs.VecDeque.{deque_len};
 ghost use Rattle.dn_model.specs.Disk.{Disk};
 ghost use Rattle.dn_volume.specs.Reclaims.{IsRaised};
 ghost use Rattle.dn_volume.specs.Agrees.{Agrees, IsVolume};
-ghost use Rattle.dn_volume.specs.Works.{ReclaimWorks};
+ghost use Rattle.dn_volume.specs.Works.{ReleaseWorks};
 ghost use Rattle.reclaim.specs.Worked.{RaisesPlace};
 ghost use Rattle.reclaim.specs.RoomMade.{HasRoomFor};
 ghost use Rattle.reclaim.specs.Dying.{IsDyingState, IsDying, IsLeastDying, IsLastOf, IsUnmapped};
@@ -12,7 +12,7 @@ ghost use Rattle.reclaim.specs.Dying.{IsDyingState, IsDying, IsLeastDying, IsLas
 use crate::end::end_inode;
 use crate::fall::free_place;
 use count_events::raise::raise_at;
-use count_events::release::stop;
+use count_events::release::{left_to_reclaim, stop};
 use dn_volume::units::FALL_UNITS;
 use dn_volume::{CountChange, DyingPlace, InodeState, InodeUse, Outcome, Parts, RECLAIM, Volume};
 use fingerprint::Fingerprint;
@@ -46,13 +46,13 @@ pub fn raise_place<D: Pm, F: Fingerprint>(v: &mut Volume<D, F>, p: DyingPlace) -
     requires room { HasRoomFor D.state v.old }
     ensures agrees { Agrees D.state v.new }
     ensures event { (d : Disk) → IsVolume d v.old.parts (D.state v.old.device)
-        → ReclaimWorks D.state F.print v.old v.new d result }
+        → ReleaseWorks D.state F.print v.old v.new d result }
 {
     match raise_at(&v.parts.fact, &mut v.device, RECLAIM, p.slot) {
         Ok(word) => {
             note_place(&mut v.parts, p, word);
             Outcome::Running {
-                left: v.parts.reclaiming.waiting,
+                left: left_to_reclaim(&v.parts),
             }
         }
         Err(_) => {
@@ -106,7 +106,7 @@ fn go_on<D: Pm, F: Fingerprint>(v: &mut Volume<D, F>, ino: u64) -> Outcome
     requires room { HasRoomFor D.state v.old }
     ensures agrees { Agrees D.state v.new }
     ensures event { (d : Disk) → IsVolume d v.old.parts (D.state v.old.device)
-        → ReclaimWorks D.state F.print v.old v.new d result }
+        → ReleaseWorks D.state F.print v.old v.new d result }
 {
     match last_place(&v.parts.inodes[ino as usize]) {
         None => end_inode(v, ino),
@@ -132,7 +132,7 @@ pub fn next_dying<D: Pm, F: Fingerprint>(v: &mut Volume<D, F>) -> Outcome
     requires room { HasRoomFor D.state v.old }
     ensures agrees { Agrees D.state v.new }
     ensures event { (d : Disk) → IsVolume d v.old.parts (D.state v.old.device)
-        → ReclaimWorks D.state F.print v.old v.new d result }
+        → ReleaseWorks D.state F.print v.old v.new d result }
 {
     match least_dying(&v.parts.inodes) {
         Some(ino) => go_on(v, ino),

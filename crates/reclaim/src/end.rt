@@ -3,12 +3,12 @@ ghost use Rattle.std.specs.Prelude.{◌≡◌, ◌+◌, ◌*◌, ◌≤◌, ◌<
 ghost use Rattle.pm_layout.specs.Geometry.{IsAccepted};
 ghost use Rattle.dn_model.specs.Disk.{Disk};
 ghost use Rattle.dn_volume.specs.Agrees.{Agrees, IsVolume};
-ghost use Rattle.dn_volume.specs.Works.{ReclaimWorks};
+ghost use Rattle.dn_volume.specs.Works.{ReleaseWorks};
 ghost use Rattle.reclaim.specs.Worked.{Gives, ChangesOne, EndsState, EndsInode};
 ghost use Rattle.reclaim.specs.Walked.{LeadsThrough, CanGiveLog};
 ghost use Rattle.reclaim.specs.Dying.{IsAt, IsUnmapped};
 
-use count_events::release::stop;
+use count_events::release::{left_to_reclaim, stop};
 use dn_volume::{InodeState, InodeUse, Outcome, Parts, RECLAIM, Volume};
 use fingerprint::Fingerprint;
 use inode_table::{HEAD, STATE, TAIL, read_field};
@@ -21,13 +21,15 @@ use pm_layout::Geometry;
 const LINK: u64 = 504;
 
 /// Gives back the pages of an inode's log, from the head along the footers to the page of the tail.
-fn give_back_log<D: Pm>(free: &mut FreeSet, device: &D, g: &Geometry, ino: u64)
+pub fn give_back_log<D: Pm>(free: &mut FreeSet, device: &D, g: &Geometry, ino: u64)
     requires accepted { IsAccepted g.now }
     requires size { length (D.state device.now).now ≡ 512 * g.now.pages }
     requires ino { ino < g.now.inodes }
     requires can { CanGiveLog (D.state device.now).now g.now ino free.old }
-    ensures { (pages : List ℕ) → LeadsThrough (D.state device.now).now g.now ino pages
+    ensures gives { (pages : List ℕ) → LeadsThrough (D.state device.now).now g.now ino pages
         → Gives (Contains pages) free.old free.new }
+    ensures counted { (pages : List ℕ) → LeadsThrough (D.state device.now).now g.now ino pages
+        → length free.new.free ≡ length free.old.free + length pages }
 {
     let tail = read_field(device, g, ino, TAIL);
     if tail == 0 {
@@ -80,7 +82,7 @@ pub fn end_inode<D: Pm, F: Fingerprint>(v: &mut Volume<D, F>, ino: u64) -> Outco
     requires units { v.old.parts.owed.units + SET_UNITS ≤ (D.state v.old.device).spare }
     ensures agrees { Agrees D.state v.new }
     ensures event { (d : Disk) → IsVolume d v.old.parts (D.state v.old.device)
-        → ReclaimWorks D.state F.print v.old v.new d result }
+        → ReleaseWorks D.state F.print v.old v.new d result }
 {
     let g = v.parts.geometry;
     give_back_log(&mut v.parts.free, &v.device, &g, ino);
@@ -88,7 +90,7 @@ pub fn end_inode<D: Pm, F: Fingerprint>(v: &mut Volume<D, F>, ino: u64) -> Outco
         Ok(()) => {
             note_end(&mut v.parts, ino);
             Outcome::Running {
-                left: v.parts.reclaiming.waiting,
+                left: left_to_reclaim(&v.parts),
             }
         }
         Err(_) => {

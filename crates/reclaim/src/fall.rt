@@ -4,11 +4,11 @@ ghost use Rattle.std.specs.VecDeque.{deque_len, deque_capacity};
 ghost use Rattle.dn_model.specs.Disk.{Disk};
 ghost use Rattle.fact_table.specs.Table.{IsTable, HasNoneOf};
 ghost use Rattle.dn_volume.specs.Agrees.{Agrees, IsVolume};
-ghost use Rattle.dn_volume.specs.Works.{ReclaimWorks};
+ghost use Rattle.dn_volume.specs.Works.{ReleaseWorks};
 ghost use Rattle.reclaim.specs.Worked.{ChangesOne, FallsTo, DropsPlace, FreesPlace};
 ghost use Rattle.reclaim.specs.Dying.{IsAt, IsLastOf};
 
-use count_events::release::stop;
+use count_events::release::{left_to_reclaim, stop};
 use dn_volume::units::FALL_UNITS;
 use dn_volume::{DyingPlace, InodeState, InodeUse, Outcome, Parts, RECLAIM, Volume};
 use fingerprint::Fingerprint;
@@ -73,7 +73,7 @@ pub fn drop_place<D: Pm, F: Fingerprint>(v: &mut Volume<D, F>) -> Outcome
     requires raised { IsSome v.old.parts.reclaiming.raised }
     ensures agrees { Agrees D.state v.new }
     ensures event { (d : Disk) → IsVolume d v.old.parts (D.state v.old.device)
-        → ReclaimWorks D.state F.print v.old v.new d result }
+        → ReleaseWorks D.state F.print v.old v.new d result }
 {
     let Some(p) = v.parts.reclaiming.raised else {
         unreachable!();
@@ -83,7 +83,7 @@ pub fn drop_place<D: Pm, F: Fingerprint>(v: &mut Volume<D, F>) -> Outcome
         Ok(()) => {
             note_drop(&mut v.parts, p);
             Outcome::Running {
-                left: v.parts.reclaiming.waiting,
+                left: left_to_reclaim(&v.parts),
             }
         }
         Err(_) => {
@@ -110,14 +110,14 @@ pub fn free_place<D: Pm, F: Fingerprint>(
     requires units { v.old.parts.owed.units + SET_UNITS ≤ (D.state v.old.device).spare }
     ensures agrees { Agrees D.state v.new }
     ensures event { (d : Disk) → IsVolume d v.old.parts (D.state v.old.device)
-        → ReclaimWorks D.state F.print v.old v.new d result }
+        → ReleaseWorks D.state F.print v.old v.new d result }
 {
     let word = v.parts.geometry.inode_word(ino, CUT);
     match set_word(&mut v.device, RECLAIM, word, place) {
         Ok(()) => {
             note_freed(&mut v.parts, ino, place, page);
             Outcome::Running {
-                left: v.parts.reclaiming.waiting,
+                left: left_to_reclaim(&v.parts),
             }
         }
         Err(_) => {

@@ -4,7 +4,7 @@ ghost use Rattle.std.specs.VecDeque.{deque_len, deque_capacity};
 ghost use Rattle.pm_device.specs.State.{IsSame};
 ghost use Rattle.dn_model.specs.Disk.{Disk};
 ghost use Rattle.dn_volume.specs.Agrees.{Agrees, IsVolume};
-ghost use Rattle.dn_volume.specs.Works.{ReclaimWorks};
+ghost use Rattle.dn_volume.specs.Works.{ReleaseWorks};
 ghost use Rattle.reclaim.specs.RoomMade.{MakesRoom, HasRoomFor};
 
 use crate::dying::next_dying;
@@ -51,7 +51,7 @@ fn begin_work<D: Pm, F: Fingerprint>(v: &mut Volume<D, F>) -> Outcome
     requires room { HasRoomFor D.state v.old }
     ensures agrees { Agrees D.state v.new }
     ensures event { (d : Disk) → IsVolume d v.old.parts (D.state v.old.device)
-        → ReclaimWorks D.state F.print v.old v.new d result }
+        → ReleaseWorks D.state F.print v.old v.new d result }
 {
     if v.parts.reclaiming.releases.is_empty() {
         next_dying(v)
@@ -61,15 +61,16 @@ fn begin_work<D: Pm, F: Fingerprint>(v: &mut Volume<D, F>) -> Outcome
 }
 
 /// One event of reclaim: the pending zero check, the raised place of a dying file, the first waiting release, or the next
-/// event of the least dying inode, whichever comes first in this order. `Running` tells the units of work that are
-/// left, `Idle` that there are none. Where a zero check or a raised place is begun it takes no memory; `NoMemory`
-/// elsewhere, where nothing was changed. `Stopped` where a fence of the device failed.
+/// event of the least dying inode, whichever comes first in this order. `Running` tells how many events are left, with
+/// those of a cleaning that is begun, which is left as it is. `Idle` where nothing waits. Where a zero check or a raised
+/// place is begun it takes no memory; `NoMemory` elsewhere, where nothing was changed. `Stopped` where a fence of the
+/// device failed.
 pub fn reclaim<D: Pm, F: Fingerprint>(v: &mut Volume<D, F>) -> Outcome
     requires agrees { Agrees D.state v.old }
     requires running { v.old.parts.stopped ≡ false }
     ensures agrees { Agrees D.state v.new }
     ensures event { (d : Disk) → IsVolume d v.old.parts (D.state v.old.device)
-        → ReclaimWorks D.state F.print v.old v.new d result }
+        → ReleaseWorks D.state F.print v.old v.new d result }
 {
     if v.parts.reclaiming.zero_check.is_some() {
         return check_zero(v);

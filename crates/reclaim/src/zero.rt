@@ -4,11 +4,11 @@ ghost use Rattle.pm_layout.specs.Geometry.{slots};
 ghost use Rattle.dn_model.specs.Disk.{Disk};
 ghost use Rattle.fact_table.specs.Table.{HasTable};
 ghost use Rattle.dn_volume.specs.Agrees.{Agrees, IsVolume};
-ghost use Rattle.dn_volume.specs.Works.{ReclaimWorks};
+ghost use Rattle.dn_volume.specs.Works.{ReleaseWorks};
 ghost use Rattle.reclaim.specs.Worked.{Checks};
 ghost use Rattle.reclaim.specs.Zero.{IsZeroRow, IsCountedRow};
 
-use count_events::release::stop;
+use count_events::release::{left_to_reclaim, stop};
 use dn_volume::units::ZERO_CHECK_UNITS;
 use dn_volume::{Outcome, Parts, RECLAIM, Volume};
 use fact_changes::remove_zero;
@@ -53,14 +53,14 @@ fn remove_row<D: Pm, F: Fingerprint>(v: &mut Volume<D, F>, slot: u64, page: u64)
     requires zero { IsZeroRow (D.state v.old.device).now v.old.parts.fact slot page }
     ensures agrees { Agrees D.state v.new }
     ensures event { (d : Disk) → IsVolume d v.old.parts (D.state v.old.device)
-        → ReclaimWorks D.state F.print v.old v.new d result }
+        → ReleaseWorks D.state F.print v.old v.new d result }
 {
     match remove_zero(&mut v.parts.fact, &mut v.device, RECLAIM, slot) {
         Ok(()) => {
             v.parts.free.give_back(page);
             note_checked(&mut v.parts);
             Outcome::Running {
-                left: v.parts.reclaiming.waiting,
+                left: left_to_reclaim(&v.parts),
             }
         }
         Err(_) => {
@@ -78,7 +78,7 @@ pub fn check_zero<D: Pm, F: Fingerprint>(v: &mut Volume<D, F>) -> Outcome
     requires pending { IsSome v.old.parts.reclaiming.zero_check }
     ensures agrees { Agrees D.state v.new }
     ensures event { (d : Disk) → IsVolume d v.old.parts (D.state v.old.device)
-        → ReclaimWorks D.state F.print v.old v.new d result }
+        → ReleaseWorks D.state F.print v.old v.new d result }
 {
     let Some(slot) = v.parts.reclaiming.zero_check else {
         unreachable!();
@@ -88,7 +88,7 @@ pub fn check_zero<D: Pm, F: Fingerprint>(v: &mut Volume<D, F>) -> Outcome
         None => {
             note_checked(&mut v.parts);
             Outcome::Running {
-                left: v.parts.reclaiming.waiting,
+                left: left_to_reclaim(&v.parts),
             }
         }
     }

@@ -36,6 +36,7 @@ use Rattle.file_ops.proofs.Changed.{data_same}
 use Rattle.file_ops.proofs.CutAfter.{plans, after, changes, ready, own_after, files_after, granted, cut, may, refill_of, runs_here}
 use Rattle.file_ops.proofs.Ended.{Decides}
 use Rattle.file_ops.proofs.Known.{fact_of}
+use Rattle.file_ops.proofs.Nodes.{log_grown}
 use Rattle.file_ops.proofs.Ready.{can_end}
 use Rattle.file_ops.proofs.Slots.{cut_slot}
 use Rattle.size_ops.specs.Ending.{IsLastOfCut, CutsMap, CutsAt, CanFinishCut}
@@ -214,12 +215,14 @@ module _ (d : Disk) (b : Parts) (s : State) (who : ℕ) (f : Flight) (c : DataCh
     others = cuts_at.others;
     here = λ old new was now.
         let cuts_it = cuts_at.here old new was now in
+        let here = ap (λ (ns : _). slice_get ns.items f.ino) (sym inodes) ∙ was in
         record {
           used = cuts_it.used;
           size_is = cuts_it.size_is;
+          log_pages = log_grown d cut_after f c from (4096 - from) changed old new (v.inodes.each f.ino old here) cuts_it.log_pages;
           round = cuts_it.round;
           holder = cuts_it.holder;
-          places = new_places old (ap (λ (ns : _). slice_get ns.items f.ino) (sym inodes) ∙ was) tail tail_is new cuts_it.places;
+          places = new_places old here tail tail_is new cuts_it.places;
         };
   }
 

@@ -58,13 +58,10 @@ module _ {D F : Type 0} (state : D → State) (v v1 : Volume D F) (d : Disk) (is
     all_needed : length (taken_by f) ≡ ask.needed → length v1.parts.free.free ≡ ask.needed + length free'.free
     all_needed long = omega (arith, took-length v1.parts.free free' (taken_by f) takes, long)
 
-    left : length (taken_by f) ≡ ask.needed → 2 ≤ length free'.free
-    left long = elim (cases_lt 0 ask.needed) [
-      | inl some ↦ elim (cases_lt (length v.parts.free.free) (ask.needed + 4)) [
-        | inl lacks ↦ absurd (has.space (omega (arith, asks.needs, some), omega (arith, asks.needs, asks.keeps, lacks)))
-        | inr enough ↦ omega (arith, enough, all_needed long, ap (λ (x : FreePages). length x.free) only.keeps.same.free)
-      ]
-      | inr none ↦ omega (arith, none, all_needed long, ap (λ (x : FreePages). length x.free) only.keeps.same.free, is_v.space.left)
+    left : length (taken_by f) ≡ ask.needed → 0 < length (taken_by f) → 2 ≤ length free'.free
+    left long some = elim (cases_lt (length v.parts.free.free) (ask.needed + 4)) [
+      | inl lacks ↦ absurd (has.space (omega (arith, asks.needs, some, long), omega (arith, asks.needs, asks.keeps, lacks)))
+      | inr enough ↦ omega (arith, enough, all_needed long, ap (λ (x : FreePages). length x.free) only.keeps.same.free)
     ]
 
     pub held_inside : (ino : ℕ) → Contains ready.held.items ino → ino < length v1.parts.inodes.items

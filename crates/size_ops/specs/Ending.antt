@@ -68,11 +68,12 @@ pub record CutsMap (c : DataChange) (tail : ℕ) (fresh : List ℕ) (old new : F
         bit = 0;
       })
 
--- the inode has the new size and is let go, and its places are cut
+-- the inode has the new size and is let go, its log has these pages more, and its places are cut
 pub record CutsState (c : DataChange) (tail : ℕ) (fresh : List ℕ) (old new : InodeState) : Type 0
   where
     pub used : new.used ≡ old.used
     pub size_is : new.size ≡ c.size
+    pub log_pages : new.log_pages ≡ old.log_pages + length fresh
     pub round : new.round ≡ old.round
     pub holder : new.holder ≡ None
     pub places : CutsMap c tail fresh old.map.map new.map.map

@@ -1,5 +1,5 @@
 // A cut ends in what is kept in memory.
-ghost use Rattle.std.specs.Prelude.{◌≡◌, ◌/◌, ◌<◌, ◌≤◌, ℕ, length, All, Some, slice_get};
+ghost use Rattle.std.specs.Prelude.{◌≡◌, ◌/◌, ◌+◌, ◌<◌, ◌≤◌, ℕ, length, All, Some, slice_get};
 ghost use Rattle.dn_volume.specs.declared.flight.DataChange.{DataChange as DataOf};
 ghost use Rattle.dn_volume.specs.declared.volume.InodeState.{InodeState as StateOf};
 ghost use Rattle.dn_volume.specs.Planned.{gone_from};
@@ -47,21 +47,23 @@ fn cut_map(map: &mut PageMap, change: &DataChange, tail: u64, fresh: &[u64])
     }
 }
 
-// So it is with the state of the inode, which is let go.
+// So it is with the state of the inode, whose log has these pages more, and which is let go.
 fn cut_state(node: &mut InodeState, change: &DataChange, tail: u64, fresh: &[u64])
     requires can { CanCut change.now node.old.map.room }
     requires tail { tail < 4194304 }
     requires fresh { All (λ page. page < 65536) fresh.now }
+    requires log { node.old.log_pages + length fresh.now < 18446744073709551616 }
     ensures { CutsState change.now tail fresh.now node.old node.new }
 {
     cut_map(&mut node.map, change, tail, fresh);
     node.size = change.size;
+    node.log_pages += fresh.len() as u64;
     node.holder = None;
 }
 
 /// Drops the places of a file that a cut takes away, maps the one that is filled anew, whose item stands past this tail
-/// of the inode's log, and lets the inode go.
-pub fn cut_inode(
+/// of the inode's log, counts the log's new pages, and lets the inode go.
+pub(crate) fn cut_inode(
     inodes: &mut Vec<InodeState>,
     ino: u64,
     change: &DataChange,
@@ -73,6 +75,8 @@ pub fn cut_inode(
         n.map.room }
     requires tail { tail < 4194304 }
     requires fresh { All (λ page. page < 65536) fresh.now }
+    requires log { (n : StateOf) → slice_get inodes.old.items ino ≡ Some n
+        → n.log_pages + length fresh.now < 18446744073709551616 }
     ensures { CutsAt ino change.now tail fresh.now inodes.old.items inodes.new.items }
 {
     cut_state(&mut inodes[ino as usize], change, tail, fresh);

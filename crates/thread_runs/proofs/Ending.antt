@@ -13,7 +13,7 @@ use Rattle.dn_volume.specs.declared.flight.Flight.{Flight}
 use Rattle.dn_volume.specs.declared.volume.Volume.{Volume}
 use Rattle.dn_volume.specs.Parties.{Flies, flight_of}
 use Rattle.dn_volume.specs.Resting.{AllLanded}
-use Rattle.dn_core.specs.Rest.{AllRest}
+use Rattle.dn_core.specs.Rest.{CountsRest}
 use Rattle.dn_core.specs.declared.event.Event.TheVariants.{Daemon, Reclaim}
 use Rattle.count_board.specs.declared.board.Board.{Board}
 use Rattle.count_board.specs.declared.pass.Pass.{Pass}
@@ -32,7 +32,7 @@ use Rattle.dn_shared.specs.declared.call.CallFault.TheVariants as fault
 use Rattle.dn_shared.specs.declared.site.Site.{Site}
 use Rattle.dn_shared.specs.Ends.{HasCalls, HasNoOthers, HasInHand, HasRead, HasSeenPast, OfEach, AreCountWords, CountsAsTraced, StoppedSince, flying}
 use Rattle.dn_shared.specs.Marks.{SaysLast, SaysStopped}
-use Rattle.dn_shared.specs.Sites.{hand_in, mark_of, is_deserted, daemon_rests, reclaim_rests}
+use Rattle.dn_shared.specs.Sites.{hand_in, mark_of, is_deserted, daemon_rests, none_released}
 use Rattle.dn_shared.specs.Turns.{IsOver}
 use Rattle.dn_shared.proofs.Hands.{of_flies}
 use Rattle.dn_shared.proofs.Marked.{past_last}
@@ -358,10 +358,10 @@ module _ {D F : Type 0} (b : Board (Site D F)) (last : ℕ) (clients : List (ℕ
             let says = says_over (IsOver Reclaim) k (task k) (s.part.reclaim refl) (ok k (omega arith) (omega arith)) in
             (past_of (account (task k).pass) s.past (IsOver Reclaim) says).counts says.2.0
 
-        pub rests : AllRest v.parts
+        pub rests : CountsRest v.parts
         rests = record {
           daemon = daemon_rested v.parts (over_rests (daemon_rests v.parts) daemon_over);
-          reclaim = waits_none v.parts.reclaiming.waiting (over_rests (reclaim_rests v.parts) counts_over);
+          none_waits = waits_none v.parts.reclaiming.waiting (over_rests (none_released v.parts) counts_over);
         }
 
         read_by : (c : ℕ × List Line) (r : Readings) → IsClientOf last clients c → IsReadIn (last + 2) tasks c r

@@ -6,7 +6,7 @@ use Rattle.pm_layout.specs.Geometry.{slots}
 use Rattle.dn_model.specs.declared.op.CountChange.{CountChange}
 use Rattle.dn_volume.specs.declared.volume.Volume.{Volume}
 use Rattle.dn_volume.specs.Resting.{AllLanded}
-use Rattle.dn_core.specs.Rest.{AllRest}
+use Rattle.dn_core.specs.Rest.{CountsRest}
 use Rattle.count_board.specs.Reads.{ReadsFit}
 use Rattle.dn_shared.specs.Ends.{AreCountWords, CountsAsTraced}
 use Rattle.dn_script.specs.declared.job.Line.{Line}
@@ -32,14 +32,14 @@ abbrev pub HasReadings : ℕ → List ℕ → List CountChange → List (ℕ × 
 HasReadings slots words trace clients readings =
     Pairs (IsReadBy slots words trace) clients readings
 
--- Every line was run: the history has each client's operations, nothing is in flight, and nothing
--- is left for the daemon or for reclaim.
+-- Every line was run: the history has each client's operations, nothing is in flight, nothing is left
+-- for the daemon, and nothing waits to be released.
 pub record RanThreads {D F : Type 0} (state : D → State) (clients : List (ℕ × List Line))
     (u v : Volume D F) (readings : List Readings) : Type 0 where
   pub scripted : IsScripted (scripts_in clients) v.parts.history.items
   pub landed : AllLanded v.parts
   pub running : v.parts.stopped ≡ false
-  pub rests : AllRest v.parts
+  pub rests : CountsRest v.parts
   -- the count word of each slot as the threads began
   pub words : List ℕ
   pub opening : AreCountWords state u words

@@ -27,6 +27,7 @@ returns c =
         history = refl;
         history_len = refl;
         history_capacity = refl;
+        cleaning = refl;
       };
       flight = λ f flies.
           ap (λ (x : Option (Option Flight)). opened x) (get_here b.flights.items (c.args.who - 1) c.count_raise.new.flight

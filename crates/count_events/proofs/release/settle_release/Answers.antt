@@ -1,4 +1,4 @@
-use Rattle.count_events.proofs.Ends.{may_settle, two_wait, may_work, lowers, stopped_agrees, fails, succeeds, agrees_after, err_is}
+use Rattle.count_events.proofs.Ends.{may_settle, two_wait, may_work, lowers, left_small, stopped_agrees, fails, succeeds, agrees_after, err_is}
 use Rattle.count_events.proofs.release.settle_release.Goals as goal
 
 pub settle_row-requires-clause-row : goal.settle_row-requires-clause-row
@@ -23,7 +23,7 @@ returns-in-Ok-clause-event g c = λ d v. (
   may_work g.D.Pm.state c.args.v.now c.index-slot.result.now c.requires.some c.index-slot.ensures c.requires.agrees c.requires.running
       c.requires.unraised,
   lowers g.D.Pm.state c.args.v.now c.index-slot.result.now c.requires.some c.index-slot.ensures c.note_release.new.parts c.in-Ok.word
-      c.note_release.ensures,
+      c.left_to_reclaim.result c.note_release.ensures c.left_to_reclaim.ensures,
 )
 
 pub returns-in-Err-clause-event : goal.returns-in-Err-clause-event
@@ -35,6 +35,11 @@ returns-in-Err-clause-event g c = λ d v. (
   may_work g.D.Pm.state c.args.v.now c.index-slot.result.now c.requires.some c.index-slot.ensures c.requires.agrees c.requires.running
       c.requires.unraised,
 )
+
+pub left_to_reclaim-requires : goal.left_to_reclaim-requires
+left_to_reclaim-requires g c =
+    left_small g.D.Pm.state c.args.v.now c.index-slot.result.now c.requires.some c.index-slot.ensures c.note_release.new.parts c.in-Ok.word
+    c.note_release.ensures c.requires.agrees c.requires.running
 
 pub note_release-requires-clause-waiting : goal.note_release-requires-clause-waiting
 note_release-requires-clause-waiting g c =

@@ -1,4 +1,6 @@
-use Rattle.std.proofs.Common.{ℕ, sym, subst}
+use Rattle.std.proofs.Common.{◌≡◌, ℕ, ◌+◌, ◌^◌, ◌<◌, sym, subst}
+use Rattle.std.specs.Prelude.{Some, slice_get}
+use Rattle.dn_volume.specs.declared.volume.InodeState.{InodeState}
 use Rattle.dn_volume.specs.Works.{DaemonLowers}
 use Rattle.dn_volume.proofs.Tables.{running_disk}
 use Rattle.count_events.proofs.Ends.{err_is}
@@ -17,6 +19,8 @@ use Rattle.dedupe_daemon.proofs.ShareEnds.{
   remap_below,
   remap_taken,
   remap_there,
+  remap_long,
+  remapped_by,
   remap_few,
   remap_stops,
   remap_breaks,
@@ -74,6 +78,13 @@ note_remapped-requires-clause-there g c = remap_there g.D.Pm.state c.args.v.now 
     c.place_to_remap-n.result
     c.place_to_remap-n.ensures c.take_for-fresh.new.free c.take_for-fresh.result c.take_for-fresh.ensures.takes c.requires.agrees c.requires.running
 
+pub note_remapped-requires-clause-few : goal.note_remapped-requires-clause-few
+note_remapped-requires-clause-few g c = subst (λ (k : ℕ). (node : InodeState) → slice_get c.args.v.now.parts.inodes.items c.place_to_remap-n.result.ino
+    ≡ Some node → node.log_pages + k < 2 ^ 64) (sym c.pages_more-more.ensures)
+    (remap_long g.D.Pm.state c.args.v.now c.args.sharing c.requires.begun c.args.slot c.requires.step
+    c.place_to_remap-n.result
+    c.place_to_remap-n.ensures c.take_for-fresh.new.free c.take_for-fresh.result c.take_for-fresh.ensures.takes c.requires.agrees c.requires.running)
+
 pub note_remapped-requires-clause-below : goal.note_remapped-requires-clause-below
 note_remapped-requires-clause-below g c = remap_below g.D.Pm.state c.args.v.now c.args.sharing c.requires.begun c.args.slot c.requires.step
     c.place_to_remap-n.result
@@ -108,7 +119,7 @@ returns-in-Ok-clause-agrees g c =
     (record { device = c.append_with.new.device; print = c.args.v.now.print; kept = c.args.v.now.kept; parts = c.note_remapped.new.parts }) c.append_with.ensures.images
     c.append_with.ensures.only
     c.append_with.ensures.faults found.0 found.1 c.in-Ok.ensures.done c.in-Ok.ensures.settles c.append_with.ensures.spare c.item_slot.result
-    c.item_slot.ensures c.note_remapped.ensures
+    c.item_slot.ensures (remapped_by _ _ _ _ _ _ _ c.pages_more-more.ensures c.note_remapped.ensures)
 
 pub returns-in-Ok-clause-event : goal.returns-in-Ok-clause-event
 returns-in-Ok-clause-event g c = λ d v. (
@@ -117,7 +128,7 @@ returns-in-Ok-clause-event g c = λ d v. (
       (record { device = c.append_with.new.device; print = c.args.v.now.print; kept = c.args.v.now.kept; parts = c.note_remapped.new.parts }) c.append_with.ensures.images
       c.append_with.ensures.only
       c.append_with.ensures.faults d v c.in-Ok.ensures.done c.in-Ok.ensures.settles c.append_with.ensures.spare c.item_slot.result
-      c.item_slot.ensures c.note_remapped.ensures,
+      c.item_slot.ensures (remapped_by _ _ _ _ _ _ _ c.pages_more-more.ensures c.note_remapped.ensures),
   remap_work g.D.Pm.state c.args.v.now c.args.sharing c.requires.begun c.args.slot c.requires.step c.place_to_remap-n.result
       c.place_to_remap-n.ensures c.take_for-fresh.new.free c.take_for-fresh.result c.take_for-fresh.ensures.takes d,
   subst (λ (n : ℕ). DaemonLowers c.args.v.now.parts c.note_remapped.new.parts n) (sym c.events_left.ensures)
@@ -126,7 +137,7 @@ returns-in-Ok-clause-event g c = λ d v. (
       (record { device = c.append_with.new.device; print = c.args.v.now.print; kept = c.args.v.now.kept; parts = c.note_remapped.new.parts }) c.append_with.ensures.images
       c.append_with.ensures.only
       c.append_with.ensures.faults d v c.in-Ok.ensures.done c.in-Ok.ensures.settles c.append_with.ensures.spare c.item_slot.result
-      c.item_slot.ensures c.note_remapped.ensures),
+      c.item_slot.ensures (remapped_by _ _ _ _ _ _ _ c.pages_more-more.ensures c.note_remapped.ensures)),
 )
 
 pub returns-in-Err-clause-agrees : goal.returns-in-Err-clause-agrees

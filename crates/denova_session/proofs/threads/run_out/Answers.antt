@@ -17,7 +17,7 @@ returns-in-Ok-drain_rest-clause-ends g c =
     let d = c.in-Ok-drain_rest.ensures in
     let ran = subst (λ (x : _). EndsThreads S c.args.clients.now c.args.volume r.result.1 x) c.in-Ok.is r.ensures.ends in
     drained_ends S g.F.Fingerprint.print c.args.clients.now c.requires.clients c.args.volume r.result.1 r.ensures.keeps c.in-Ok.readings ran
-    c.drain_rest.new.v d.sound d.history d.landed (d.nothing ran.rests) d.drained
+    c.drain_rest.new.v d.sound d.history d.landed (d.keeps ran.rests).1 d.drained
 
 pub returns-in-Err-drain_rest-clause-ends : goal.returns-in-Err-drain_rest-clause-ends
 returns-in-Err-drain_rest-clause-ends g c =

@@ -1,13 +1,11 @@
-use Rattle.std.proofs.Common.{◌≡◌, ◌++◌, ◌∷◌, [], Bool, true, false, List, refl, sym, subst}
-use Rattle.std.specs.Prelude.{Ok, Err, IfErr}
+use Rattle.std.proofs.Common.{◌++◌, ◌∷◌, [], Bool, subst}
+use Rattle.std.specs.Prelude.{Ok}
 use Rattle.std.proofs.lemmas.Result.{err_from_is_err_and}
-use Rattle.dn_core.specs.declared.event.Event.{Event}
 use Rattle.dn_core.specs.declared.event.Event.TheVariants.{Daemon, Reclaim}
-use Rattle.dn_core.specs.declared.event.DrainFault.{DrainFault}
-use Rattle.dn_core.specs.Rest.{AreFullRounds, AreRounds, no_round, one_more, full, half, DrainFails}
-use Rattle.dn_core.specs.Working.{WorksOnce, Draining}
+use Rattle.dn_core.specs.Rest.{no_round, one_more, full, half}
+use Rattle.dn_core.specs.Working.{WorksOnce}
 use Rattle.dn_core.proofs.Adding.{runs_stay_sound}
-use Rattle.dn_core.proofs.Drains.{draining_none, draining_on, ended_run, ended_history, ended_quiet, ended_fails, both_rest, round_lowers, first_of, second_of, not_both}
+use Rattle.dn_core.proofs.Drains.{draining_none, draining_on, ended_run, ended_quiet, ended_fails, both_rest, round_lowers, first_of, second_of, not_both}
 use Rattle.dn_core.proofs.draining.drain.Goals as goal
 
 pub loop-reclaim_rests-init : goal.loop-reclaim_rests-init
@@ -119,6 +117,15 @@ returns-then-reclaim_rests-daemon_rests-clause-nothing g c rests =
     let last = draining_on g.D.Pm.state g.F.Fingerprint.print c.args.v.now c.work_once.new.v c.work_once-in-loop-reclaim_rests.new.v
     (so.0 ++ Reclaim ∷ []) Daemon tt mid c.in_ok-daemon_rests.daemon_rests c.in_ok-daemon_rests.ensures.once in
     (last.quiet rests).1
+
+pub returns-then-reclaim_rests-daemon_rests-clause-keeps : goal.returns-then-reclaim_rests-daemon_rests-clause-keeps
+returns-then-reclaim_rests-daemon_rests-clause-keeps g c =
+    let so = c.loop-reclaim_rests.invariant.so_far in
+    let mid = draining_on g.D.Pm.state g.F.Fingerprint.print c.args.v.now c.loop-reclaim_rests.v c.work_once.new.v so.0 Reclaim tt so.2
+    c.in_ok-reclaim_rests.reclaim_rests c.in_ok-reclaim_rests.ensures.once in
+    let last = draining_on g.D.Pm.state g.F.Fingerprint.print c.args.v.now c.work_once.new.v c.work_once-in-loop-reclaim_rests.new.v
+    (so.0 ++ Reclaim ∷ []) Daemon tt mid c.in_ok-daemon_rests.daemon_rests c.in_ok-daemon_rests.ensures.once in
+    last.keeps
 
 pub returns-then-reclaim_rests-daemon_rests-clause-sound : goal.returns-then-reclaim_rests-daemon_rests-clause-sound
 returns-then-reclaim_rests-daemon_rests-clause-sound g c base sound =

@@ -1,8 +1,9 @@
-use Rattle.std.proofs.Common.{List, ℕ}
+use Rattle.std.proofs.Common.{List}
 use Rattle.dn_volume.specs.Agrees.{Agrees}
 use Rattle.dn_core.specs.declared.event.Event.{Event}
 use Rattle.dn_core.specs.Rest.{AreFullRounds}
-use Rattle.dn_core.specs.Working.{Draining, work_left}
+use Rattle.dn_volume.specs.Works.{work_left}
+use Rattle.dn_core.specs.Working.{Draining}
 use Rattle.dn_core.proofs.draining.drain.Given as goal
 
 abbrev pub invariant-loop-reclaim_rests : goal.invariant-loop-reclaim_rests

@@ -1,4 +1,4 @@
-use Rattle.std.proofs.Common.{◌≡◌, ◌++◌, ◌∷◌, [], List, sym, ap, subst, refl, arith}
+use Rattle.std.proofs.Common.{◌++◌, ◌∷◌, [], List, sym, subst, arith}
 use Rattle.dn_volume.specs.declared.outcome.Outcome.{Outcome}
 use Rattle.dn_core.specs.Run.{Run, Records, at_first, then_next}
 use Rattle.dn_core.proofs.Adding.{steps_add, records_none, records_next, runs_stay_sound}

@@ -1,4 +1,3 @@
-use Rattle.std.proofs.Common.{◌≡◌}
 use Rattle.dn_core.proofs.Served.{advance_served, advance_refused}
 use Rattle.dn_core.proofs.stepping.advance.Goals as goal
 

@@ -1,6 +1,5 @@
-use Rattle.std.proofs.Common.{◌≡◌, ◌∙◌, sym, ap}
+use Rattle.std.proofs.Common.{◌∙◌, sym, ap}
 use Rattle.std.specs.Prelude.{Some}
-use Rattle.dn_model.specs.Disk.{Disk}
 use Rattle.dn_volume.specs.declared.kind.FlightKind.TheVariants.{Write, Cut, Names}
 use Rattle.dn_core.proofs.Served.{found, flies_as, goes_on, some_machine}
 use Rattle.dn_core.proofs.stepping.advance_by.Goals as goal

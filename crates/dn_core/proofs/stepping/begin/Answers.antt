@@ -1,5 +1,4 @@
-use Rattle.std.proofs.Common.{◌≡◌}
-use Rattle.dn_core.proofs.Served.{begin_served, begin_refused}
+use Rattle.dn_core.proofs.Served.{begin_refused}
 use Rattle.dn_core.proofs.stepping.begin.Goals as goal
 
 pub returns-else-may_begin-clause-event : goal.returns-else-may_begin-clause-event

@@ -1,6 +1,4 @@
-use Rattle.std.proofs.Common.{◌≡◌}
-use Rattle.dn_model.specs.Disk.{Disk}
-use Rattle.dn_core.proofs.Served.{opens_instead, waits_some, running_still}
+use Rattle.dn_core.proofs.Served.{opens_instead}
 use Rattle.dn_core.proofs.stepping.begin_by.Goals as goal
 
 pub returns-in-Released-clause-event : goal.returns-in-Released-clause-event

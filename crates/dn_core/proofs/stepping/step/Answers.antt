@@ -1,4 +1,3 @@
-use Rattle.std.proofs.Common.{◌≡◌}
 use Rattle.dn_core.proofs.Sounds.{steps_stay_sound}
 use Rattle.dn_core.proofs.Leaves.{steps_leave_images}
 use Rattle.dn_core.proofs.Adding.{steps_add, records_none, records_next}

@@ -16,6 +16,7 @@ returns-clause-fresh c = record {
   unraised = refl;
   releases = c.new.ensures.items;
   waiting = refl;
+  cleaning = refl;
   history = c.new-2.ensures.items;
   trace = c.new-3.ensures.items;
   made = refl;

@@ -127,7 +127,7 @@ returns-in_default-append_items-clause-agrees g c =
     found.0 c.args.who f c.in-Data.change found.1 last.flies last.kind (fact found.0 c.args.v.now.parts (S c.args.v.now.device) c.args.who f
     c.in-Data.change found.1 last) last.name last.at last.text last.op_is last.all_filled last.all_raised
     between there c.append_items.ensures.faults
-    f.op refl refl refl refl refl refl c.count_call-v.ensures (c.in_default-append_items.ensures.failed refl)
+    f.op refl refl refl refl refl refl refl c.count_call-v.ensures (c.in_default-append_items.ensures.failed refl)
     c.put_back.ensures.here (λ k ne. c.put_back.ensures.others k ne ∙ c.end_flight-flight.ensures.others k ne)).stopped
 
 pub returns-in_default-append_items-clause-event : goal.returns-in_default-append_items-clause-event
@@ -148,7 +148,7 @@ returns-in_default-append_items-clause-event g c =
     c.in-Data.change v last.flies last.kind (fact d c.args.v.now.parts (S c.args.v.now.device) c.args.who f c.in-Data.change v last) last.name
     last.at last.text last.op_is last.all_filled last.all_raised
     between there c.append_items.ensures.faults
-    op op_same refl refl refl refl refl c.count_call-v.ensures (c.in_default-append_items.ensures.failed refl)
+    op op_same refl refl refl refl refl refl c.count_call-v.ensures (c.in_default-append_items.ensures.failed refl)
     c.put_back.ensures.here (λ k ne. c.put_back.ensures.others k ne ∙ c.end_flight-flight.ensures.others k ne)
 
 pub finish_parts-requires : goal.finish_parts-requires
@@ -222,7 +222,7 @@ returns-clause-agrees g c =
       history = refl;
     })
     (ends_at c.args.v.now.parts _ c.args.who f found.1.flights.clients c.end_flight-flight.ensures.clients c.end_flight-flight.ensures.was
-    c.end_flight-flight.ensures.landed c.end_flight-flight.ensures.others refl) gives finish)
+    c.end_flight-flight.ensures.landed c.end_flight-flight.ensures.others refl refl) gives finish)
 
 pub returns-clause-event : goal.returns-clause-event
 returns-clause-event g c =
@@ -273,7 +273,7 @@ returns-clause-event g c =
             history = refl;
           })
           (ends_at c.args.v.now.parts _ c.args.who f v.flights.clients c.end_flight-flight.ensures.clients c.end_flight-flight.ensures.was
-          c.end_flight-flight.ensures.landed c.end_flight-flight.ensures.others refl) gives finish op op_same (same_count c.args.v.now.parts.made c.count_call-v.result
+          c.end_flight-flight.ensures.landed c.end_flight-flight.ensures.others refl refl) gives finish op op_same (same_count c.args.v.now.parts.made c.count_call-v.result
           c.finish_parts.new.parts.made finish.made c.count_call-v.ensures),
       refl,
     )

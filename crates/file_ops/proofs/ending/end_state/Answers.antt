@@ -5,6 +5,7 @@ pub returns : goal.returns
 returns c = λ ino. record {
   used = refl;
   size_is = refl;
+  log_pages = refl;
   round = refl;
   holder = refl;
   file = λ d old_size first word held may tail grows. c.map_runs.ensures.file d ino old_size c.args.size first word held may tail grows;

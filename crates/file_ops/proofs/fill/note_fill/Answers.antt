@@ -31,6 +31,7 @@ returns c = λ f e flies kind.
                 ∙ c.count_fill.ensures f e (at_client b c.args.who f flies _ c.index_mut.ensures.value) kind;
             others = λ k ne. flight_there b.flights.items (c.args.who - 1) k c.count_fill.new.flight ne;
             sharing = refl;
+            cleaning = refl;
           };
           owed = record {
             units = let was = ap (units_by f) kind in omega (arith, was, some, c.requires.units);

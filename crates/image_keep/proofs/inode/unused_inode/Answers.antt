@@ -8,5 +8,6 @@ returns-clause-inode c = λ d ino is. record {
   use_is = is;
   size_is = λ used. absurd (subst IsUsed is used);
   small = omega arith;
+  log_pages = λ used. absurd (subst IsUsed is used);
   places = places_none d ino c.new.result.map is c.new.ensures;
 }

@@ -14,6 +14,6 @@ returns c = record {
     round = c.used_inode-node.ensures.round;
     few = omega (arith, c.count_places.ensures.few);
   };
-  node_is = λ d ino is index. c.used_inode-node.ensures.inode d ino is tt index;
+  node_is = λ d ino is index pages. c.used_inode-node.ensures.inode d ino is tt index pages;
   units_are = ap (λ (n : ℕ). 1 + 4 * n) c.count_places.ensures.places;
 }

@@ -13,6 +13,6 @@ returns c = record {
     round = c.used_inode.ensures.round;
     few = omega arith;
   };
-  node_is = λ d live index. c.used_inode.ensures.inode d c.args.ino live tt index;
+  node_is = λ d live index pages. c.used_inode.ensures.inode d c.args.ino live tt index pages;
   works = c.in_ok-queue_items.ensures.are;
 }

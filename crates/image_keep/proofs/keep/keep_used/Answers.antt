@@ -7,7 +7,7 @@ use Rattle.image_keep.proofs.keep.keep_used.Goals as goal
 pub returns-then-slot-eq-LIVE : goal.returns-then-slot-eq-LIVE
 returns-then-slot-eq-LIVE c = on_ok c.keep_live.result _ _ (λ keeps.
     kept_live c.args.ino c.args.kept.now c.keep_live.new.kept c.args.used c.if-slot-eq-LIVE.true
-    (subst (λ (ps : List PlacedItem). KeepsLive c.args.ino c.args.used.log.index ps c.args.kept.now c.keep_live.new.kept)
+    (subst (λ (ps : List PlacedItem). KeepsLive c.args.ino c.args.used.log.index c.args.used.log.pages ps c.args.kept.now c.keep_live.new.kept)
     c.deref.ensures.value keeps))
     c.keep_live.ensures
 

@@ -78,5 +78,6 @@ pub returns-clause-log : goal.returns-clause-log
 returns-clause-log g c =
     let index_is = subst (λ (xs : List PlacedItem). (log : Log) → map seen xs ≡ placed log → IsIndexOf log c.in_ok-index.index) c.deref.ensures.value
     c.in_ok-index.ensures.index in
+    let pages : c.len.result ≡ length c.in_ok-log.log.pages.items = omega (arith, c.len.ensures, c.in_ok-log.log.pages.ok.0) in
     log_is c.args.g.now (g.D.Pm.state c.args.device.now).now c.args.ino c.in_ok-log.log.pages.items c.in_ok-log.log.items.items c.requires.accepted
-    c.in_ok-log.ensures.log c.in_ok-index.index index_is _ refl refl
+    c.in_ok-log.ensures.log c.in_ok-index.index index_is _ refl refl pages

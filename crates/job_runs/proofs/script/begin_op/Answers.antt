@@ -1,11 +1,8 @@
-use Rattle.std.proofs.Common.{◌≡◌, ◌∙◌, ℕ, List, refl, sym, ap, subst}
-use Rattle.std.specs.Prelude.{Ok, Err}
+use Rattle.std.proofs.Common.{◌∙◌, subst}
 use Rattle.dn_model.specs.declared.op.Op.{Op}
-use Rattle.dn_volume.specs.declared.outcome.Outcome.{Outcome}
-use Rattle.dn_volume.specs.declared.outcome.Outcome.TheVariants as told
-use Rattle.dn_core.specs.declared.event.Event.TheVariants.{Begin, Advance}
+use Rattle.dn_core.specs.declared.event.Event.TheVariants.{Begin}
 use Rattle.dn_core.specs.Steps.{Steps}
-use Rattle.job_runs.specs.Telling.{BeginTells, AdvanceTells}
+use Rattle.job_runs.specs.Telling.{BeginTells}
 use Rattle.job_runs.proofs.Told.{begin_tells, begin_never}
 use Rattle.job_runs.proofs.Onward.{reach_none, reach_next, far_none, far_next, stopped_since, adds_since, steady_then}
 use Rattle.job_runs.proofs.script.begin_op.Goals as goal

@@ -1,4 +1,3 @@
-use Rattle.std.proofs.Common.{ℕ}
 use Rattle.dn_volume.specs.Agrees.{Agrees}
 use Rattle.job_runs.specs.Reaching.{Reaches, IsLoose}
 use Rattle.job_runs.specs.Telling.{SoFar}

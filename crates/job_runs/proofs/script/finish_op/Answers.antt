@@ -1,11 +1,5 @@
-use Rattle.std.proofs.Common.{◌≡◌, ◌∙◌, ℕ, List, refl, sym, ap, subst}
-use Rattle.std.specs.Prelude.{Ok, Err}
-use Rattle.dn_model.specs.declared.op.Op.{Op}
-use Rattle.dn_volume.specs.declared.outcome.Outcome.{Outcome}
-use Rattle.dn_volume.specs.declared.outcome.Outcome.TheVariants as told
-use Rattle.dn_core.specs.declared.event.Event.TheVariants.{Begin, Advance}
-use Rattle.dn_core.specs.Steps.{Steps}
-use Rattle.job_runs.specs.Telling.{BeginTells, AdvanceTells}
+use Rattle.std.proofs.Common.{◌∙◌, subst}
+use Rattle.job_runs.specs.Telling.{AdvanceTells}
 use Rattle.job_runs.proofs.Told.{advance_tells, advance_never}
 use Rattle.job_runs.proofs.Onward.{reach_none, reach_next, far_none, far_next, stopped_since, adds_since, steady_then}
 use Rattle.job_runs.proofs.script.finish_op.Goals as goal

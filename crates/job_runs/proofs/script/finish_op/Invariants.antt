@@ -1,4 +1,3 @@
-use Rattle.std.proofs.Common.{ℕ}
 use Rattle.dn_volume.specs.Agrees.{Agrees}
 use Rattle.dn_volume.specs.Parties.{flight_of}
 use Rattle.job_runs.specs.Reaching.{Reaches, FliesAlone}

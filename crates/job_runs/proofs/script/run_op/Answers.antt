@@ -1,4 +1,4 @@
-use Rattle.std.proofs.Common.{◌≡◌, Bool, true, subst}
+use Rattle.std.proofs.Common.{Bool, subst}
 use Rattle.std.specs.Prelude.{Ok}
 use Rattle.job_runs.specs.Reaching.{BeginsOp}
 use Rattle.job_runs.proofs.Onward.{reach_then, runs_since}

@@ -1,8 +1,8 @@
-use Rattle.std.proofs.Common.{◌≡◌, ◌∙◌, ◌++◌, ◌∷◌, [], List, take, drop, refl, sym, ap, subst}
+use Rattle.std.proofs.Common.{◌∙◌, ◌++◌, ◌∷◌, [], List, take, drop, sym, ap, subst}
 use Rattle.std.proofs.lemmas.List.{take_more, take-append-drop}
 use Rattle.std.proofs.lemmas.Result.{err_from_is_err_and}
 use Rattle.dn_model.specs.declared.op.Op.{Op}
-use Rattle.job_runs.specs.Reaching.{RunsAll, RunsScript}
+use Rattle.job_runs.specs.Reaching.{RunsAll}
 use Rattle.job_runs.proofs.Onward.{reach_none, reach_then, steady_none, steady_then, all_none, all_next, ends_since}
 use Rattle.job_runs.proofs.script.run_script.Goals as goal
 

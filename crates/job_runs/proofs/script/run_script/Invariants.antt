@@ -1,5 +1,4 @@
-use Rattle.std.proofs.Common.{ℕ, List, take}
-use Rattle.dn_model.specs.declared.op.Op.{Op}
+use Rattle.std.proofs.Common.{take}
 use Rattle.dn_volume.specs.Agrees.{Agrees}
 use Rattle.job_runs.specs.Reaching.{Reaches, IsLoose, RunsAll, IsSteady}
 use Rattle.job_runs.proofs.script.run_script.Given as goal

@@ -178,6 +178,7 @@ returns-in_default-commit_change-clause-event g c = λ d f v flies.
       flights = back_again b.flights.items c.take_flight-flight.new.flights.items c.put_back.new.flights.items c.args.who c.take_flight-flight.result
           c.take_flight-flight.ensures.was c.take_flight-flight.ensures.others c.put_back.ensures.here c.put_back.ensures.others;
       sharing = refl;
+      cleaning = refl;
       history = refl;
       trace = refl;
     }) counted d v)
@@ -205,6 +206,7 @@ returns-in_default-commit_change-clause-agrees g c =
       flights = back_again b.flights.items c.take_flight-flight.new.flights.items c.put_back.new.flights.items c.args.who c.take_flight-flight.result
           c.take_flight-flight.ensures.was c.take_flight-flight.ensures.others c.put_back.ensures.here c.put_back.ensures.others;
       sharing = refl;
+      cleaning = refl;
       history = refl;
       trace = refl;
     }) counted found.0 found.1).stopped

@@ -1,4 +1,4 @@
-use Rattle.std.proofs.Common.{◌∙◌, sym, ℕ, List}
+use Rattle.std.proofs.Common.{◌∙◌, sym}
 use Rattle.file_index.specs.Index.{Puts}
 use Rattle.dn_volume.proofs.Tables.{some_map}
 use Rattle.name_ops.specs.Ending.{MovesName}

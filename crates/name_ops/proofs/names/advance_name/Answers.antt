@@ -1,5 +1,4 @@
-use Rattle.std.proofs.Common.{sym, ◌∙◌, subst}
-use Rattle.dn_volume.specs.Begins.{IsNamesOp}
+use Rattle.std.proofs.Common.{sym, ◌∙◌}
 use Rattle.dn_volume.proofs.Tables.{running_disk}
 use Rattle.name_ops.proofs.Listed.{changes_names}
 use Rattle.name_ops.proofs.names.advance_name.Goals as goal

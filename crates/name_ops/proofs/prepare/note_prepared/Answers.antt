@@ -51,6 +51,7 @@ returns c = λ f x to.
             others = λ k ne. ap (λ (r : Option (Option Flight)). opened r) (get_there b.flights.items (c.args.who - 1) k
                 c.prepare_flight-units.new.flight ne);
             sharing = refl;
+            cleaning = refl;
           };
           owed = record {
             units = let was = ap (units_by f) to.change_is ∙ ap (λ (y : Bool). prepared_units y (slots_of f) + NAMES_UNITS) to.unprepared in

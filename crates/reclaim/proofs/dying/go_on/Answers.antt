@@ -1,9 +1,15 @@
 use Rattle.fact_table.specs.Seen.{as_row}
-use Rattle.reclaim.specs.Dying.{IsLastOf, IsUnmapped}
+use Rattle.reclaim.specs.Dying.{IsDyingState, IsLastOf, IsUnmapped}
 use Rattle.reclaim.proofs.NextPlace.{inside_list}
-use Rattle.reclaim.proofs.DyingFound.{state_at}
+use Rattle.reclaim.proofs.DyingFound.{state_at, node_at}
 use Rattle.reclaim.proofs.Machine.{has_table, page_small, place_is_raised}
 use Rattle.reclaim.proofs.dying.go_on.Goals as goal
+
+pub last_place-requires : goal.last_place-requires
+last_place-requires g c =
+    let nodes = c.args.v.now.parts.inodes.items in
+    node_at IsDyingState nodes c.args.ino c.index.result.now (inside_list nodes c.args.ino c.requires.dying.node c.requires.dying.there)
+    c.index.ensures c.requires.dying
 
 pub end_inode-requires-clause-none : goal.end_inode-requires-clause-none
 end_inode-requires-clause-none g c =

@@ -1,6 +1,8 @@
 use Rattle.dn_volume.specs.Agrees.{is_stopped}
 use Rattle.dn_volume.proofs.Tables.{running_disk}
+use Rattle.std.proofs.Common.{◌+◌, arith}
 use Rattle.count_events.proofs.Ends.{err_is}
+use Rattle.count_events.proofs.EventsLeft.{left_falls}
 use Rattle.reclaim.proofs.WorkEnds.{moved_agrees, some_work}
 use Rattle.reclaim.proofs.PlaceRaised.{place_row, place_waits, place_fails, place_moves, place_lowers}
 use Rattle.reclaim.proofs.dying.raise_place.Goals as goal
@@ -11,6 +13,11 @@ raise_at-requires-clause-row g c = place_row g.D.Pm.state c.args.v.now c.args.p 
 pub note_place-requires-clause-waiting : goal.note_place-requires-clause-waiting
 note_place-requires-clause-waiting g c = place_waits g.D.Pm.state c.args.v.now c.args.p c.requires.place c.requires.agrees c.requires.running
     c.requires.unraised
+
+pub left_to_reclaim-requires : goal.left_to_reclaim-requires
+left_to_reclaim-requires g c =
+    left_falls g.D.Pm.state c.args.v.now c.requires.agrees c.requires.running c.note_place.new.parts
+    (omega (arith, c.note_place.ensures.waiting)) c.note_place.ensures.kept.cleaning
 
 pub returns-in-Ok-clause-agrees : goal.returns-in-Ok-clause-agrees
 returns-in-Ok-clause-agrees g c =
@@ -31,7 +38,8 @@ returns-in-Ok-clause-event g c = λ d v. (
       g.F.Fingerprint.print d v,
   some_work c.args.v.now.parts (place_waits g.D.Pm.state c.args.v.now c.args.p c.requires.place c.requires.agrees c.requires.running
       c.requires.unraised),
-  place_lowers c.args.v.now.parts c.note_place.new.parts c.args.p c.in-Ok.word c.note_place.ensures,
+  place_lowers c.args.v.now.parts c.note_place.new.parts c.args.p c.in-Ok.word c.left_to_reclaim.result c.note_place.ensures
+      c.left_to_reclaim.ensures,
 )
 
 pub returns-in-Err-clause-agrees : goal.returns-in-Err-clause-agrees

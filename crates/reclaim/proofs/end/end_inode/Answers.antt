@@ -2,7 +2,9 @@ use Rattle.std.proofs.Common.{ℕ, ◌/◌, ◌*◌, ◌+◌, ◌≤◌, length,
 use Rattle.pm_layout.specs.Geometry.{IsAccepted}
 use Rattle.dn_volume.specs.Agrees.{is_stopped}
 use Rattle.dn_volume.proofs.Tables.{running_disk}
+use Rattle.std.specs.Prelude.{Contains}
 use Rattle.count_events.proofs.Ends.{err_is}
+use Rattle.count_events.proofs.EventsLeft.{left_falls}
 use Rattle.reclaim.proofs.NextPlace.{may_end}
 use Rattle.reclaim.proofs.EndedInode.{ends_since}
 use Rattle.reclaim.proofs.Zeroed.{stops_freed}
@@ -13,6 +15,7 @@ use Rattle.reclaim.proofs.WorkEnds.{
   moved_agrees,
   some_work,
   less_work,
+  gives_used,
   end_gives,
   end_ino,
   end_there,
@@ -61,6 +64,11 @@ set_word-requires-clause-inside g c =
     subst (λ (a : ℕ). a / 8 * 8 + 8 ≤ length (g.D.Pm.state c.args.v.now.device).now) (sym c.inode_word.ensures)
     (end_line g.D.Pm.state c.args.v.now c.args.ino c.requires.none c.requires.unraised c.requires.agrees c.requires.running)
 
+pub left_to_reclaim-requires : goal.left_to_reclaim-requires
+left_to_reclaim-requires g c =
+    left_falls g.D.Pm.state c.args.v.now c.requires.agrees c.requires.running c.note_end.new.parts
+    (omega (arith, c.note_end.ensures.ends.waiting)) c.note_end.ensures.ends.kept.cleaning
+
 pub returns-in-Ok-clause-agrees : goal.returns-in-Ok-clause-agrees
 returns-in-Ok-clause-agrees g c =
     let S = g.D.Pm.state in
@@ -77,7 +85,7 @@ returns-in-Ok-clause-agrees g c =
     (done_at _ _ 0 (S c.args.v.now.device) (S c.set_word.new.device) c.inode_word.ensures c.in-Ok.ensures.done) c.in-Ok.ensures.settles
     c.requires.units (ends_since c.args.ino c.args.v.now.parts c.give_back_log.new.free _ c.note_end.ensures.ends)
     (end_gives c.args.v.now.parts (S c.args.v.now.device) found.0 found.1 c.args.ino c.requires.none c.give_back_log.new.free _
-    c.give_back_log.ensures c.note_end.ensures.free))
+    c.give_back_log.ensures.gives c.note_end.ensures.free))
 
 pub returns-in-Ok-clause-event : goal.returns-in-Ok-clause-event
 returns-in-Ok-clause-event g c = λ d v.
@@ -93,11 +101,16 @@ returns-in-Ok-clause-event g c = λ d v.
           v
           (done_at _ _ 0 (S c.args.v.now.device) (S c.set_word.new.device) c.inode_word.ensures c.in-Ok.ensures.done) c.in-Ok.ensures.settles
           c.requires.units (ends_since c.args.ino c.args.v.now.parts c.give_back_log.new.free _ c.note_end.ensures.ends)
-          (end_gives c.args.v.now.parts (S c.args.v.now.device) d v c.args.ino c.requires.none c.give_back_log.new.free _ c.give_back_log.ensures
+          (end_gives c.args.v.now.parts (S c.args.v.now.device) d v c.args.ino c.requires.none c.give_back_log.new.free _ c.give_back_log.ensures.gives
           c.note_end.ensures.free),
       some_work c.args.v.now.parts (end_waits S c.args.v.now c.args.ino c.requires.none c.requires.unraised c.requires.agrees c.requires.running),
-      less_work c.args.v.now.parts c.note_end.new.parts (ends_since c.args.ino c.args.v.now.parts c.give_back_log.new.free c.note_end.new.parts
-          c.note_end.ensures.ends).kept (omega (arith, c.note_end.ensures.ends.waiting)),
+      less_work c.args.v.now.parts c.note_end.new.parts c.left_to_reclaim.result
+          (ends_since c.args.ino c.args.v.now.parts c.give_back_log.new.free c.note_end.new.parts c.note_end.ensures.ends).kept
+          (omega (arith, c.note_end.ensures.ends.waiting))
+          (gives_used (Contains (d.inode c.args.ino).log.pages) c.args.v.now.parts c.note_end.new.parts
+          (end_gives c.args.v.now.parts (S c.args.v.now.device) d v c.args.ino c.requires.none c.give_back_log.new.free _ c.give_back_log.ensures.gives
+          c.note_end.ensures.free) c.note_end.ensures.ends.kept.cleaning)
+          c.left_to_reclaim.ensures,
     )
 
 pub returns-in-Err-clause-agrees : goal.returns-in-Err-clause-agrees

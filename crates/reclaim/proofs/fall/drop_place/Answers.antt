@@ -2,6 +2,8 @@ use Rattle.std.proofs.Common.{ℕ, ◌/◌, ◌*◌, ◌+◌, ◌≤◌, length,
 use Rattle.dn_volume.specs.Agrees.{is_stopped}
 use Rattle.dn_volume.proofs.Tables.{running_disk}
 use Rattle.count_events.proofs.Ends.{err_is}
+use Rattle.count_events.proofs.EventsLeft.{left_falls}
+use Rattle.count_events.proofs.UsedPages.{used_same}
 use Rattle.reclaim.proofs.WorkEnds.{
   sets_at,
   done_at,
@@ -47,6 +49,11 @@ note_drop-requires-clause-units g c = drop_units g.D.Pm.state c.args.v.now c.in-
 pub note_drop-requires-clause-releases : goal.note_drop-requires-clause-releases
 note_drop-requires-clause-releases g c = drop_release g.D.Pm.state c.args.v.now c.in-Some.p c.in-Some.is c.requires.agrees c.requires.running
 
+pub left_to_reclaim-requires : goal.left_to_reclaim-requires
+left_to_reclaim-requires g c =
+    left_falls g.D.Pm.state c.args.v.now c.requires.agrees c.requires.running c.note_drop.new.parts
+    (omega (arith, c.note_drop.ensures.waiting)) c.note_drop.ensures.kept.cleaning
+
 pub returns-in-Ok-clause-agrees : goal.returns-in-Ok-clause-agrees
 returns-in-Ok-clause-agrees g c =
     let S = g.D.Pm.state in
@@ -77,7 +84,9 @@ returns-in-Ok-clause-event g c = λ d v.
           (done_at _ _ c.in-Some.p.place (S c.args.v.now.device) (S c.set_word.new.device) c.inode_word-word.ensures c.in-Ok.ensures.done)
           c.in-Ok.ensures.settles c.note_drop.ensures,
       some_work c.args.v.now.parts (drop_waits S c.args.v.now c.in-Some.p c.in-Some.is c.requires.agrees c.requires.running),
-      less_work c.args.v.now.parts c.note_drop.new.parts c.note_drop.ensures.kept (omega (arith, c.note_drop.ensures.waiting)),
+      less_work c.args.v.now.parts c.note_drop.new.parts c.left_to_reclaim.result c.note_drop.ensures.kept
+          (omega (arith, c.note_drop.ensures.waiting))
+          (used_same c.args.v.now.parts c.note_drop.new.parts c.note_drop.ensures.free c.note_drop.ensures.kept.cleaning) c.left_to_reclaim.ensures,
     )
 
 pub returns-in-Err-clause-agrees : goal.returns-in-Err-clause-agrees

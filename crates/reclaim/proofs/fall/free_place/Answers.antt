@@ -1,13 +1,15 @@
-use Rattle.std.proofs.Common.{ℕ, ◌/◌, ◌*◌, ◌+◌, ◌≤◌, length, sym, subst, arith}
+use Rattle.std.proofs.Common.{◌≡◌, ℕ, ◌/◌, ◌*◌, ◌+◌, ◌≤◌, length, sym, subst, arith}
 use Rattle.dn_volume.specs.Agrees.{is_stopped}
 use Rattle.dn_volume.proofs.Tables.{running_disk}
 use Rattle.count_events.proofs.Ends.{err_is}
+use Rattle.count_events.proofs.EventsLeft.{left_falls}
 use Rattle.reclaim.proofs.WorkEnds.{
   sets_at,
   done_at,
   moved_agrees,
   some_work,
   less_work,
+  gives_used,
   free_ino,
   free_there,
   free_line,
@@ -45,6 +47,11 @@ set_word-requires-clause-inside g c =
     (free_line g.D.Pm.state c.args.v.now c.args.ino c.args.place c.args.page c.requires.place c.requires.no_row c.requires.unraised
     c.requires.agrees c.requires.running)
 
+pub left_to_reclaim-requires : goal.left_to_reclaim-requires
+left_to_reclaim-requires g c =
+    left_falls g.D.Pm.state c.args.v.now c.requires.agrees c.requires.running c.note_freed.new.parts
+    (omega (arith, c.note_freed.ensures.waiting)) c.note_freed.ensures.kept.cleaning
+
 pub returns-in-Ok-clause-agrees : goal.returns-in-Ok-clause-agrees
 returns-in-Ok-clause-agrees g c =
     let S = g.D.Pm.state in
@@ -77,7 +84,10 @@ returns-in-Ok-clause-event g c = λ d v.
           c.in-Ok.ensures.settles c.requires.units c.note_freed.ensures,
       some_work c.args.v.now.parts (let four = free_waits S c.args.v.now c.args.ino c.args.place c.args.page c.requires.place c.requires.no_row
           c.requires.unraised c.requires.agrees c.requires.running in omega (arith, four)),
-      less_work c.args.v.now.parts c.note_freed.new.parts c.note_freed.ensures.kept (omega (arith, c.note_freed.ensures.waiting)),
+      less_work c.args.v.now.parts c.note_freed.new.parts c.left_to_reclaim.result c.note_freed.ensures.kept
+          (omega (arith, c.note_freed.ensures.waiting))
+          (gives_used (λ p. p ≡ c.args.page) c.args.v.now.parts c.note_freed.new.parts c.note_freed.ensures.free c.note_freed.ensures.kept.cleaning)
+          c.left_to_reclaim.ensures,
     )
 
 pub returns-in-Err-clause-agrees : goal.returns-in-Err-clause-agrees

@@ -16,6 +16,7 @@ returns c = record {
     owed_trace = refl;
     owed_history = refl;
     owed_queue = refl;
+    cleaning = refl;
     made = grind (arith, c.saturating_add-parts.ensures);
   };
   free = gives_one c.args.page c.args.parts.now.free c.give_back.new.self c.give_back.ensures.gives_back c.give_back.ensures.in_order;

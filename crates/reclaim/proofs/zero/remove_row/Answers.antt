@@ -4,9 +4,10 @@ use Rattle.dn_volume.specs.Agrees.{is_stopped}
 use Rattle.dn_volume.proofs.Tables.{running_disk}
 use Rattle.reclaim.specs.Worked.{Gives}
 use Rattle.count_events.proofs.Ends.{err_is}
+use Rattle.count_events.proofs.EventsLeft.{left_falls}
 use Rattle.reclaim.proofs.SpaceGained.{gives_one}
 use Rattle.reclaim.proofs.Zeroed.{checks_since, stops_since}
-use Rattle.reclaim.proofs.WorkEnds.{moved_agrees, some_work, less_work}
+use Rattle.reclaim.proofs.WorkEnds.{moved_agrees, some_work, less_work, gives_used}
 use Rattle.reclaim.proofs.ZeroEnds.{zero_waits, zero_units, zero_spare, zero_here, zero_below, zero_taken, gone_moves, gone_breaks}
 use Rattle.reclaim.proofs.zero.remove_row.Goals as goal
 
@@ -33,6 +34,11 @@ note_checked-requires-clause-waiting g c = zero_waits g.D.Pm.state c.args.v.now 
 
 pub note_checked-requires-clause-units : goal.note_checked-requires-clause-units
 note_checked-requires-clause-units g c = zero_units g.D.Pm.state c.args.v.now c.args.slot c.requires.pending c.requires.agrees c.requires.running
+
+pub left_to_reclaim-requires : goal.left_to_reclaim-requires
+left_to_reclaim-requires g c =
+    left_falls g.D.Pm.state c.args.v.now c.requires.agrees c.requires.running c.note_checked.new.parts
+    (omega (arith, c.note_checked.ensures.checks.waiting)) c.note_checked.ensures.checks.kept.cleaning
 
 pub returns-in-Ok-clause-agrees : goal.returns-in-Ok-clause-agrees
 returns-in-Ok-clause-agrees g c =
@@ -64,9 +70,14 @@ returns-in-Ok-clause-event g c = λ d v.
           (gives_one c.args.page c.args.v.now.parts.free c.give_back.new.self c.give_back.ensures.gives_back c.give_back.ensures.in_order))
           c.remove_zero.ensures.spare c.in-Ok.ensures.settles,
       some_work c.args.v.now.parts (zero_waits S c.args.v.now c.args.slot c.requires.pending c.requires.agrees c.requires.running),
-      less_work c.args.v.now.parts c.note_checked.new.parts (checks_since c.args.v.now.parts c.remove_zero.new.fact c.give_back.new.self
-          c.note_checked.new.parts c.note_checked.ensures.checks).kept
-          (omega (arith, c.note_checked.ensures.checks.waiting)),
+      less_work c.args.v.now.parts c.note_checked.new.parts c.left_to_reclaim.result
+          (checks_since c.args.v.now.parts c.remove_zero.new.fact c.give_back.new.self c.note_checked.new.parts c.note_checked.ensures.checks).kept
+          (omega (arith, c.note_checked.ensures.checks.waiting))
+          (gives_used (λ p. p ≡ c.args.page) c.args.v.now.parts c.note_checked.new.parts
+          (subst (Gives (λ p. p ≡ c.args.page) c.args.v.now.parts.free) (sym c.note_checked.ensures.free)
+          (gives_one c.args.page c.args.v.now.parts.free c.give_back.new.self c.give_back.ensures.gives_back c.give_back.ensures.in_order))
+          c.note_checked.ensures.checks.kept.cleaning)
+          c.left_to_reclaim.ensures,
     )
 
 pub returns-in-Err-clause-agrees : goal.returns-in-Err-clause-agrees

@@ -6,9 +6,24 @@ use Rattle.begin_steps.proofs.Answered.{has_all_last}
 use Rattle.data_begins.specs.Asked.{IsAsked}
 use Rattle.data_begins.specs.Ready.{IsReady}
 use Rattle.data_begins.specs.declared.asks.DataAsk.{DataAsk}
-use Rattle.size_ops.proofs.Flown.{ask, is_ask, sound, flown, takes_first, long, slots_long, fresh_few, runs_few}
+use Rattle.size_ops.proofs.Flown.{ask, is_ask, sound, from_few, flown, takes_first, long, slots_long, fresh_few, runs_few}
 use Rattle.size_ops.proofs.Readied.{untouched_ready, few, fits_room, held_inside, has_begun}
 use Rattle.size_ops.proofs.begin.open_cut.Goals as goal
+
+pub ask_of-ask-requires-clause-few : goal.ask_of-ask-requires-clause-few
+ask_of-ask-requires-clause-few g c =
+    let found = running_disk g.D.Pm.state c.args.v.now c.requires.running c.requires.agrees in
+    let ok = sound found.0 c.args.op c.args.cut.now.ino c.args.cut.now (c.requires.plan found.0 found.1) in omega (arith, ok.few, ok.few_more)
+
+pub ask_of-ask-requires-clause-from : goal.ask_of-ask-requires-clause-from
+ask_of-ask-requires-clause-from g c =
+    let found = running_disk g.D.Pm.state c.args.v.now c.requires.running c.requires.agrees in
+    from_few found.0 c.args.op c.args.cut.now.ino c.args.cut.now (c.requires.plan found.0 found.1)
+
+pub overflow_add-cut : goal.overflow_add-cut
+overflow_add-cut g c =
+    let found = running_disk g.D.Pm.state c.args.v.now c.requires.running c.requires.agrees in
+    let ok = sound found.0 c.args.op c.args.cut.now.ino c.args.cut.now (c.requires.plan found.0 found.1) in omega (arith, ok.few)
 
 pub make_ready-requires-clause-asks : goal.make_ready-requires-clause-asks
 make_ready-requires-clause-asks g c = λ d v.

@@ -1,7 +1,19 @@
-use Rattle.std.proofs.Common.{sym, subst}
+use Rattle.std.proofs.Common.{◌+◌, sym, subst, arith}
 use Rattle.data_begins.specs.Asked.{IsAsked, IsAsk}
-use Rattle.size_ops.proofs.Flown.{is_ask, own_plan}
+use Rattle.dn_volume.proofs.Tables.{running_disk}
+use Rattle.size_ops.proofs.Flown.{is_ask, sound, from_few, own_plan}
 use Rattle.size_ops.proofs.begin.try_cut.Goals as goal
+
+pub ask_of-ask-requires-clause-few : goal.ask_of-ask-requires-clause-few
+ask_of-ask-requires-clause-few g c =
+    let found = running_disk g.D.Pm.state c.args.v.now c.requires.running c.requires.agrees in
+    let ok = sound found.0 c.args.op c.args.ino c.plan_cut-cut.result (c.plan_cut-cut.ensures found.0 found.1) in
+    omega (arith, ok.few, ok.few_more)
+
+pub ask_of-ask-requires-clause-from : goal.ask_of-ask-requires-clause-from
+ask_of-ask-requires-clause-from g c =
+    let found = running_disk g.D.Pm.state c.args.v.now c.requires.running c.requires.agrees in
+    from_few found.0 c.args.op c.args.ino c.plan_cut-cut.result (c.plan_cut-cut.ensures found.0 found.1)
 
 pub in_the_way-requires-clause-asks : goal.in_the_way-requires-clause-asks
 in_the_way-requires-clause-asks g c = λ d v.

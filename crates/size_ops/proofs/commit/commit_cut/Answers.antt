@@ -170,7 +170,7 @@ returns-in_default-append_items-clause-agrees g c =
     is_stopped (breaks_by S g.F.Fingerprint.print c.args.v.now (record { device = c.append_items.new.device; print = c.args.v.now.print; kept = c.args.v.now.kept; parts = _ })
     found.0 who f x found.1 last.flies last.kind (fact found.0 b s who f x found.1 last) (cut_after found.0 b s who f x found.1 last)
     (from found.0 b s who f x found.1 last) (4096 - from found.0 b s who f x found.1 last) (decides found.0 b s who f x found.1 last)
-    between there c.append_items.ensures.faults f.op refl refl refl refl refl refl c.count_call-v.ensures
+    between there c.append_items.ensures.faults f.op refl refl refl refl refl refl refl c.count_call-v.ensures
     (c.in_default-append_items.ensures.failed refl) c.put_back.ensures.here
     (λ k ne. c.put_back.ensures.others k ne ∙ c.end_flight-flight.ensures.others k ne)).stopped
 
@@ -195,7 +195,7 @@ returns-in_default-append_items-clause-event g c =
     breaks_by S g.F.Fingerprint.print c.args.v.now (record { device = c.append_items.new.device; print = c.args.v.now.print; kept = c.args.v.now.kept; parts = _ })
     d who f x v last.flies last.kind (fact d b s who f x v last) (cut_after d b s who f x v last) (from d b s who f x v last)
     (4096 - from d b s who f x v last) (decides d b s who f x v last)
-    between there c.append_items.ensures.faults op op_same refl refl refl refl refl c.count_call-v.ensures
+    between there c.append_items.ensures.faults op op_same refl refl refl refl refl refl c.count_call-v.ensures
     (c.in_default-append_items.ensures.failed refl) c.put_back.ensures.here
     (λ k ne. c.put_back.ensures.others k ne ∙ c.end_flight-flight.ensures.others k ne)
 
@@ -270,7 +270,7 @@ returns-clause-agrees g c =
       history = refl;
     })
     (ends_at b _ who f found.1.flights.clients c.end_flight-flight.ensures.clients c.end_flight-flight.ensures.was
-    c.end_flight-flight.ensures.landed c.end_flight-flight.ensures.others refl) gives _ finish (inode_is found.0 b s who f x found.1 last _ _ c.load-tail.result tail_is refl finish.inodes))
+    c.end_flight-flight.ensures.landed c.end_flight-flight.ensures.others refl refl) gives _ finish (inode_is found.0 b s who f x found.1 last _ _ c.load-tail.result tail_is refl finish.inodes))
 
 pub returns-clause-event : goal.returns-clause-event
 returns-clause-event g c =
@@ -318,7 +318,7 @@ returns-clause-event g c =
             history = refl;
           })
           (ends_at b _ who f v.flights.clients c.end_flight-flight.ensures.clients c.end_flight-flight.ensures.was
-          c.end_flight-flight.ensures.landed c.end_flight-flight.ensures.others refl) gives _ finish (inode_is d b s who f x v last _ _ c.load-tail.result tail_is refl finish.inodes) op op_same
+          c.end_flight-flight.ensures.landed c.end_flight-flight.ensures.others refl refl) gives _ finish (inode_is d b s who f x v last _ _ c.load-tail.result tail_is refl finish.inodes) op op_same
           (same_count b.made c.count_call-v.result c.finish_cut.new.parts.made finish.made c.count_call-v.ensures),
       refl,
     )

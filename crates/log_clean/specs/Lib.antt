@@ -1,0 +1,5 @@
+pub mod Planning
+pub mod Beginning
+pub mod Writing
+pub mod Finishing
+pub mod Swapping
