@@ -5,6 +5,8 @@
 #[cfg(test)]
 mod asks;
 #[cfg(test)]
+mod cleaning;
+#[cfg(test)]
 mod contents;
 #[cfg(test)]
 mod courses;

@@ -5,7 +5,7 @@ ghost use Rattle.pm_device.specs.Past.{moment as moment_of};
 use crate::calls::{check_new, ended, words_left, zeros};
 use fingerprint::Sha1Print;
 use pm_device::{MemPm, Pm};
-use std::alloc::AllocError;
+use std::alloc::{AllocError, Global};
 use std::process::Abort;
 use std::test::Fail;
 
@@ -94,6 +94,72 @@ fn a_failed_fence_leaves_a_write_or_not(rt: HostRuntime) -> Result<(), Fail> {
         check_moments(&rt, &device)?;
     }
     Ok(())
+}
+
+// Three clients, the daemon and reclaim in turns.
+const REPLAY: &str = "client 1
+create g
+write g 0 61
+client 2
+write f 0 62
+remove f
+client 3
+write h 4095 6364
+cut h 1
+turns 1 2 3 15 16 1 2 3 16 15 1 2 3 1 2 3 15 15 15 16 16
+";
+
+// An image with two files that share a page.
+fn two_files(rt: &(impl Abort + AllocGlobal)) -> Result<Vec<u64>, AllocError> {
+    let job = "create f\nfill f 0 4096 41\ncreate h\nfill h 0 4096 41\n";
+    let text = "1 1 done\n1 2 done\n1 3 done\n1 4 done\nend 4 54\n";
+    check_new(rt, &[("apply", job, 0, text)])
+}
+
+// How the replay ends on this image where the fence of this number fails, or none.
+fn replayed(alloc: Global, image: &[u64], fence: u64) -> Result<(u8, Vec<u8>, MemPm), AllocError> {
+    let image = Vec::from_slice(alloc, image)?;
+    let job = Vec::from_slice(alloc, REPLAY.as_bytes())?;
+    ended(alloc, Sha1Print, image, "replay", job, (0, 0, fence))
+}
+
+// The text has the first lines of the whole one, and then that the run was stopped.
+fn is_cut_short(whole: &[u8], text: &[u8]) -> bool {
+    match text.strip_suffix(b"stopped\n".as_slice()) {
+        Some(lines) => whole.starts_with(lines),
+        None => false,
+    }
+}
+
+// The image that is left is mounted, and its files are told.
+fn check_mounted(
+    rt: &(impl Abort + AllocGlobal),
+    device: &MemPm,
+    fence: u64,
+) -> Result<(), AllocError> {
+    let image = words_left(rt.alloc(), device)?;
+    let none = Vec::new(rt.alloc());
+    let (status, _, _) = ended(rt.alloc(), Sha1Print, image, "apply", none, (0, 0, 0))?;
+    assert_eq!(rt; status, 0, "fence {fence}");
+    Ok(())
+}
+
+#[test]
+fn each_fence_of_three_clients_fails(rt: HostRuntime) -> Result<(), Fail> {
+    let image = two_files(&rt)?;
+    let (status, whole, _) = replayed(rt.alloc(), &image, 0)?;
+    assert_eq!(rt; status, 0);
+    for fence in 1..200 {
+        let (status, text, device) = replayed(rt.alloc(), &image, fence)?;
+        if status == 0 {
+            assert!(rt; fence > 20, "{fence} fences");
+            return Ok(());
+        }
+        assert_eq!(rt; status, 4, "fence {fence}");
+        assert!(rt; is_cut_short(&whole, &text), "fence {fence}");
+        check_mounted(&rt, &device, fence)?;
+    }
+    Err(Fail::from("too many fences"))
 }
 
 #[test]

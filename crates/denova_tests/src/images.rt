@@ -1,5 +1,5 @@
 // Images with a fault are told so, by commands that read them and by those that would run on them.
-use crate::calls::{check_call, check_new, ended, words_left};
+use crate::calls::{check_call, check_new, ended};
 use fingerprint::Sha1Print;
 use std::alloc::{AllocError, Global};
 use std::process::Abort;
@@ -61,22 +61,69 @@ fn faults_are_told(rt: HostRuntime) -> Result<(), Fail> {
     Ok(())
 }
 
-// A job that writes a byte of a file so often.
-fn writing(alloc: Global, times: usize) -> Result<Vec<u8>, AllocError> {
-    let mut job = Vec::from_slice(alloc, b"create f\n")?;
-    for _ in 0..times {
-        job.extend_from_slice(b"write f 0 61\n")?;
+// A check and a mount of an image with another word answer the same fault, or none.
+fn agree(
+    rt: &(impl Abort + AllocGlobal),
+    image: &[u64],
+    at: usize,
+    value: u64,
+) -> Result<(), AllocError> {
+    let mut told = Vec::new(rt.alloc());
+    for line in ["check", "apply"] {
+        let image = changed(rt.alloc(), image, &[(at, value)])?;
+        let none = Vec::new(rt.alloc());
+        let (status, text, _) = ended(rt.alloc(), Sha1Print, image, line, none, (0, 0, 0))?;
+        told.push((status, text))?;
     }
-    Ok(job)
+    let [(checked, fault), (mounted, refused)] = told.as_slice() else {
+        return Err(AllocError);
+    };
+    assert_eq!(rt; checked, mounted, "word {at}, {value}");
+    if *checked != 0 {
+        assert_eq!(rt; fault.as_slice(), refused.as_slice(), "word {at}, {value}");
+    }
+    Ok(())
 }
 
 #[test]
+fn checks_and_mounts_find_the_same_fault(rt: HostRuntime) -> Result<(), Fail> {
+    let shared = "create a\nfill a 0 4096 41\ncreate b\nfill b 0 4096 41\n";
+    let answers = "1 1 done\n1 2 done\n1 3 done\n1 4 done\nend 4 54\n";
+    let image = check_new(&rt, &[("apply", shared, 0, answers)])?;
+    for (at, word) in image.iter().enumerate() {
+        if *word != 0 {
+            for value in [0, word.wrapping_add(1), u64::MAX] {
+                agree(&rt, &image, at, value)?;
+            }
+        }
+    }
+    Ok(())
+}
+
+// Jobs that write places of equal bytes, which come to share a page: each place has an item of its own then, so that the
+// log keeps two pages.
+const FIRST_PLACES: &str = "create f
+fill f 0 65536 41
+fill f 65536 65536 41
+fill f 131072 32768 41
+";
+
+const NEXT_PLACES: &str = "fill f 163840 65536 41
+fill f 229376 65536 41
+fill f 294912 32768 41
+";
+
+#[test]
 fn a_log_that_leads_to_itself_is_told(rt: HostRuntime) -> Result<(), Fail> {
-    let made = check_new(&rt, &[])?;
-    let job = writing(rt.alloc(), 64)?;
-    let (status, _, device) = ended(rt.alloc(), Sha1Print, made, "apply", job, (0, 0, 0))?;
-    assert_eq!(rt; status, 0);
-    let image = words_left(rt.alloc(), &device)?;
+    let first = "1 1 done\n1 2 done\n1 3 done\n1 4 done\nend 4 55\n";
+    let next = "1 1 done\n1 2 done\n1 3 done\nend 3 54\n";
+    let image = check_new(
+        &rt,
+        &[
+            ("apply", FIRST_PLACES, 0, first),
+            ("apply", NEXT_PLACES, 0, next),
+        ],
+    )?;
     assert_eq!(rt; image.get(1041), Some(&7));
     check_fault(&rt, &image, &[(4088, 7)], "refused bad-log 1 63\n")?;
     Ok(())

@@ -1,5 +1,5 @@
 // Jobs of one client and of several are run.
-use crate::calls::{check_new, ended, zeros};
+use crate::calls::{check_new, ended, words_left, zeros};
 use fingerprint::Sha1Print;
 use std::alloc::{AllocError, Global};
 use std::process::Abort;
@@ -74,6 +74,60 @@ fn a_job_without_operations_stores_nothing(rt: HostRuntime) -> Result<(), Fail> 
     let (status, _, device) = ended(rt.alloc(), Sha1Print, made, "apply", job, (0, 0, 0))?;
     assert_eq!(rt; status, 0);
     assert_eq!(rt; device.moment(), 0);
+    Ok(())
+}
+
+// A job that makes a file and removes it so often.
+fn coming_and_going(alloc: Global, times: usize) -> Result<Vec<u8>, AllocError> {
+    let mut job = Vec::new(alloc);
+    for _ in 0..times {
+        job.extend_from_slice(b"create x\nremove x\n")?;
+    }
+    Ok(job)
+}
+
+// A job that fills the first page of a file so often.
+fn filling(alloc: Global, times: usize) -> Result<Vec<u8>, AllocError> {
+    let mut job = Vec::from_slice(alloc, b"create f\n")?;
+    for _ in 0..times {
+        job.extend_from_slice(b"fill f 0 4096 41\n")?;
+    }
+    Ok(job)
+}
+
+// The words of inodes 0 and 1 that tell the head and the tail of their logs.
+const ROOT_TAIL: usize = 1026;
+
+const FILE_HEAD: usize = 1041;
+
+const FILE_TAIL: usize = 1042;
+
+// The words that a job leaves of a new image, where its text ends so.
+fn words_after(
+    rt: &(impl Abort + AllocGlobal),
+    job: Vec<u8>,
+    end: &str,
+) -> Result<Vec<u64>, AllocError> {
+    let made = check_new(rt, &[])?;
+    let (status, text, device) = ended(rt.alloc(), Sha1Print, made, "apply", job, (0, 0, 0))?;
+    assert_eq!(rt; status, 0);
+    assert!(rt; text.ends_with(end.as_bytes()), "{end:?}");
+    words_left(rt.alloc(), &device)
+}
+
+// A root without names has no log, and a file that was filled again and again has a log of one page.
+#[test]
+fn logs_are_cleaned(rt: HostRuntime) -> Result<(), Fail> {
+    let job = coming_and_going(rt.alloc(), 100)?;
+    let words = words_after(&rt, job, "200 done\nend 200 58\n")?;
+    assert_eq!(rt; words.get(ROOT_TAIL), Some(&0));
+    let job = filling(rt.alloc(), 64)?;
+    let words = words_after(&rt, job, "65 done\nend 65 55\n")?;
+    let (Some(head), Some(tail)) = (words.get(FILE_HEAD), words.get(FILE_TAIL)) else {
+        return Err(Fail::from("no inode"));
+    };
+    assert!(rt; *tail != 0);
+    assert_eq!(rt; *head, *tail / 64);
     Ok(())
 }
 
